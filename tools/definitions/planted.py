@@ -11,7 +11,7 @@ The list is planted.list. What is asked, the cheapest first, until something tel
 - of a definition of the grammar: the rows of `yaml_vectors` and `rows_streams`, the cases of yaml-test-suite (PLACE: see
   `tools/conformance suite --help`) and the short readings that are stored, as the wrong definitions read them (planted_texts.py);
 - `rt check` of yaml_definitions, over what an earlier check kept: an example that is computed or derived, or a law;
-- `rt check` of the law crates that stand on yaml_definitions alone or nearly so (`law_length`, `law_read_back`, `yaml_content`).
+- `rt check` of the law crates that stand on yaml_definitions alone or nearly so (`law_length`, `law_read_back`, `yaml_core`).
 
 A line for each: the definition, right ⇒ wrong, and what told it. Before that all are put into copies without proofs, as many
 into one as are of different definitions: one with which the definitions themselves no longer check is no wrong definition, and
@@ -36,7 +36,7 @@ from lib.antt import File
 from lib.crates import write_list
 
 SPECS = TOP + "/crates/yaml_definitions/specs"
-LAWS = {"law_length": [], "law_read_back": ["yaml_text"], "yaml_content": ["yaml_text"]}
+LAWS = {"law_length": [], "law_read_back": ["yaml_text"], "yaml_core": ["yaml_text"]}
 FOUND = HERE + "/planted.found"  # what told each, for docs/proof/DEFINITIONS.md
 UNSHADOWED = ("Rules",)  # which shadow.py has by hand
 

@@ -5,7 +5,7 @@ use Rattle.yaml_text.specs.Fault.{fault_number, fault_name}
 use Rattle.yaml_text.specs.declared.fault.Fault.{Fault}
 use Rattle.yaml_text.specs.declared.fault.Fault.TheVariants.{TooLong, NotUtf8, NotPrintable, Syntax, Tab, KeyTooLong, TooDeep, BadEscape, BadDirective, UnknownHandle, BadTag, UndefinedAlias, CyclicAlias, WrongKind, BadContent, IntRange, FloatRange, TooHigh, EqualKeys, TextTooLong, OutOfMemory, ReadFault, WriteFault}
 use Rattle.yaml_message.specs.Words.{place_words, fault_message}
-use Rattle.yaml_report.specs.Refusals.{place_end, fault_line}
+use Rattle.yaml_command.specs.Refusals.{place_end, fault_line}
 
 -- what stands behind the name
 ends : (fault : Fault) → place_end fault ≡ place_words fault ++ codes "\n"

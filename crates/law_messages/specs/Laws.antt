@@ -2,7 +2,7 @@
 use Rattle.std.specs.Prelude.{◌≡◌, ◌++◌, ℕ, List, codes}
 use Rattle.yaml_text.specs.declared.fault.Fault.{Fault}
 use Rattle.yaml_message.specs.Words.{fault_message}
-use Rattle.yaml_report.specs.Refusals.{fault_line}
+use Rattle.yaml_command.specs.Refusals.{fault_line}
 
 -- The line of a fault is its message, between what the line begins with and the line feed.
 abbrev pub MessagesAreLines : Type 0

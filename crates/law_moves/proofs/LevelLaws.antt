@@ -3,7 +3,7 @@ use Rattle.std.proofs.Common.{◌≡◌, ◌≢◌, ℕ, true, ◌⊎◌, List, 
 use Rattle.std.specs.Prelude.{Option, Some, None, Bool}
 use Rattle.std.specs.List.{slice_get}
 use Rattle.yaml_definitions.specs.model.Tree.{Tree}
-use Rattle.yaml_nodes.specs.declared.graph.Graph.{Graph}
+use Rattle.yaml_graph.specs.declared.graph.Graph.{Graph}
 use Rattle.yaml_path.specs.Path.{head, head_of}
 use Rattle.yaml_path.specs.Ways.{at_places, Way, Pairing, Takes, Reaches, below, Allows, Differs, left_place, right_place, left_part, right_part, left_end, right_end}
 use Rattle.yaml_path.specs.declared.places.Places.{Places}

@@ -2,7 +2,7 @@
 use Rattle.std.specs.Prelude.{◌≡◌, ◌⊎◌, ℕ, Bool, true, List, [], ◌∷◌, ◌++◌, length, Option, Some, None}
 use Rattle.std.specs.List.{slice_get}
 use Rattle.yaml_definitions.specs.model.Tree.{Tree}
-use Rattle.yaml_nodes.specs.declared.graph.Graph.{Graph}
+use Rattle.yaml_graph.specs.declared.graph.Graph.{Graph}
 use Rattle.yaml_path.specs.Ways.{Way, Pairing, Each, Settles, Reaches, Allows, at_places, left_place, right_place}
 use Rattle.yaml_path.specs.declared.places.Places.{Places}
 use Rattle.yaml_path.specs.declared.places.Places.TheVariants.{Both}

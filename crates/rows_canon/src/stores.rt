@@ -1,9 +1,9 @@
 //! Streams of which the store has the documents, or tells why not, where properties stand on lines above a collection.
 use std::alloc::Global;
 use std::test::Fail;
-use yaml_compose::Composing;
 use yaml_read::read_into;
 use yaml_sink::sink::Sink;
+use yaml_store_composer::Composing;
 use yaml_text::chars::Chars;
 use yaml_text::fault::Fault;
 

@@ -1,10 +1,10 @@
 //! How many nodes are visited as the nodes of a stream's store are ranked.
 use std::alloc::Global;
 use std::test::Fail;
-use yaml_compact::compact_rank;
-use yaml_compose::Composing;
 use yaml_read::read_into;
 use yaml_sink::sink::Sink;
+use yaml_store_composer::Composing;
+use yaml_store_rank::compact_rank;
 use yaml_text::chars::Chars;
 use yaml_text::fault::Fault;
 

@@ -1,5 +1,5 @@
 //! Ranks as text.
-ghost use Rattle.yaml_levels.specs.RanksView.{RanksAre};
+ghost use Rattle.yaml_rank.specs.RanksView.{RanksAre};
 
 use std::alloc::{AllocError, Global};
 use std::fmt::Write;

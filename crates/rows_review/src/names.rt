@@ -1,11 +1,11 @@
 //! Words that are not UTF-8, and a canonical text that would be too long.
 use crate::runs::{ALL, Given, Ran, run};
+use review_command::arguments::words_of;
 use std::alloc::Global;
 use std::env::FillError;
 use std::process::Abort;
 use std::rt::Env;
 use std::test::Fail;
-use yaml_review_command::arguments::words_of;
 
 /// The words of a program, its own name first.
 #[derive(Drop)]

@@ -1,11 +1,11 @@
 //! Runs of words over files in memory.
+use review_command::command::command_over;
 use std::alloc::Global;
 use std::io;
 use std::io::Write;
 use std::process::Abort;
 use std::test::Fail;
 use yaml_command::shelf::Shelf;
-use yaml_review_command::command::command_over;
 
 /// Files that are there in each run, by name.
 static FILES: [(&str, &[u8]); 10] = [

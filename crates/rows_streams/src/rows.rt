@@ -4,7 +4,7 @@ use std::alloc::Global;
 use std::process::Abort;
 use std::test::Fail;
 use yaml_canon::canonical;
-use yaml_event_lines::event_lines;
+use yaml_event_text::event_lines;
 use yaml_events::{read_event_text, write_events};
 use yaml_read::read_events;
 use yaml_text::chars::Chars;

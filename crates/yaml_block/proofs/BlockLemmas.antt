@@ -11,14 +11,14 @@ use Rattle.yaml_definitions.specs.grammar.Nodes as nodes
 use Rattle.yaml_definitions.specs.grammar.Nodes.{yaml_part, json_part, block_part, compact_part, reads, c-l-block-seq-entry as seq_entry, ns-l-block-map-entry as map_entry, s-l+block-indented as indented, s-l+block-node as block_node}
 use Rattle.yaml_text.proofs.Repeats.{any_push}
 use Rattle.yaml_text.proofs.LineRuns.{indent_run, indent_place}
-use Rattle.yaml_line.specs.Keys.{ColonAfter}
-use Rattle.yaml_line.specs.Lines.{IsBlock}
-use Rattle.yaml_line.specs.NodeRules.{part_of, flow_from, opens, below}
-use Rattle.yaml_line.specs.declared.flow.Kind.{Kind}
-use Rattle.yaml_line.specs.declared.flow.Kind.TheVariants.{Yaml, Json}
-use Rattle.yaml_line.proofs.SpaceLemmas.{in_text, maybe_sep, lines_separate, sep_separate, flow_separate, block_separate}
-use Rattle.yaml_line.proofs.NodeLemmas.{to_reads, from_reads}
-use Rattle.yaml_line.proofs.KeyLaws.{block_key_too}
+use Rattle.yaml_layout.specs.Keys.{ColonAfter}
+use Rattle.yaml_layout.specs.Lines.{IsBlock}
+use Rattle.yaml_layout.specs.NodeRules.{part_of, flow_from, opens, below}
+use Rattle.yaml_layout.specs.declared.flow.Kind.{Kind}
+use Rattle.yaml_layout.specs.declared.flow.Kind.TheVariants.{Yaml, Json}
+use Rattle.yaml_layout.proofs.SpaceLemmas.{in_text, maybe_sep, lines_separate, sep_separate, flow_separate, block_separate}
+use Rattle.yaml_layout.proofs.NodeLemmas.{to_reads, from_reads}
+use Rattle.yaml_layout.proofs.KeyLaws.{block_key_too}
 use Rattle.yaml_block.specs.BlockRules.{least_dash, node_rest, line_rest, value_rest, entry_rest, sequence_with, mapping_with, seq_body, key_rest, entries_rest}
 
 -- ---- lists of parts

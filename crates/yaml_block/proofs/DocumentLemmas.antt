@@ -7,8 +7,8 @@ use Rattle.yaml_definitions.specs.grammar.Events.{no_props, e-scalar as empty}
 use Rattle.yaml_definitions.specs.grammar.Tags.{Handles}
 use Rattle.yaml_definitions.specs.grammar.Nodes.{block_part, reads}
 use Rattle.yaml_definitions.specs.grammar.Streams.{l-bare-document as bare_document}
-use Rattle.yaml_line.proofs.LineLemmas.{no_lines}
-use Rattle.yaml_line.proofs.SpaceLemmas.{lines_separate}
+use Rattle.yaml_layout.proofs.LineLemmas.{no_lines}
+use Rattle.yaml_layout.proofs.SpaceLemmas.{lines_separate}
 use Rattle.yaml_block.specs.BlockRules.{root_rest, value_rest}
 use Rattle.yaml_block.proofs.BlockLemmas.{node_value, mapping_value, sequence_value}
 use Rattle.yaml_block.proofs.MarkLaws.{unmarked}

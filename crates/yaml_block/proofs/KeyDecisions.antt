@@ -22,14 +22,14 @@ use Rattle.law_going_on.proofs.KeyOrScalar.{key_goes, no_colon, no_node}
 use Rattle.law_going_on.proofs.KeyChoices.{keys_refused}
 use Rattle.law_going_on.proofs.BlockProperties.{no_key_over}
 use Rattle.law_going_on.proofs.PropertyLines.{no_flow_barred}
-use Rattle.yaml_line.specs.PropertyDecisions.{Barred, IsOnly, IsRefused}
+use Rattle.yaml_layout.specs.PropertyDecisions.{Barred, IsOnly, IsRefused}
 use Rattle.yaml_sink.specs.Held.{Counts, Puts, Alters}
-use Rattle.yaml_line.specs.Keys.{ColonAfter}
+use Rattle.yaml_layout.specs.Keys.{ColonAfter}
 use Rattle.yaml_sink.specs.PropertyRules.{SomeProperties}
-use Rattle.yaml_line.specs.declared.flow.Kind.{Kind}
-use Rattle.yaml_line.specs.declared.flow.Kind.TheVariants.{Yaml, Json}
-use Rattle.yaml_line.proofs.PropertyDecisions.{barred_line}
-use Rattle.yaml_line.proofs.PropertyLemmas.{marks_props}
+use Rattle.yaml_layout.specs.declared.flow.Kind.{Kind}
+use Rattle.yaml_layout.specs.declared.flow.Kind.TheVariants.{Yaml, Json}
+use Rattle.yaml_layout.proofs.PropertyDecisions.{barred_line}
+use Rattle.yaml_layout.proofs.PropertyLemmas.{marks_props}
 use Rattle.yaml_block.specs.BlockEnds.{AfterColon, IsNoKey}
 use Rattle.yaml_block.specs.BlockRules.{key_rest}
 use Rattle.yaml_block.specs.KeyFits.{NoneBelow, Becomes}

@@ -25,13 +25,13 @@ use Rattle.law_going_on.proofs.LineChoices.{LineRest, line_over, dash_short, lin
 use Rattle.law_going_on.proofs.BlockLines.{under_line}
 use Rattle.law_going_on.proofs.BlockLoops.{MappingFrom}
 use Rattle.law_going_on.proofs.KeyChoices.{NoKey, no_flow, no_key_left, no_key_mapping, line_goes, line_not_over, neither, key_left, keyed_left}
-use Rattle.yaml_line.specs.PropertyDecisions.{IsOnly, IsRefused}
-use Rattle.yaml_line.specs.NodeRules.{opens, below, flow_from, part_of}
-use Rattle.yaml_line.specs.Keys.{ColonAfter}
-use Rattle.yaml_line.specs.Lines.{IsBlock}
-use Rattle.yaml_line.specs.declared.flow.Kind.{Kind}
-use Rattle.yaml_line.specs.declared.flow.Kind.TheVariants.{Yaml, Json}
-use Rattle.yaml_line.proofs.NodeLemmas.{to_reads, from_reads}
+use Rattle.yaml_layout.specs.PropertyDecisions.{IsOnly, IsRefused}
+use Rattle.yaml_layout.specs.NodeRules.{opens, below, flow_from, part_of}
+use Rattle.yaml_layout.specs.Keys.{ColonAfter}
+use Rattle.yaml_layout.specs.Lines.{IsBlock}
+use Rattle.yaml_layout.specs.declared.flow.Kind.{Kind}
+use Rattle.yaml_layout.specs.declared.flow.Kind.TheVariants.{Yaml, Json}
+use Rattle.yaml_layout.proofs.NodeLemmas.{to_reads, from_reads}
 use Rattle.yaml_block.specs.BlockRules.{least_dash, node_rest, sequence_with, entries_rest}
 use Rattle.yaml_block.specs.BlockEnds.{AfterNode, AfterSequence, AfterMapping, ColonStands, IsNoKey}
 use Rattle.yaml_block.specs.OuterRules.{Above}

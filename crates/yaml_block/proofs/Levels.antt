@@ -8,7 +8,7 @@ use Rattle.law_one_reading.proofs.FlowEntries.{Facts}
 use Rattle.law_one_reading.proofs.FlowLevels.{no_facts, reads_facts}
 use Rattle.law_one_reading.proofs.KeyContexts.{Eased, no_eased, reads_eased}
 use Rattle.law_one_reading.proofs.BlockLevels.{Blocks, no_blocks, one_more, reads_blocks}
-use Rattle.yaml_line.specs.NodeRules.{opens, below}
+use Rattle.yaml_layout.specs.NodeRules.{opens, below}
 
 module _ (cs : List ℕ) (Wide : Type 0) (handles : Handles) where
   pub facts_at : (room : ℕ) → Facts cs (below cs Wide handles room)

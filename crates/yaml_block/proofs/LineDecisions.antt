@@ -17,9 +17,9 @@ use Rattle.yaml_text.proofs.RestLemmas.{from_s_b, blank_after}
 use Rattle.law_one_reading.proofs.Documents.{after_comments}
 use Rattle.law_one_reading.proofs.Lines.{solid_no_space, dash_fresh}
 use Rattle.law_one_reading.proofs.BlockNodes.{colon_solid}
-use Rattle.yaml_line.specs.Keys.{IsKeySized}
-use Rattle.yaml_line.specs.Lines.{IsLine, IsDash}
-use Rattle.yaml_line.specs.declared.line.Line.{Line}
+use Rattle.yaml_layout.specs.Keys.{IsKeySized}
+use Rattle.yaml_layout.specs.Lines.{IsLine, IsDash}
+use Rattle.yaml_layout.specs.declared.line.Line.{Line}
 use Rattle.yaml_block.specs.BlockEnds.{NoneIn, IsNoKey}
 
 nb_dash : is_nb 45 ≡ true

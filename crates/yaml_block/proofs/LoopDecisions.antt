@@ -19,8 +19,8 @@ use Rattle.law_going_on.specs.GoingOn.{Refused, Goes, Rest, Here}
 use Rattle.law_going_on.proofs.GoingOn.{goes_at, goes_until, refused_until}
 use Rattle.law_going_on.proofs.BlockLoops.{Right, line_less, sequence_first, sequence_no_first, sequence_more, sequence_no_more, sequence_done, sequence_further, values_first, values_refused, mapping_more, mapping_no_more, mapping_no_value, mapping_done, mapping_further, Colon}
 use Rattle.law_going_on.proofs.KeyChoices.{value_starts, key_starts}
-use Rattle.yaml_line.specs.Lines.{IsLine}
-use Rattle.yaml_line.specs.declared.line.Line.{Line}
+use Rattle.yaml_layout.specs.Lines.{IsLine}
+use Rattle.yaml_layout.specs.declared.line.Line.{Line}
 use Rattle.yaml_block.specs.BlockEnds.{AfterNode, AfterEntry, AfterSequence, AfterMapping, AfterColon, IsFurther}
 use Rattle.yaml_block.specs.BlockRules.{value_rest, entry_rest, entries_rest, sequence_with, key_rest}
 use Rattle.yaml_block.proofs.BlockLemmas.{seq_entry_at, map_entry_at}

@@ -7,12 +7,12 @@ use Rattle.yaml_definitions.specs.grammar.Tags.{Handles}
 use Rattle.yaml_definitions.specs.grammar.Events.{Props}
 use Rattle.law_going_on.specs.GoingOn.{Refused, Rest}
 use Rattle.law_going_on.proofs.GoingOn.{rest_rest, rest_refused}
-use Rattle.yaml_line.specs.PropertyDecisions.{AllProperties, LineGoesOn, IsOnly}
-use Rattle.yaml_line.specs.NodeRules.{flow_from}
-use Rattle.yaml_line.specs.Keys.{ColonAfter}
-use Rattle.yaml_line.specs.Lines.{IsBlock}
+use Rattle.yaml_layout.specs.PropertyDecisions.{AllProperties, LineGoesOn, IsOnly}
+use Rattle.yaml_layout.specs.NodeRules.{flow_from}
+use Rattle.yaml_layout.specs.Keys.{ColonAfter}
+use Rattle.yaml_layout.specs.Lines.{IsBlock}
 use Rattle.yaml_sink.specs.PropertyRules.{Disjoint}
-use Rattle.yaml_line.specs.declared.flow.Kind.{Kind}
+use Rattle.yaml_layout.specs.declared.flow.Kind.{Kind}
 use Rattle.yaml_block.specs.BlockRules.{node_rest, entries_rest}
 use Rattle.yaml_block.specs.BlockEnds.{AfterNode, AfterMapping, ColonStands, IsNoKey, IsStyleSign}
 use Rattle.yaml_block.specs.OuterRules.{Outer, OnLine, Follows, MayBear, column_of}

@@ -26,13 +26,13 @@ use Rattle.law_going_on.proofs.BlockProperties.{Under}
 use Rattle.law_going_on.proofs.PropertyLines.{Upper, one_line_above, two_lines_above, upper_left, upper_clash, upper_barred, no_forms_barred, no_mapping_barred}
 use Rattle.law_going_on.proofs.OwnLines as own
 use Rattle.law_going_on.proofs.OwnLines.{MappingIn, FlowOrKey, mapping_refused, flow_or_key, scalar_here, own_flow_or_key, own_scalar, no_mapping_in, above_flow_or_key, above_scalar, above_alias, both_flow_or_key, both_scalar, no_key_signed}
-use Rattle.yaml_line.specs.PropertyDecisions.{AllProperties, Barred, IsProperty, LineGoesOn}
-use Rattle.yaml_line.specs.NodeRules.{opens, below}
-use Rattle.yaml_line.specs.Lines.{IsBlock}
+use Rattle.yaml_layout.specs.PropertyDecisions.{AllProperties, Barred, IsProperty, LineGoesOn}
+use Rattle.yaml_layout.specs.NodeRules.{opens, below}
+use Rattle.yaml_layout.specs.Lines.{IsBlock}
 use Rattle.yaml_sink.specs.PropertyRules.{SomeProperties, Disjoint, both_props}
-use Rattle.yaml_line.proofs.PropertyLemmas.{marks_props, marks_some}
-use Rattle.yaml_line.proofs.PropertyDecisions.{both_is, apart_kinds, barred_line}
-use Rattle.yaml_line.proofs.SpaceLemmas.{lines_separate, flow_separate, block_separate}
+use Rattle.yaml_layout.proofs.PropertyLemmas.{marks_props, marks_some}
+use Rattle.yaml_layout.proofs.PropertyDecisions.{both_is, apart_kinds, barred_line}
+use Rattle.yaml_layout.proofs.SpaceLemmas.{lines_separate, flow_separate, block_separate}
 use Rattle.yaml_block.specs.BlockRules.{least_dash, node_rest}
 use Rattle.yaml_block.specs.BlockEnds.{AfterNode, IsStyleSign}
 use Rattle.yaml_block.specs.OuterRules.{Outer, nothing, above, Above, one_line, two_lines, OnLine, Follows, MayBear, properties_left, column_of}

@@ -15,10 +15,10 @@ use Rattle.law_going_on.specs.GoingOn.{Rest}
 use Rattle.law_going_on.proofs.BlockLoops.{SequenceFrom, MappingFrom}
 use Rattle.law_going_on.proofs.BlockStarts.{OnLine, FlowLine, ScalarOf, CollectionsOf, flow_key, scalar_kind, propped_kind, map_key, seq_dash}
 use Rattle.law_going_on.proofs.OwnLines.{MappingIn}
-use Rattle.yaml_line.specs.NodeRules.{opens, below}
-use Rattle.yaml_line.specs.Lines.{IsBlock}
-use Rattle.yaml_line.proofs.NodeLemmas.{to_reads, from_reads}
-use Rattle.yaml_line.proofs.SpaceLemmas.{flow_separate, block_separate}
+use Rattle.yaml_layout.specs.NodeRules.{opens, below}
+use Rattle.yaml_layout.specs.Lines.{IsBlock}
+use Rattle.yaml_layout.proofs.NodeLemmas.{to_reads, from_reads}
+use Rattle.yaml_layout.proofs.SpaceLemmas.{flow_separate, block_separate}
 use Rattle.yaml_block.specs.BlockRules.{least_dash, node_rest, mapping_in}
 use Rattle.yaml_block.proofs.BlockLemmas.{block_properties, separate_flow}
 use Rattle.yaml_block.proofs.Levels.{facts_at, eased_at, wider_at, forward_at, blocks_at}

@@ -10,10 +10,10 @@ use Rattle.yaml_text.specs.declared.fault.Fault.{Fault}
 use Rattle.law_one_reading.specs.Readings.{End}
 use Rattle.law_going_on.specs.GoingOn.{Goes, Rest, Here}
 use Rattle.law_going_on.proofs.GoingOn.{rest_rest, rest_refused}
-use Rattle.yaml_line.specs.NodeAnswer.{Appends}
-use Rattle.yaml_line.specs.declared.level.Level.{Level}
-use Rattle.yaml_line.specs.declared.line.Line.{Line}
-use Rattle.yaml_line.proofs.AnswerLemmas.{appends_by}
+use Rattle.yaml_layout.specs.NodeAnswer.{Appends}
+use Rattle.yaml_layout.specs.declared.level.Level.{Level}
+use Rattle.yaml_layout.specs.declared.line.Line.{Line}
+use Rattle.yaml_layout.proofs.AnswerLemmas.{appends_by}
 use Rattle.yaml_block.specs.declared.block.nodes.Opened.{Opened}
 use Rattle.yaml_block.specs.BlockCalls.{EndsLine, EndsOpened, DecidesOpened, begins, rest_rule, opened_at}
 

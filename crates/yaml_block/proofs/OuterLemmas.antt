@@ -7,13 +7,13 @@ use Rattle.yaml_definitions.specs.grammar.Tags.{Handles, c-ns-tag-property as ta
 use Rattle.yaml_definitions.specs.grammar.Events.{Props, no_props, e-scalar as empty}
 use Rattle.yaml_definitions.specs.grammar.Nodes as nodes
 use Rattle.yaml_definitions.specs.grammar.Nodes.{yaml_part, reads}
-use Rattle.yaml_line.specs.NodeRules.{Bare, aliased, plainly, with_properties, lone, part_of}
+use Rattle.yaml_layout.specs.NodeRules.{Bare, aliased, plainly, with_properties, lone, part_of}
 use Rattle.yaml_sink.specs.PropertyRules.{SomeProperties, tag_alone, anchor_alone, both, Own, Disjoint, HasTag, HasAnchor, both_props, either_anchor, either_tag, tag_props, anchor_props, dressed}
-use Rattle.yaml_line.specs.declared.flow.Kind.{Kind}
-use Rattle.yaml_line.specs.declared.flow.Kind.TheVariants.{Yaml, Json}
-use Rattle.yaml_line.proofs.PropertyLemmas.{marks_props, marks_some, tag_then, anchor_then}
-use Rattle.yaml_line.proofs.SpaceLemmas.{lines_separate, sep_separate, flow_separate}
-use Rattle.yaml_line.proofs.NodeLemmas.{dressed_at, marked_node, lone_node, bare_flow}
+use Rattle.yaml_layout.specs.declared.flow.Kind.{Kind}
+use Rattle.yaml_layout.specs.declared.flow.Kind.TheVariants.{Yaml, Json}
+use Rattle.yaml_layout.proofs.PropertyLemmas.{marks_props, marks_some, tag_then, anchor_then}
+use Rattle.yaml_layout.proofs.SpaceLemmas.{lines_separate, sep_separate, flow_separate}
+use Rattle.yaml_layout.proofs.NodeLemmas.{dressed_at, marked_node, lone_node, bare_flow}
 use Rattle.yaml_block.specs.BlockRules.{least_dash, node_rest, block_scalar_rest, sequence_with, mapping_with, mapping_in}
 use Rattle.yaml_block.specs.OuterRules.{Outer, nothing, above, OnLine, AfterOwn, at_once, spaced, Follows, MayBear, properties_left, anchors_left, tags_left, column_by, column_of}
 

@@ -17,8 +17,8 @@ use Rattle.law_going_on.specs.GoingOn.{Refused, Goes, Rest, Here}
 use Rattle.law_going_on.proofs.GoingOn.{rest_goes, rest_refused, goes_until, refused_until}
 use Rattle.law_going_on.proofs.BlockLoops.{mapping_no_key}
 use Rattle.law_going_on.proofs.KeyChoices.{value_starts, key_starts}
-use Rattle.yaml_line.specs.NodeAnswer.{Decides}
-use Rattle.yaml_line.specs.Lines.{IsBlock}
+use Rattle.yaml_layout.specs.NodeAnswer.{Decides}
+use Rattle.yaml_layout.specs.Lines.{IsBlock}
 use Rattle.yaml_block.specs.BlockRules.{block_scalar_rest}
 use Rattle.yaml_block.specs.BlockEnds.{AfterNode, AfterScalar, SignIs, IsStyleSign}
 use Rattle.yaml_block.specs.KeyFits.{NoneBelow}

@@ -14,9 +14,9 @@ use Rattle.law_one_reading.specs.Follows.{Stuck, DashHere}
 use Rattle.law_going_on.specs.GoingOn.{Rest}
 use Rattle.law_going_on.proofs.GoingOn.{rest_rest, rest_left, rest_right}
 use Rattle.law_going_on.proofs.BlockStarts.{OnOwnLine, node_below}
-use Rattle.yaml_line.specs.NodeRules.{opens, below}
-use Rattle.yaml_line.proofs.NodeLemmas.{from_reads}
-use Rattle.yaml_line.proofs.LineLemmas.{no_lines}
+use Rattle.yaml_layout.specs.NodeRules.{opens, below}
+use Rattle.yaml_layout.proofs.NodeLemmas.{from_reads}
+use Rattle.yaml_layout.proofs.LineLemmas.{no_lines}
 use Rattle.yaml_block.specs.BlockRules.{root_rest, node_rest, value_rest, sequence_with}
 use Rattle.yaml_block.specs.BlockEnds.{AfterNode, AfterSequence}
 use Rattle.yaml_block.proofs.Levels.{facts_at, eased_at, wider_at, forward_at, blocks_at}

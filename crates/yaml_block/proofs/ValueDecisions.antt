@@ -23,10 +23,10 @@ use Rattle.law_going_on.proofs.BlockLines.{value_line}
 use Rattle.law_going_on.proofs.BlockStarts.{Form, flow, scalar, propped, collection, named, form, flow_key, scalar_kind, propped_kind, ScalarOf, CollectionsOf, node_on_line}
 use Rattle.law_going_on.proofs.BlockChoices.{entry_below, entry_on_line, nothing_on_line}
 use Rattle.law_going_on.proofs.PropertyLines.{separate_line}
-use Rattle.yaml_line.specs.NodeRules.{opens, below}
-use Rattle.yaml_line.specs.Lines.{IsBlock}
-use Rattle.yaml_line.proofs.NodeLemmas.{from_reads}
-use Rattle.yaml_line.proofs.LineLemmas.{no_lines}
+use Rattle.yaml_layout.specs.NodeRules.{opens, below}
+use Rattle.yaml_layout.specs.Lines.{IsBlock}
+use Rattle.yaml_layout.proofs.NodeLemmas.{from_reads}
+use Rattle.yaml_layout.proofs.LineLemmas.{no_lines}
 use Rattle.yaml_block.specs.BlockRules.{least_dash, node_rest, line_rest, value_rest, entry_rest, sequence_with}
 use Rattle.yaml_block.specs.BlockEnds.{AfterNode, AfterEntry, AfterSequence}
 use Rattle.yaml_block.proofs.Levels.{facts_at, eased_at, wider_at, forward_at, blocks_at}

@@ -9,13 +9,13 @@ use Rattle.yaml_definitions.specs.grammar.Events.{no_props}
 use Rattle.law_one_reading.specs.Follows.{Stuck}
 use Rattle.law_going_on.specs.GoingOn.{Refused, Goes, Rest, Here}
 use Rattle.law_going_on.proofs.GoingOn.{rest_goes, rest_refused}
-use Rattle.yaml_line.specs.PropertyDecisions.{AllProperties, IsProperty, Differ, IsOnly, IsRefused}
-use Rattle.yaml_line.specs.NodeRules.{content_from}
-use Rattle.yaml_line.specs.Lines.{IsBlock}
-use Rattle.yaml_line.specs.declared.flow.Kind.{Kind}
-use Rattle.yaml_line.specs.declared.flow.Kind.TheVariants.{Yaml, Json}
-use Rattle.yaml_line.proofs.NodeLemmas.{content_flow}
-use Rattle.yaml_line.proofs.WordDecisions.{word_not, word_no_property}
+use Rattle.yaml_layout.specs.PropertyDecisions.{AllProperties, IsProperty, Differ, IsOnly, IsRefused}
+use Rattle.yaml_layout.specs.NodeRules.{content_from}
+use Rattle.yaml_layout.specs.Lines.{IsBlock}
+use Rattle.yaml_layout.specs.declared.flow.Kind.{Kind}
+use Rattle.yaml_layout.specs.declared.flow.Kind.TheVariants.{Yaml, Json}
+use Rattle.yaml_layout.proofs.NodeLemmas.{content_flow}
+use Rattle.yaml_layout.proofs.WordDecisions.{word_not, word_no_property}
 use Rattle.yaml_block.specs.BlockRules.{node_rest}
 use Rattle.yaml_block.specs.BlockEnds.{AfterNode, IsStyleSign}
 use Rattle.yaml_block.specs.OuterRules.{nothing, Follows}

@@ -19,15 +19,15 @@ use Rattle.yaml_sink.specs.declared.properties.Properties.{Properties}
 use Rattle.law_one_reading.specs.Readings.{End}
 use Rattle.law_one_reading.specs.Follows.{Fresh, DashHere}
 use Rattle.law_going_on.specs.GoingOn.{Refused, Goes, Rest, Here}
-use Rattle.yaml_line.specs.NodeAnswer.{Appends, Decides}
-use Rattle.yaml_line.specs.PropertyDecisions.{LineGoesOn, IsOnly}
-use Rattle.yaml_line.specs.PropertyPlaces.{StandFrom}
-use Rattle.yaml_line.specs.Keys.{ColonAfter}
-use Rattle.yaml_line.specs.Lines.{IsLine, IsDash, IsBlock}
-use Rattle.yaml_line.specs.NodeLevels.{StartsWith}
-use Rattle.yaml_line.specs.declared.level.Level.{Level}
-use Rattle.yaml_line.specs.declared.line.Line.{Line}
-use Rattle.yaml_line.specs.declared.properties.Head.{Head}
+use Rattle.yaml_layout.specs.NodeAnswer.{Appends, Decides}
+use Rattle.yaml_layout.specs.PropertyDecisions.{LineGoesOn, IsOnly}
+use Rattle.yaml_layout.specs.PropertyPlaces.{StandFrom}
+use Rattle.yaml_layout.specs.Keys.{ColonAfter}
+use Rattle.yaml_layout.specs.Lines.{IsLine, IsDash, IsBlock}
+use Rattle.yaml_layout.specs.NodeLevels.{StartsWith}
+use Rattle.yaml_layout.specs.declared.level.Level.{Level}
+use Rattle.yaml_layout.specs.declared.line.Line.{Line}
+use Rattle.yaml_layout.specs.declared.properties.Head.{Head}
 use Rattle.yaml_block.specs.BlockRules.{least_dash, node_rest, line_rest, value_rest, entry_rest, key_rest, entries_rest, sequence_with}
 use Rattle.yaml_block.specs.BlockEnds.{AfterNode, AfterEntry, AfterSequence, AfterMapping, AfterColon, NoneIn, IsFurther, SignIs, IsStyleSign}
 use Rattle.yaml_block.specs.OuterRules.{Outer, Above, Follows, MayBear, column_of}

@@ -7,8 +7,8 @@ use Rattle.yaml_definitions.specs.grammar.Characters.{is_ns, is_space}
 use Rattle.yaml_definitions.specs.grammar.Separation.{Ctx, s-indent as indent, AtEnd, DocumentMark}
 use Rattle.law_one_reading.specs.Readings.{End, At}
 use Rattle.law_one_reading.specs.Follows.{Fresh, Stuck, Less, Over, Follow}
-use Rattle.yaml_line.specs.Keys.{ColonAfter}
-use Rattle.yaml_line.specs.declared.line.Line.{Line}
+use Rattle.yaml_layout.specs.Keys.{ColonAfter}
+use Rattle.yaml_layout.specs.declared.line.Line.{Line}
 use Rattle.yaml_block.specs.BlockRules.{least_dash}
 use Rattle.yaml_block.specs.declared.block.signs.Block.{Block}
 use Rattle.yaml_block.specs.declared.block.signs.Block.TheVariants.{Literal, Folded}

@@ -8,7 +8,7 @@ use Rattle.yaml_definitions.specs.grammar.Tags.{Handles, c-ns-properties as prop
 use Rattle.yaml_definitions.specs.grammar.Events.{Props, no_props, scalar, e-scalar as empty, seq_start, map_start, wrapped}
 use Rattle.yaml_definitions.specs.grammar.BlockScalars.{c-l+literal as literal, c-l+folded as folded}
 use Rattle.yaml_definitions.specs.grammar.Nodes.{yaml_part, json_part, block_part, l+block-mapping as block_map, l+block-sequence as block_seq, ns-s-implicit-yaml-key as implicit_yaml_key, c-s-implicit-json-key as implicit_json_key, c-l-block-seq-entry as seq_entry, ns-l-block-map-entry as map_entry, s-l+block-indented as indented, reads}
-use Rattle.yaml_line.specs.NodeRules.{opens, below}
+use Rattle.yaml_layout.specs.NodeRules.{opens, below}
 
 -- 8.2.3: the column from which a sequence may stand below a parent
 abbrev pub least_dash : ℕ → Ctx → ℕ

@@ -5,10 +5,10 @@ use Rattle.yaml_definitions.specs.grammar.Separation.{flow_out}
 use Rattle.yaml_definitions.specs.grammar.Tags.{Handles}
 use Rattle.yaml_definitions.specs.grammar.Events.{Props}
 use Rattle.yaml_definitions.specs.grammar.Nodes.{wide}
-use Rattle.yaml_line.specs.PropertyDecisions.{IsRefused}
-use Rattle.yaml_line.specs.NodeRules.{Bare}
-use Rattle.yaml_line.specs.declared.flow.Kind.{Kind}
-use Rattle.yaml_line.specs.declared.flow.Kind.TheVariants.{Yaml, Json}
+use Rattle.yaml_layout.specs.PropertyDecisions.{IsRefused}
+use Rattle.yaml_layout.specs.NodeRules.{Bare}
+use Rattle.yaml_layout.specs.declared.flow.Kind.{Kind}
+use Rattle.yaml_layout.specs.declared.flow.Kind.TheVariants.{Yaml, Json}
 
 -- the events es that were put down since a mark became fs
 pub record Becomes {S : Type 0} (holds : S → List Event → Type 0) (start : ℕ) (es fs : List Event) (before after : S) : Type 0 where

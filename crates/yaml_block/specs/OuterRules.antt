@@ -7,7 +7,7 @@ use Rattle.yaml_definitions.specs.grammar.Separation.{flow_out, block_key, s-ind
 use Rattle.yaml_definitions.specs.grammar.Tags.{Handles}
 use Rattle.yaml_definitions.specs.grammar.Events.{Props, no_props}
 use Rattle.law_one_reading.specs.Follows.{Stuck, DashHere}
-use Rattle.yaml_line.specs.PropertyDecisions.{AllProperties}
+use Rattle.yaml_layout.specs.PropertyDecisions.{AllProperties}
 use Rattle.yaml_sink.specs.PropertyRules.{SomeProperties, Own, Disjoint, both_props}
 
 -- how many more properties a node may have

@@ -4,7 +4,7 @@ use Rattle.sha2.specs.Sha256.{sha256}
 use Rattle.yaml_definitions.specs.model.Tree.{Tree}
 use Rattle.yaml_definitions.specs.canonical.Spell.{spell_bytes}
 use Rattle.yaml_text.specs.declared.fault.Fault.{Fault}
-use Rattle.yaml_answers.specs.declared.side.Side.TheVariants.{Left}
+use Rattle.yaml_text.specs.declared.side.Side.TheVariants.{Left}
 use Rattle.yaml_canon.specs.Claims.{IsCanonicalText, CanonicalRefuses}
 use Rattle.yaml_c.specs.declared.fault.YamlcanonFault.{YamlcanonFault}
 use Rattle.yaml_c.specs.Told.{told}

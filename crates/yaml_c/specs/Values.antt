@@ -4,7 +4,7 @@ use Rattle.std.specs.String.{string_bytes}
 use Rattle.yaml_definitions.specs.model.Tree.{Tree}
 use Rattle.yaml_definitions.specs.model.Order.{arranged}
 use Rattle.yaml_text.specs.declared.fault.Fault.{Fault}
-use Rattle.yaml_answers.specs.declared.side.Side.TheVariants.{Left}
+use Rattle.yaml_text.specs.declared.side.Side.TheVariants.{Left}
 use Rattle.yaml_canon.specs.Claims.{CanonicalRefuses}
 use Rattle.yaml_values.specs.declared.value.Value.{Value}
 use Rattle.yaml_values.specs.declared.making.Values.{Values}

@@ -9,7 +9,7 @@ ghost use Rattle.yaml_c.specs.Answers.{GivesEvents, ShortEvents, RefusesEvents, 
 ghost use Rattle.yaml_c.specs.Digests.{GivesDigest, RefusesDigest, OnlyMemoryOfDigest};
 ghost use Rattle.yaml_c.specs.Messages.{GivesMessage, ShortMessage, NoMessage, Says};
 ghost use Rattle.yaml_c.specs.Positions.{IsPosition, HasNoPosition};
-ghost use Rattle.yaml_answers.specs.declared.side.Side.{Side};
+ghost use Rattle.yaml_text.specs.declared.side.Side.{Side};
 ghost use Rattle.yaml_text.specs.declared.fault.Fault.{Fault};
 ghost use Rattle.yaml_c.specs.Told.{told};
 

@@ -10,11 +10,11 @@ use Rattle.yaml_definitions.specs.model.Serial.{Document}
 use Rattle.yaml_text.specs.declared.fault.Fault.{Fault}
 use Rattle.yaml_text.specs.declared.fault.Fault.TheVariants as faults
 use Rattle.yaml_definitions.proofs.Law.{texts_tell}
-use Rattle.yaml_nodes.specs.GraphView.{nodes_of, graph_trees}
-use Rattle.yaml_levels.specs.RanksView.{RefusesGraph}
+use Rattle.yaml_graph.specs.GraphView.{nodes_of, graph_trees}
+use Rattle.yaml_rank.specs.RanksView.{RefusesGraph}
 use Rattle.yaml_rank.proofs.Standing.{keyed-none}
-use Rattle.yaml_answers.specs.declared.side.Side.{Side}
-use Rattle.yaml_answers.specs.declared.side.Side.TheVariants.{Left, Right}
+use Rattle.yaml_text.specs.declared.side.Side.{Side}
+use Rattle.yaml_text.specs.declared.side.Side.TheVariants.{Left, Right}
 use Rattle.yaml_canon.specs.Claims.{AllOf, IsRead}
 use Rattle.yaml_canon.specs.Comparing.{Compares, ComparerRefuses, HasEqualKeys, side_of_fault}
 use Rattle.yaml_canon.specs.Accepting.{IsSpelling, IsMemory, TellsTexts}

@@ -6,16 +6,16 @@ use Rattle.yaml_definitions.specs.model.Means.{Means}
 use Rattle.yaml_definitions.specs.model.Serial.{Document, stream_events}
 use Rattle.yaml_definitions.specs.model.Unfold.{trees_of as trees_unfolded}
 use Rattle.yaml_definitions.specs.grammar.Reading.{Reads}
-use Rattle.yaml_nodes.specs.GraphModel.{tree_at, AreLow}
-use Rattle.yaml_nodes.specs.GraphView.{roots_of, graph_trees, forest}
-use Rattle.yaml_nodes.specs.declared.node.NodeId.{NodeId}
-use Rattle.yaml_nodes.specs.declared.graph.Graph.{Graph}
-use Rattle.yaml_compact.specs.StoreModel.{parts_at}
-use Rattle.yaml_compact.specs.StoreGrows.{trees_of}
-use Rattle.yaml_compose.specs.Reached.{UnfoldTo}
-use Rattle.yaml_compose.specs.declared.size.StreamSize.{StreamSize}
-use Rattle.yaml_compose.specs.ComposerModel.{AllAt, AreForests}
-use Rattle.yaml_compose.specs.declared.composer.Forest.{Forest}
+use Rattle.yaml_graph.specs.GraphModel.{tree_at, AreLow}
+use Rattle.yaml_graph.specs.GraphView.{roots_of, graph_trees, forest}
+use Rattle.yaml_graph.specs.declared.node.NodeId.{NodeId}
+use Rattle.yaml_graph.specs.declared.graph.Graph.{Graph}
+use Rattle.yaml_store.specs.StoreModel.{parts_at}
+use Rattle.yaml_store.specs.StoreGrows.{trees_of}
+use Rattle.yaml_store_composer.specs.Reached.{UnfoldTo}
+use Rattle.yaml_store_composer.specs.declared.size.StreamSize.{StreamSize}
+use Rattle.yaml_store_composer.specs.ComposerModel.{AllAt, AreForests}
+use Rattle.yaml_store_composer.specs.declared.composer.Forest.{Forest}
 use Rattle.yaml_canon.specs.Read.{HasRoots}
 use Rattle.yaml_canon.specs.Both.{HasBoth}
 use Rattle.yaml_canon.proofs.ForestLaws.{roots-are}

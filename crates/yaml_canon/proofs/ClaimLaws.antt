@@ -25,19 +25,19 @@ use Rattle.yaml_text.specs.declared.fault.Fault.{Fault}
 use Rattle.yaml_text.specs.declared.fault.Fault.TheVariants as faults
 use Rattle.law_one_reading.proofs.Documents.{one_reading, one_meaning}
 use Rattle.yaml_read.specs.Decided.{HasNoReading as NoReading}
-use Rattle.yaml_answers.proofs.UnreadLaws.{no_stream}
+use Rattle.yaml_text.proofs.UnreadLaws.{no_stream}
 use Rattle.law_length.specs.Sizes.{texts_bytes}
 use Rattle.law_length.proofs.Contents.{tag_light}
 use Rattle.law_length.proofs.Numbers.{text_light}
 use Rattle.law_length.proofs.Forests.{meaning_bounded}
-use Rattle.yaml_nodes.specs.GraphModel.{tree_at}
-use Rattle.yaml_nodes.specs.GraphView.{nodes_of, roots_of, graph_trees, tree, forest}
+use Rattle.yaml_graph.specs.GraphModel.{tree_at}
+use Rattle.yaml_graph.specs.GraphView.{nodes_of, roots_of, graph_trees, tree, forest}
 use Rattle.yaml_graph.specs.Composed.{Composed, RefusesStream}
-use Rattle.yaml_nodes.specs.declared.node.NodeId.{NodeId}
-use Rattle.yaml_nodes.specs.declared.graph.Graph.{Graph}
+use Rattle.yaml_graph.specs.declared.node.NodeId.{NodeId}
+use Rattle.yaml_graph.specs.declared.graph.Graph.{Graph}
 use Rattle.yaml_spell.specs.Pieces.{Began, Puts, Fails}
 use Rattle.yaml_spell.specs.Documents.{spell_more, arranged_more, arranged_bytes, RefusesArranged}
-use Rattle.yaml_compact.specs.Walked.{walked_tree}
+use Rattle.yaml_store_rank.specs.Walked.{walked_tree}
 use Rattle.yaml_canon.specs.Ranks.{HasRanks}
 use Rattle.yaml_canon.specs.declared.ranks.RankedForest.{RankedForest}
 use Rattle.yaml_canon.specs.Claims.{AllOf, MeansAlone, IsArranged, IsCanonicalText, IsRead, CanonicalRefuses, GraphRefuses}

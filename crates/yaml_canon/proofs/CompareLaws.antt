@@ -7,15 +7,15 @@ use Rattle.std.proofs.Math.Seq.{drop-append_seam, take-append_seam}
 use Rattle.yaml_definitions.specs.model.Serial.{Document}
 use Rattle.yaml_text.specs.declared.fault.Fault.{Fault}
 use Rattle.yaml_text.specs.declared.fault.Fault.TheVariants as faults
-use Rattle.yaml_nodes.specs.GraphView.{nodes_of}
-use Rattle.yaml_nodes.specs.JoinModel.{Joined}
+use Rattle.yaml_graph.specs.GraphView.{nodes_of}
+use Rattle.yaml_graph.specs.JoinModel.{Joined}
 use Rattle.yaml_graph.specs.Composed.{Composed, RefusesStream}
-use Rattle.yaml_nodes.specs.declared.node.NodeId.{NodeId}
-use Rattle.yaml_nodes.specs.declared.graph.Graph.{Graph}
-use Rattle.yaml_levels.specs.RanksView.{RefusesGraph}
-use Rattle.yaml_levels.specs.declared.ranks.Ranks.{Ranks}
-use Rattle.yaml_answers.specs.declared.side.Side.{Side}
-use Rattle.yaml_answers.specs.declared.side.Side.TheVariants.{Left, Right}
+use Rattle.yaml_graph.specs.declared.node.NodeId.{NodeId}
+use Rattle.yaml_graph.specs.declared.graph.Graph.{Graph}
+use Rattle.yaml_rank.specs.RanksView.{RefusesGraph}
+use Rattle.yaml_rank.specs.declared.ranks.Ranks.{Ranks}
+use Rattle.yaml_text.specs.declared.side.Side.{Side}
+use Rattle.yaml_text.specs.declared.side.Side.TheVariants.{Left, Right}
 use Rattle.yaml_canon.specs.Claims.{IsRead, GraphRefuses}
 use Rattle.yaml_canon.specs.Comparing.{side_of_fault, RefusesDocuments, IsComposed, ComparerRefuses}
 

@@ -16,10 +16,10 @@ use Rattle.yaml_sink.specs.Held.{Puts}
 use Rattle.yaml_sink.specs.SinkModel.{holds_of}
 use Rattle.yaml_sink.specs.declared.sink.Sink.{Sink}
 use Rattle.yaml_sink.specs.declared.sink.Sink.TheVariants.{Kept}
-use Rattle.yaml_compact.specs.StoreModel.{parts_at}
-use Rattle.yaml_compact.specs.StoreGrows.{trees_of}
-use Rattle.yaml_compose.specs.ComposerModel.{AllAt}
-use Rattle.yaml_compose.specs.declared.composer.Forest.{Forest}
+use Rattle.yaml_store.specs.StoreModel.{parts_at}
+use Rattle.yaml_store.specs.StoreGrows.{trees_of}
+use Rattle.yaml_store_composer.specs.ComposerModel.{AllAt}
+use Rattle.yaml_store_composer.specs.declared.composer.Forest.{Forest}
 use Rattle.yaml_canon.specs.Read.{Takes, HasForest, root_trees}
 
 -- what is put into a sink that is a keeper

@@ -8,24 +8,24 @@ use Rattle.yaml_definitions.specs.model.Tree.{Tree, height}
 use Rattle.yaml_definitions.specs.model.Serial.{Document}
 use Rattle.yaml_text.specs.declared.fault.Fault.{Fault}
 use Rattle.yaml_text.specs.declared.fault.Fault.TheVariants as faults
-use Rattle.yaml_nodes.specs.GraphModel.{AreLow}
-use Rattle.yaml_nodes.specs.GraphView.{graph_trees}
-use Rattle.yaml_nodes.specs.declared.graph.Graph.{Graph}
+use Rattle.yaml_graph.specs.GraphModel.{AreLow}
+use Rattle.yaml_graph.specs.GraphView.{graph_trees}
+use Rattle.yaml_graph.specs.declared.graph.Graph.{Graph}
 use Rattle.yaml_graph.specs.Closing.{stream_trees}
 use Rattle.yaml_graph.specs.Composed.{Composed}
-use Rattle.yaml_levels.specs.RanksView.{RefusesGraph}
-use Rattle.law_closing.specs.Laws.{AreHoldable, HaveJoined}
-use Rattle.law_closing.specs.Numbers.{Numbers}
-use Rattle.law_closing.proofs.Graphs.{has-graph, have-joined}
-use Rattle.law_closing.proofs.Repeats.{first-is-graphs}
-use Rattle.yaml_compact.specs.TextModel.{text_of}
-use Rattle.yaml_compact.specs.StoreGrows.{Good, tags_of, trees_of}
-use Rattle.yaml_compact.specs.StoreView.{view_of}
-use Rattle.yaml_compact.specs.Refused.{RefusesStore}
-use Rattle.yaml_compact.proofs.Growing.{trees-count}
-use Rattle.yaml_compose.specs.ComposerModel.{IsForest, AreForests}
-use Rattle.yaml_compose.specs.declared.composer.Forest.{Forest}
-use Rattle.yaml_compose.proofs.HoldableLaws.{closed-holdable}
+use Rattle.yaml_rank.specs.RanksView.{RefusesGraph}
+use Rattle.law_store_keys.specs.Laws.{AreHoldable, HaveJoined}
+use Rattle.law_store_keys.specs.Numbers.{Numbers}
+use Rattle.law_store_keys.proofs.Graphs.{has-graph, have-joined}
+use Rattle.law_store_keys.proofs.Repeats.{first-is-graphs}
+use Rattle.yaml_store.specs.TextModel.{text_of}
+use Rattle.yaml_store.specs.StoreGrows.{Good, tags_of, trees_of}
+use Rattle.yaml_store.specs.StoreView.{view_of}
+use Rattle.yaml_store_rank.specs.Refused.{RefusesStore}
+use Rattle.yaml_store.proofs.Growing.{trees-count}
+use Rattle.yaml_store_composer.specs.ComposerModel.{IsForest, AreForests}
+use Rattle.yaml_store_composer.specs.declared.composer.Forest.{Forest}
+use Rattle.yaml_store_composer.proofs.HoldableLaws.{closed-holdable}
 use Rattle.yaml_canon.specs.RefusedRanks.{IsInStream, RefusesRanks, RefusesBothRanks}
 use Rattle.yaml_canon.proofs.AcceptLaws.{same-trees}
 

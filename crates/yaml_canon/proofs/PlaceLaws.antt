@@ -9,7 +9,7 @@ use Rattle.yaml_text.specs.declared.fault.Fault.{Fault}
 use Rattle.yaml_canon.specs.Accepting.{IsSpelling, IsMemory}
 use Rattle.yaml_spell.specs.Documents.{RefusesArranged}
 use Rattle.yaml_canon.specs.Claims.{CanonicalRefuses}
-use Rattle.yaml_answers.specs.Rooms.{Places}
+use Rattle.yaml_text.specs.Rooms.{Places}
 use Rattle.yaml_canon.specs.Rooms.{PlacesCanonical}
 use Rattle.yaml_canon.specs.Targets.{ArrangedFails}
 use Rattle.yaml_canon.specs.declared.placing.Buffer.{Buffer}

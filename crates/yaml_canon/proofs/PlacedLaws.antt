@@ -15,13 +15,13 @@ use Rattle.yaml_text.specs.declared.counted.Counted.{Counted}
 use Rattle.yaml_text.specs.declared.fault.Fault.{Fault}
 use Rattle.yaml_text.specs.declared.fault.Fault.TheVariants as faults
 use Rattle.yaml_graph.specs.Composed.{RefusesStream}
-use Rattle.yaml_nodes.specs.declared.graph.Graph.{Graph}
+use Rattle.yaml_graph.specs.declared.graph.Graph.{Graph}
 use Rattle.yaml_canon.specs.Comparing.{RefusesDocuments}
 use Rattle.yaml_spell.specs.Documents.{RefusesArranged}
-use Rattle.yaml_answers.specs.Gathering.{Gathers, GatherFails}
+use Rattle.yaml_text.specs.Gathering.{Gathers, GatherFails}
 use Rattle.yaml_canon.specs.FaultPlaces.{IsPlaceIn, TellsPlace, TellsSidesPlace, TellsReadPlace}
-use Rattle.yaml_answers.specs.declared.side.Side.{Side}
-use Rattle.yaml_answers.specs.declared.side.Side.TheVariants.{Left, Right}
+use Rattle.yaml_text.specs.declared.side.Side.{Side}
+use Rattle.yaml_text.specs.declared.side.Side.TheVariants.{Left, Right}
 
 -- ---- the reader's places
 

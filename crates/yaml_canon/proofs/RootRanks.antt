@@ -2,22 +2,23 @@
 use Rattle.std.proofs.Common.{◌≡◌, ℕ, ◌<◌, List, [], ◌∷◌, length, map, slice_index, get_or, refl, sym, ◌∙◌, ap, subst, arith}
 use Rattle.std.specs.Prelude.{◌↔◌}
 use Rattle.std.specs.List.{All}
-use Rattle.yaml_compact.specs.TextModel.{text_of}
+use Rattle.yaml_store.specs.TextModel.{text_of}
 use Rattle.std.proofs.lemmas.Option.{slice_get_within}
 use Rattle.std.proofs.lemmas.List.{length-map, get_or-map}
 use Rattle.std.proofs.lemmas.List.Elements.{All-map, All-cons}
 use Rattle.yaml_definitions.specs.model.Tree.{Tree, scalar}
 use Rattle.yaml_definitions.specs.model.Order.{arranged}
 use Rattle.yaml_definitions.specs.model.Same.{same, Same, Keyed}
-use Rattle.yaml_nodes.specs.GraphModel.{tree_at}
-use Rattle.yaml_compact.specs.declared.ranking.Ranked.{Ranked}
-use Rattle.yaml_compact.specs.StoreModel.{parts_at}
-use Rattle.yaml_compact.specs.StoreGrows.{tags_of, trees_of}
-use Rattle.yaml_compact.specs.StoreView.{tree_of, StoreRanked}
-use Rattle.yaml_compact.specs.Walked.{ranks_of, RanksTaken}
-use Rattle.yaml_compact.proofs.Growing.{trees-count}
-use Rattle.yaml_compose.specs.ComposerModel.{AllAt}
-use Rattle.yaml_compose.specs.declared.composer.Forest.{Forest}
+use Rattle.yaml_graph.specs.GraphModel.{tree_at}
+use Rattle.yaml_store_rank.specs.declared.ranking.Ranked.{Ranked}
+use Rattle.yaml_store.specs.StoreModel.{parts_at}
+use Rattle.yaml_store.specs.StoreGrows.{tags_of, trees_of}
+use Rattle.yaml_store.specs.StoreView.{tree_of}
+use Rattle.yaml_store_rank.specs.StoreRanks.{StoreRanked}
+use Rattle.yaml_store_rank.specs.Walked.{ranks_of, RanksTaken}
+use Rattle.yaml_store.proofs.Growing.{trees-count}
+use Rattle.yaml_store_composer.specs.ComposerModel.{AllAt}
+use Rattle.yaml_store_composer.specs.declared.composer.Forest.{Forest}
 use Rattle.yaml_canon.specs.declared.ranks.RankedForest.{RankedForest}
 use Rattle.yaml_definitions.specs.model.Means.{Means}
 use Rattle.yaml_canon.specs.Read.{HasForest, HasRoots, root_trees}

@@ -15,7 +15,7 @@ use Rattle.yaml_spell.specs.declared.page.Page.{Page}
 use Rattle.yaml_spell.specs.Pieces.{Began, Puts, Fails}
 use Rattle.yaml_spell.specs.Pages.{page_bytes, page_len, PageHolds, PageStops}
 use Rattle.yaml_spell.specs.Writers.{Sent, CutOff}
-use Rattle.yaml_answers.specs.Writers.{Printed, Broken}
+use Rattle.yaml_text.specs.Writers.{Printed, Broken}
 use Rattle.yaml_spell.specs.Documents.{arranged_more, arranged_bytes}
 use Rattle.yaml_canon.specs.Runs.{WritesCanonical, WriteRefuses}
 use Rattle.yaml_canon.specs.Targets.{PutsArranged, PutsCanonical, PutFails}

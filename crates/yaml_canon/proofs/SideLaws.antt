@@ -8,15 +8,15 @@ use Rattle.yaml_definitions.specs.grammar.Reading.{Reads}
 use Rattle.yaml_text.specs.Refused.{RefusesText}
 use Rattle.yaml_text.specs.declared.fault.Fault.{Fault}
 use Rattle.yaml_text.specs.declared.fault.Fault.TheVariants as faults
-use Rattle.yaml_nodes.specs.GraphView.{nodes_of}
-use Rattle.yaml_nodes.specs.declared.graph.Graph.{Graph}
-use Rattle.yaml_nodes.proofs.GraphLaws.{trees-length}
+use Rattle.yaml_graph.specs.GraphView.{nodes_of}
+use Rattle.yaml_graph.specs.declared.graph.Graph.{Graph}
+use Rattle.yaml_graph.proofs.GraphLaws.{trees-length}
 use Rattle.yaml_graph.specs.Closing.{stream_trees}
 use Rattle.yaml_graph.specs.Composed.{Composed}
-use Rattle.yaml_compose.specs.Reached.{UnfoldTo}
-use Rattle.yaml_compose.specs.declared.size.StreamSize.{StreamSize}
-use Rattle.yaml_answers.specs.declared.side.Side.{Side}
-use Rattle.yaml_answers.specs.declared.side.Side.TheVariants.{Left, Right}
+use Rattle.yaml_store_composer.specs.Reached.{UnfoldTo}
+use Rattle.yaml_store_composer.specs.declared.size.StreamSize.{StreamSize}
+use Rattle.yaml_text.specs.declared.side.Side.{Side}
+use Rattle.yaml_text.specs.declared.side.Side.TheVariants.{Left, Right}
 use Rattle.yaml_canon.specs.Claims.{IsRead, GraphRefuses}
 use Rattle.yaml_canon.specs.Comparing.{Compares, IsComposed, side_of_fault}
 use Rattle.yaml_canon.specs.RefusedRanks.{AreEqualInBoth, RefusesBothRanks}

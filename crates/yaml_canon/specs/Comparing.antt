@@ -6,12 +6,12 @@ use Rattle.yaml_definitions.specs.model.Serial.{Document}
 use Rattle.yaml_text.specs.declared.fault.Fault.{Fault}
 use Rattle.yaml_text.specs.declared.fault.Fault.TheVariants.{EqualKeys, TextTooLong}
 use Rattle.yaml_graph.specs.Composed.{Composed, RefusesStream}
-use Rattle.yaml_nodes.specs.GraphView.{nodes_of}
-use Rattle.yaml_nodes.specs.JoinModel.{Joined}
-use Rattle.yaml_nodes.specs.declared.graph.Graph.{Graph}
-use Rattle.yaml_levels.specs.RanksView.{RefusesGraph}
-use Rattle.yaml_answers.specs.declared.side.Side.{Side}
-use Rattle.yaml_answers.specs.declared.side.Side.TheVariants.{Left, Right}
+use Rattle.yaml_graph.specs.GraphView.{nodes_of}
+use Rattle.yaml_graph.specs.JoinModel.{Joined}
+use Rattle.yaml_graph.specs.declared.graph.Graph.{Graph}
+use Rattle.yaml_rank.specs.RanksView.{RefusesGraph}
+use Rattle.yaml_text.specs.declared.side.Side.{Side}
+use Rattle.yaml_text.specs.declared.side.Side.TheVariants.{Left, Right}
 use Rattle.yaml_canon.specs.Claims.{MeansAlone, IsRead, CanonicalRefuses}
 
 -- The two streams are accepted, and the answer is whether they have equally many documents, pairwise the same.

@@ -7,9 +7,9 @@ use Rattle.yaml_text.specs.Place.{place}
 use Rattle.yaml_text.specs.declared.fault.Fault.{Fault}
 use Rattle.yaml_text.specs.declared.fault.Fault.TheVariants.{Syntax, Tab, KeyTooLong, TooDeep, BadEscape, BadDirective, UnknownHandle, BadTag}
 use Rattle.yaml_text.specs.declared.counted.Counted.{Counted}
-use Rattle.yaml_answers.specs.Gathering.{Gathers}
-use Rattle.yaml_answers.specs.declared.side.Side.{Side}
-use Rattle.yaml_answers.specs.declared.side.Side.TheVariants.{Left, Right}
+use Rattle.yaml_text.specs.Gathering.{Gathers}
+use Rattle.yaml_text.specs.declared.side.Side.{Side}
+use Rattle.yaml_text.specs.declared.side.Side.TheVariants.{Left, Right}
 
 -- the offset that a fault of reading names, and the character that stands there: a tab, a `\`, a `%` or a `!` where it is one of these
 abbrev pub told_place : Fault → Option (ℕ × Option ℕ)

@@ -5,9 +5,9 @@ use Rattle.yaml_definitions.specs.model.Tree.{Tree}
 use Rattle.yaml_definitions.specs.model.Order.{arranged}
 use Rattle.yaml_definitions.specs.model.Same.{Same, Keyed}
 use Rattle.yaml_definitions.specs.model.Means.{Means}
-use Rattle.yaml_nodes.specs.GraphModel.{tree_at, AreLow}
+use Rattle.yaml_graph.specs.GraphModel.{tree_at, AreLow}
 use Rattle.yaml_spell.specs.RankedNodes.{Rooted}
-use Rattle.yaml_compact.specs.Walked.{StandsFor, walked_tree}
+use Rattle.yaml_store_rank.specs.Walked.{StandsFor, walked_tree}
 use Rattle.yaml_canon.specs.declared.ranks.RankedForest.{RankedForest}
 
 -- No mapping of these trees has two keys that are the same. The roots are ranks of nodes, and stand for the trees, arranged. Two of them are one rank exactly if their trees are the same.

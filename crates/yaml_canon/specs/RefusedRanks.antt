@@ -4,10 +4,10 @@ use Rattle.std.specs.List.{slice_get}
 use Rattle.yaml_definitions.specs.model.Serial.{Document}
 use Rattle.yaml_text.specs.declared.fault.Fault.{Fault}
 use Rattle.yaml_text.specs.declared.fault.Fault.TheVariants.{EqualKeys, OutOfMemory}
-use Rattle.yaml_nodes.specs.declared.graph.Graph.{Graph}
+use Rattle.yaml_graph.specs.declared.graph.Graph.{Graph}
 use Rattle.yaml_graph.specs.Composed.{Composed}
-use Rattle.yaml_levels.specs.RanksView.{RefusesGraph}
-use Rattle.law_closing.specs.Laws.{HaveJoined}
+use Rattle.yaml_rank.specs.RanksView.{RefusesGraph}
+use Rattle.law_store_keys.specs.Laws.{HaveJoined}
 
 -- Equal keys of a node are told of the one that it stands for first; where that is not known, memory is wanting.
 abbrev pub IsInStream : List ℕ → Fault → Fault → Type 0

@@ -1,6 +1,6 @@
 -- What is in the room that a caller gives for a canonical text.
 use Rattle.std.specs.Prelude.{◌≡◌, ℕ, List}
-use Rattle.yaml_answers.specs.Rooms.{Places}
+use Rattle.yaml_text.specs.Rooms.{Places}
 use Rattle.yaml_canon.specs.Claims.{IsCanonicalText}
 use Rattle.yaml_canon.specs.declared.placing.Buffer.{Buffer}
 

@@ -5,8 +5,8 @@ use Rattle.yaml_text.specs.declared.fault.Fault.{Fault}
 use Rattle.yaml_text.specs.declared.fault.Fault.TheVariants.{TooLong, OutOfMemory, ReadFault, WriteFault}
 use Rattle.yaml_text.specs.declared.counted.Counted.{Counted}
 use Rattle.yaml_canon.specs.Claims.{IsCanonicalText, CanonicalRefuses}
-use Rattle.yaml_answers.specs.Gathering.{Gathers, FailsReading}
-use Rattle.yaml_answers.specs.Writers.{Printed, Broken}
+use Rattle.yaml_text.specs.Gathering.{Gathers, FailsReading}
+use Rattle.yaml_text.specs.Writers.{Printed, Broken}
 
 module _ {W : Type 0} (contents : W → Option (List ℕ)) where
   -- the canonical text of the bytes was written

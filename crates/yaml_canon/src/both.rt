@@ -1,6 +1,6 @@
 //! Two streams in one store.
 ghost use Rattle.std.specs.Prelude.{◌≡◌, ◌++◌, ℕ, List, [], IfOk, IfErr};
-ghost use Rattle.yaml_nodes.specs.GraphView.{forest as root_trees};
+ghost use Rattle.yaml_graph.specs.GraphView.{forest as root_trees};
 ghost use Rattle.yaml_canon.specs.Both.{HasBoth, HaveRanks};
 ghost use Rattle.yaml_canon.specs.Two.{KeepsBoth};
 ghost use Rattle.yaml_canon.specs.Comparing.{IsComposed};
@@ -11,10 +11,10 @@ use crate::ranks::{RankedForest, ranked_roots};
 use crate::sides::with_side;
 use crate::two::Two;
 use std::alloc::Global;
-use yaml_answers::Side;
-use yaml_compose::{Composing, Forest, StreamSize};
 use yaml_graph::graph::Graph;
 use yaml_sink::sink::Keeper;
+use yaml_store_composer::{Composing, Forest, StreamSize};
+use yaml_text::Side;
 use yaml_text::fault::Fault;
 
 /// The nodes of two streams: the roots of the left one, and then those of the right one.

@@ -15,9 +15,9 @@ ghost use Rattle.yaml_canon.specs.Claims.{GraphRefuses};
 ghost use Rattle.yaml_canon.specs.Refused.{Refuses};
 
 use std::alloc::Global;
-use yaml_compose::{Composing, Forest};
 use yaml_read::read_into;
 use yaml_sink::sink::{Keeper, Sink};
+use yaml_store_composer::{Composing, Forest};
 use yaml_text::chars::Chars;
 use yaml_text::fault::Fault;
 

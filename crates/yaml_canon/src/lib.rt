@@ -18,6 +18,6 @@ pub use canonical_text::canonical;
 pub use placing::canonical_into;
 pub use run::run_canonical;
 pub use same_streams::same;
-pub use yaml_answers::{Side, gather, gathering, side};
 pub use yaml_spell::spell;
 pub use yaml_spell::spell::canonical_len;
+pub use yaml_text::{Side, gather, gathering, side};

@@ -14,7 +14,7 @@ ghost use Rattle.yaml_spell.specs.RankedNodes.{Rooted, tree_of};
 ghost use Rattle.yaml_canon.specs.Claims.{CanonicalRefuses};
 ghost use Rattle.yaml_canon.specs.FaultPlaces.{TellsPlace};
 ghost use Rattle.yaml_canon.specs.Accepting.{IsSpelling, IsMemory};
-ghost use Rattle.yaml_answers.specs.Rooms.{Places};
+ghost use Rattle.yaml_text.specs.Rooms.{Places};
 ghost use Rattle.yaml_canon.specs.Rooms.{PlacesCanonical};
 
 use crate::target::{Target, spell_stream};

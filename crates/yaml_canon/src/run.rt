@@ -4,20 +4,20 @@ ghost use Rattle.yaml_text.specs.CountedModel.{faults_of};
 ghost use Rattle.yaml_spell.specs.Documents.{arranged_bytes};
 ghost use Rattle.yaml_spell.specs.RankedNodes.{Rooted, tree_of};
 ghost use Rattle.yaml_spell.specs.NamesView.{ranks_in};
-ghost use Rattle.yaml_answers.specs.Writers.{Printed, Broken};
+ghost use Rattle.yaml_text.specs.Writers.{Printed, Broken};
 ghost use Rattle.yaml_canon.specs.FaultPlaces.{TellsPlace, TellsReadPlace};
 ghost use Rattle.yaml_canon.specs.Runs.{WritesCanonical, WriteRefuses, RunsWhole, RunFails};
 
 use crate::target::{Target, spell_stream};
 use std::alloc::Global;
 use std::io::{Read, Write};
-use yaml_answers::gather;
 use yaml_spell::names::Names;
 use yaml_spell::page::Page;
 use yaml_spell::ranked::RankedNodes;
 use yaml_spell::spell::{ranked_len, write_ranked};
 use yaml_text::counted::Counted;
 use yaml_text::fault::Fault;
+use yaml_text::gather;
 use yaml_text::limits::text_limit;
 
 /// Writes the text of the documents of these roots page by page, and flushes. It takes no memory,
@@ -47,7 +47,7 @@ fn write_pages<I: Copy, V: RankedNodes<I>, W: Write>(
 impl<W: Write> Target for Counted<W> {
     ghost use Rattle.std.specs.Prelude.{◌<◌, ◌-◌, ◌^◌};
     ghost use Rattle.yaml_text.specs.CountedModel.{faults_of};
-    ghost use Rattle.yaml_answers.specs.Writers.{Printed, Broken};
+    ghost use Rattle.yaml_text.specs.Writers.{Printed, Broken};
 
     type Answer = ();
 

@@ -5,7 +5,7 @@ ghost use Rattle.yaml_canon.specs.Comparing.{Compares};
 
 use crate::both::ranked_both;
 use std::alloc::Global;
-use yaml_answers::Side;
+use yaml_text::Side;
 use yaml_text::fault::Fault;
 
 /// Whether two streams have equally many roots, of the same ranks. A fault names the side.

@@ -7,14 +7,14 @@ ghost use Rattle.yaml_definitions.specs.model.Same.{Alike};
 ghost use Rattle.yaml_definitions.specs.model.Tree.{Tree};
 ghost use Rattle.yaml_definitions.specs.model.Proper.{Admitted};
 ghost use Rattle.yaml_definitions.specs.model.Means.{Means};
-ghost use Rattle.yaml_answers.specs.declared.side.Side.TheVariants.{Left, Right};
+ghost use Rattle.yaml_text.specs.declared.side.Side.TheVariants.{Left, Right};
 ghost use Rattle.yaml_canon.specs.FaultPlaces.{TellsSidesPlace};
 ghost use Rattle.yaml_canon.specs.Comparing.{Compares, ComparerRefuses};
 ghost use Rattle.yaml_canon.specs.Accepting.{IsSpelling, IsMemory, TellsTexts};
 
 use crate::same_ranks::have_same_ranks;
 use std::alloc::Global;
-use yaml_answers::Side;
+use yaml_text::Side;
 use yaml_text::fault::Fault;
 
 /// Whether two streams have equally many documents that are pairwise equal: aliases replaced, mappings as sets of entries,

@@ -2,7 +2,7 @@
 ghost use Rattle.std.specs.Prelude.{◌≡◌};
 ghost use Rattle.yaml_canon.specs.Comparing.{side_of_fault};
 
-use yaml_answers::Side;
+use yaml_text::Side;
 use yaml_text::fault::Fault;
 
 /// The side of a fault of the joined graph, of which so many nodes are the left side's. A mapping

@@ -6,24 +6,24 @@ use Rattle.yaml_text.specs.declared.fault.Fault.{Fault}
 use Rattle.yaml_text.specs.declared.fault.Fault.TheVariants.{TooLong, OutOfMemory, ReadFault, WriteFault}
 use Rattle.yaml_text.specs.declared.counted.Counted.{Counted}
 use Rattle.yaml_text.specs.CountedModel.{inner_of}
-use Rattle.yaml_answers.specs.declared.side.Side.{Side}
+use Rattle.yaml_text.specs.declared.side.Side.{Side}
 use Rattle.yaml_canon.specs.Comparing.{Compares}
 use Rattle.yaml_canon.specs.Runs.{RunFails}
-use Rattle.yaml_answers.specs.Writers.{Broken}
-use Rattle.yaml_report.specs.declared.refusal.Refusal.{Refusal}
-use Rattle.yaml_report.specs.declared.refusal.Refusal.TheVariants.{Words, CannotOpen, Input, OneSide, EventText, EventLines}
-use Rattle.yaml_words.specs.declared.words.Asked.{Asked}
-use Rattle.yaml_words.specs.declared.words.Asked.TheVariants.{Canon, Same, Events, Check}
-use Rattle.yaml_words.specs.declared.words.WordsFault.{WordsFault}
-use Rattle.yaml_report.specs.EventRuns.{EventsFail}
-use Rattle.yaml_report.specs.Printing.{PrintFails}
-use Rattle.yaml_report.specs.Matched.{MatchFails}
+use Rattle.yaml_text.specs.Writers.{Broken}
+use Rattle.yaml_command.specs.declared.refusal.Refusal.{Refusal}
+use Rattle.yaml_command.specs.declared.refusal.Refusal.TheVariants.{Words, CannotOpen, Input, OneSide, EventText, EventLines}
+use Rattle.yaml_args.specs.declared.words.Asked.{Asked}
+use Rattle.yaml_args.specs.declared.words.Asked.TheVariants.{Canon, Same, Events, Check}
+use Rattle.yaml_args.specs.declared.words.WordsFault.{WordsFault}
+use Rattle.yaml_command.specs.EventRuns.{EventsFail}
+use Rattle.yaml_command.specs.Printing.{PrintFails}
+use Rattle.yaml_command.specs.Matched.{MatchFails}
 use Rattle.yaml_command.specs.Judged.{same_line, SameFails, Silent}
-use Rattle.yaml_report.specs.Shelves.{IsOf, InputUnread, SideUnread, LinesUnread}
-use Rattle.yaml_report.specs.Statuses.{answer_status, fault_status, refusal_status}
-use Rattle.yaml_words.specs.Words.{Asks}
+use Rattle.yaml_command.specs.Shelves.{IsOf, InputUnread, SideUnread, LinesUnread}
+use Rattle.yaml_command.specs.Statuses.{answer_status, fault_status, refusal_status}
+use Rattle.yaml_args.specs.Words.{Asks}
 use Rattle.yaml_command.specs.Commands.{judged_status, BytesFail, EventsOfFail, DoesNot, WordsNotDone}
-use Rattle.yaml_report.proofs.FileLaws.{gathered, file_fails}
+use Rattle.yaml_command.proofs.FileLaws.{gathered, file_fails}
 
 -- the status of an answer keeps its refusal
 pub judged_unmatched : (Q : Refusal → Type 0) (r : Result Bool Refusal) → IfErr r Q → IfErr (judged_status r) Q

@@ -1,1 +1,5 @@
+pub mod FileLaws
+mod EventLaws
+mod PageLaws
+mod LineLaws
 mod Answering

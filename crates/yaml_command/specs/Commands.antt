@@ -4,21 +4,21 @@ use Rattle.yaml_text.specs.declared.fault.Fault.{Fault}
 use Rattle.yaml_text.specs.declared.fault.Fault.TheVariants.{WriteFault}
 use Rattle.yaml_text.specs.declared.counted.Counted.{Counted}
 use Rattle.yaml_text.specs.CountedModel.{inner_of, faults_of}
-use Rattle.yaml_answers.specs.declared.side.Side.TheVariants.{Left, Right}
+use Rattle.yaml_text.specs.declared.side.Side.TheVariants.{Left, Right}
 use Rattle.yaml_canon.specs.Runs.{WritesCanonical, WriteRefuses, RunsWhole, RunFails}
-use Rattle.yaml_answers.specs.Writers.{Printed, Broken}
-use Rattle.yaml_report.specs.EventRuns.{EventsPrinted, EventsFail}
+use Rattle.yaml_text.specs.Writers.{Printed, Broken}
+use Rattle.yaml_command.specs.EventRuns.{EventsPrinted, EventsFail}
 use Rattle.yaml_event_text.specs.EventTextAnswer.{IsEventText, IsUnread}
-use Rattle.yaml_report.specs.Matched.{PrintsMatch, MatchFails}
+use Rattle.yaml_command.specs.Matched.{PrintsMatch, MatchFails}
 use Rattle.yaml_command.specs.Judged.{PrintsSame, SameFails}
-use Rattle.yaml_report.specs.Refusals.{Told}
-use Rattle.yaml_report.specs.Shelves.{IsOf, InputUnread, SideUnread, LinesUnread}
-use Rattle.yaml_report.specs.Statuses.{refusal_status}
-use Rattle.yaml_words.specs.Words.{Asks, RefusesWords}
-use Rattle.yaml_words.specs.declared.words.Asked.{Asked}
-use Rattle.yaml_words.specs.declared.words.Asked.TheVariants.{Canon, Same, Events, Check}
-use Rattle.yaml_report.specs.declared.refusal.Refusal.{Refusal}
-use Rattle.yaml_report.specs.declared.refusal.Refusal.TheVariants.{Words, Input}
+use Rattle.yaml_command.specs.Refusals.{Told}
+use Rattle.yaml_command.specs.Shelves.{IsOf, InputUnread, SideUnread, LinesUnread}
+use Rattle.yaml_command.specs.Statuses.{refusal_status}
+use Rattle.yaml_args.specs.Words.{Asks, RefusesWords}
+use Rattle.yaml_args.specs.declared.words.Asked.{Asked}
+use Rattle.yaml_args.specs.declared.words.Asked.TheVariants.{Canon, Same, Events, Check}
+use Rattle.yaml_command.specs.declared.refusal.Refusal.{Refusal}
+use Rattle.yaml_command.specs.declared.refusal.Refusal.TheVariants.{Words, Input}
 
 -- the status of a command that writes a text
 abbrev pub written_status : {T : Type 0} → Result T Fault → Result ℕ Refusal

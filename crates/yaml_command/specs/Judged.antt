@@ -2,10 +2,10 @@
 use Rattle.std.specs.Prelude.{◌≡◌, ℕ, Bool, cond, List, Option, codes}
 use Rattle.yaml_text.specs.declared.fault.Fault.TheVariants.{WriteFault}
 use Rattle.yaml_text.specs.declared.counted.Counted.{Counted}
-use Rattle.yaml_answers.specs.Writers.{Printed, Broken}
+use Rattle.yaml_text.specs.Writers.{Printed, Broken}
 use Rattle.yaml_canon.specs.Comparing.{Compares, ComparerRefuses}
-use Rattle.yaml_report.specs.declared.refusal.Refusal.{Refusal}
-use Rattle.yaml_report.specs.declared.refusal.Refusal.TheVariants.{Input, OneSide}
+use Rattle.yaml_command.specs.declared.refusal.Refusal.{Refusal}
+use Rattle.yaml_command.specs.declared.refusal.Refusal.TheVariants.{Input, OneSide}
 
 -- the line that `same` writes
 abbrev pub same_line : Bool → List ℕ

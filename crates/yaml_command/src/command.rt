@@ -1,24 +1,24 @@
 //! The commands.
 ghost use Rattle.std.specs.Prelude.{◌≡◌, ◌⊎◌, ◌≤◌, ◌<◌, ◌-◌, ◌^◌, ℕ, List, None, IfOk, IfErr, map, string_bytes};
 ghost use Rattle.yaml_text.specs.CountedModel.{faults_of};
-ghost use Rattle.yaml_answers.specs.Writers.{Broken};
+ghost use Rattle.yaml_text.specs.Writers.{Broken};
 ghost use Rattle.yaml_command.specs.Commands.{written_status, judged_status, Does, DoesNot, WordsDone, WordsNotDone, Tells, RunTells};
 ghost use Rattle.yaml_command.specs.Judged.{Silent};
-ghost use Rattle.yaml_report.specs.Refusals.{Told};
-ghost use Rattle.yaml_report.specs.Statuses.{answer_status};
+ghost use Rattle.yaml_command.specs.Refusals.{Told};
+ghost use Rattle.yaml_command.specs.Statuses.{answer_status};
 
+use crate::events::events;
 use crate::files::{canon_file, compare_files, events_of_file, match_files};
+use crate::line::tell;
+use crate::refusal::Refusal;
+use crate::shelf::{Host, Shelf};
 use std::alloc::Global;
 use std::io::{Read, Write};
 use std::rt::Files;
+use yaml_args::{Asked, read_words};
 use yaml_canon::run_canonical;
-use yaml_report::events::events;
-use yaml_report::line::tell;
-use yaml_report::refusal::Refusal;
-use yaml_report::shelf::{Host, Shelf};
 use yaml_text::counted::Counted;
 use yaml_text::fault::Fault;
-use yaml_words::{Asked, read_words};
 
 /// The status of a command that did what it was asked.
 const DONE: u8 = 0;

@@ -3,11 +3,11 @@ ghost use Rattle.std.specs.Prelude.{◌≡◌, ◌<◌, ◌-◌, ◌^◌, IfOk, 
 ghost use Rattle.yaml_text.specs.CountedModel.{faults_of};
 ghost use Rattle.yaml_command.specs.Judged.{same_line, PrintsSame, SameFails};
 
+use crate::refusal::Refusal;
+use crate::streams::write_out;
 use std::alloc::Global;
 use std::io::Write;
 use yaml_canon::same;
-use yaml_report::refusal::Refusal;
-use yaml_report::streams::write_out;
 use yaml_text::counted::Counted;
 
 /// The line that tells the answer.

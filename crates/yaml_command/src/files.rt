@@ -4,17 +4,17 @@ ghost use Rattle.yaml_text.specs.CountedModel.{faults_of};
 ghost use Rattle.yaml_command.specs.Commands.{FileCanonical, FileEvents, FilesCompared, FilesMatched, FileNotCanonical, FileHasNoEvents, FilesNotCompared, FilesNotMatched};
 ghost use Rattle.yaml_command.specs.Judged.{Silent};
 
+use crate::check::print_match;
 use crate::compare::print_same;
+use crate::events::events;
+use crate::inputs::{read_input, read_lines, read_side};
+use crate::refusal::Refusal;
+use crate::shelf::Shelf;
+use crate::streams::open;
 use std::alloc::Global;
 use std::io::Write;
-use yaml_answers::Side;
 use yaml_canon::run_canonical;
-use yaml_report::check::print_match;
-use yaml_report::events::events;
-use yaml_report::inputs::{read_input, read_lines, read_side};
-use yaml_report::refusal::Refusal;
-use yaml_report::shelf::Shelf;
-use yaml_report::streams::open;
+use yaml_text::Side;
 use yaml_text::counted::Counted;
 
 /// Writes a file's canonical text.

@@ -1,8 +1,15 @@
-//! The commands of the program `yamlcanon`, over streams and files that are passed in.
+//! The commands of the program `yamlcanon`, over streams and files that are passed in: reading inputs, event lines, the line of a
+//! rejection, and the exit status.
 #![tactic(auto)]
 
+pub mod check;
 pub mod command;
 mod compare;
+pub mod events;
 mod files;
-
-pub use yaml_report::{line, refusal, shelf, streams};
+pub mod inputs;
+pub mod line;
+mod pages;
+pub mod refusal;
+pub mod shelf;
+pub mod streams;

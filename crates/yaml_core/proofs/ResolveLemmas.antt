@@ -6,16 +6,16 @@ use lib.Pointwise.{bytes_decides}
 use Rattle.yaml_definitions.specs.model.Tag.{core_tag, null_tag, bool_tag, int_tag, float_tag, seq_tag, map_tag}
 use Rattle.yaml_definitions.specs.model.Core.{wrong_kind, bad_content, Value, null_of, bool_of, int_of, float_of, as_bool, as_int, Resolved, by_pattern, by_table, by_tag}
 use Rattle.yaml_definitions.proofs.CoreLaws.{pattern_parts, wrong}
-use Rattle.yaml_content.specs.Form.{form_kind, form_of}
-use Rattle.yaml_content.specs.Kind.{kind_tag, of_kind, use_of, has_value}
-use Rattle.yaml_content.specs.Values.{HasValues}
-use Rattle.yaml_content.specs.declared.kind.PlainKind.{PlainKind}
-use Rattle.yaml_content.specs.declared.kind.PlainKind.TheVariants as kinds
-use Rattle.yaml_content.specs.declared.form.Form.{Form}
-use Rattle.yaml_content.specs.declared.form.Form.TheVariants as forms
-use Rattle.yaml_content.specs.declared.tag.TagUse.{TagUse}
-use Rattle.yaml_content.specs.declared.tag.TagUse.TheVariants as uses
-use Rattle.yaml_content.proofs.FormLemmas.{values}
+use Rattle.yaml_core.specs.Form.{form_kind, form_of}
+use Rattle.yaml_core.specs.Kind.{kind_tag, of_kind, use_of, has_value}
+use Rattle.yaml_core.specs.Values.{HasValues}
+use Rattle.yaml_core.specs.declared.kind.PlainKind.{PlainKind}
+use Rattle.yaml_core.specs.declared.kind.PlainKind.TheVariants as kinds
+use Rattle.yaml_core.specs.declared.form.Form.{Form}
+use Rattle.yaml_core.specs.declared.form.Form.TheVariants as forms
+use Rattle.yaml_core.specs.declared.tag.TagUse.{TagUse}
+use Rattle.yaml_core.specs.declared.tag.TagUse.TheVariants as uses
+use Rattle.yaml_core.proofs.FormLemmas.{values}
 
 -- ---- by the table
 

@@ -4,14 +4,14 @@ use Rattle.std.specs.Prelude.{Option, Some, None, Result, Ok, Err, OnOk}
 use Rattle.yaml_text.specs.declared.fault.Fault.{Fault}
 use Rattle.std.specs.List.{slice_get}
 use Rattle.std.proofs.lemmas.List.{append_assoc}
-use Rattle.yaml_nodes.specs.declared.node.NodeId.{NodeId}
-use Rattle.yaml_nodes.proofs.GraphLaws.{get-more}
-use Rattle.yaml_levels.specs.declared.ranks.Ranks.{Ranks}
+use Rattle.yaml_graph.specs.declared.node.NodeId.{NodeId}
+use Rattle.yaml_graph.proofs.GraphLaws.{get-more}
+use Rattle.yaml_rank.specs.declared.ranks.Ranks.{Ranks}
 use Rattle.yaml_path.specs.Ways.{left_place, right_place, put_before, places_by, numbers, turns}
 use Rattle.yaml_path.specs.declared.places.Places.{Places}
 use Rattle.yaml_path.specs.declared.places.Places.TheVariants.{Both, Left, Right}
 use Rattle.std.proofs.lemmas.Option.{slice_get_within, get_or_from_slice_get, slice_get-get_or}
-use Rattle.yaml_levels.specs.RanksView.{rank_of}
+use Rattle.yaml_rank.specs.RanksView.{rank_of}
 use Rattle.yaml_diff.specs.Found.{Aligns, SameRanks}
 use Rattle.yaml_diff.specs.Aligning.{IsFront, IsBack, AlignsFrom}
 use Rattle.yaml_diff.proofs.ListParts.{get-behind}

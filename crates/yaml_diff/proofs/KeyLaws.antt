@@ -6,14 +6,14 @@ use Rattle.std.proofs.lemmas.Option.{slice_get_within}
 use Rattle.yaml_definitions.specs.model.Tree.{Tree, entry}
 use Rattle.yaml_definitions.specs.model.Same.{same}
 use Rattle.yaml_definitions.proofs.Equivalence.{same_sym}
-use Rattle.yaml_nodes.specs.TreeLists.{pairs}
-use Rattle.yaml_nodes.specs.GraphModel.{Entries}
-use Rattle.yaml_nodes.specs.GraphView.{nodes_of, tree}
-use Rattle.yaml_nodes.specs.declared.node.NodeId.{NodeId}
-use Rattle.yaml_nodes.specs.declared.graph.Graph.{Graph}
-use Rattle.yaml_nodes.proofs.GraphLaws.{get-more}
-use Rattle.yaml_levels.specs.RanksView.{RanksAre}
-use Rattle.yaml_levels.specs.declared.ranks.Ranks.{Ranks}
+use Rattle.yaml_graph.specs.TreeLists.{pairs}
+use Rattle.yaml_graph.specs.GraphModel.{Entries}
+use Rattle.yaml_graph.specs.GraphView.{nodes_of, tree}
+use Rattle.yaml_graph.specs.declared.node.NodeId.{NodeId}
+use Rattle.yaml_graph.specs.declared.graph.Graph.{Graph}
+use Rattle.yaml_graph.proofs.GraphLaws.{get-more}
+use Rattle.yaml_rank.specs.RanksView.{RanksAre}
+use Rattle.yaml_rank.specs.declared.ranks.Ranks.{Ranks}
 use Rattle.yaml_path.specs.Path.{part}
 use Rattle.yaml_path.specs.Path as plain
 use Rattle.yaml_path.specs.Ways.{Step, at_places, at_key, EndsPaired, StepBefore, count, join, key_place, pairs_in}

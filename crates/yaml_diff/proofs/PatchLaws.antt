@@ -7,8 +7,8 @@ use lib.Pointwise.{bytes_decides}
 use Rattle.yaml_definitions.specs.model.Tree.{Tree, scalar, sequence, mapping, end, item}
 use Rattle.yaml_definitions.specs.model.Same.{same, same_trees, Same, Keyed, Alike}
 use Rattle.yaml_definitions.proofs.Members.{and_both, both_and}
-use Rattle.yaml_nodes.specs.TreeLists.{trees}
-use Rattle.yaml_nodes.specs.declared.graph.Graph.{Graph}
+use Rattle.yaml_graph.specs.TreeLists.{trees}
+use Rattle.yaml_graph.specs.declared.graph.Graph.{Graph}
 use Rattle.yaml_path.specs.Path.{part_of, head, head_of, item_in}
 use Rattle.yaml_path.specs.Path as plain
 use Rattle.yaml_path.specs.Ways.{Step, at_places, at_key, Way, Pairing, PairsAll, SettlesAll, Each, Rises, Reaches, below, turns, Allows, AllowsWay, Takes, Differs, EndsPaired, EndsAlong, SameItems, AlikeWay, left_part, right_part, left_end, right_end, left_place, right_place, count}

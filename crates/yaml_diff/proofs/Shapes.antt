@@ -10,19 +10,19 @@ use Rattle.yaml_definitions.specs.model.Tree.{Tree, Pairs, sequence, mapping}
 use Rattle.yaml_definitions.specs.model.Same.{same, keyed, keyed_pairs}
 use Rattle.yaml_definitions.proofs.Members.{In, all_in}
 use Rattle.yaml_definitions.proofs.SameLaws.{keyed_parts}
-use Rattle.yaml_nodes.specs.TreeLists.{trees, pairs}
-use Rattle.yaml_nodes.specs.GraphModel.{Entries, node_tree, kind_tree, entries_of}
-use Rattle.yaml_nodes.specs.GraphView.{nodes_of, graph_trees, tree}
-use Rattle.yaml_nodes.proofs.GraphLaws.{node-tree}
-use Rattle.yaml_nodes.specs.declared.node.NodeId.{NodeId}
-use Rattle.yaml_nodes.specs.declared.node.Node.{Node}
-use Rattle.yaml_nodes.specs.declared.node.NodeKind.{NodeKind}
-use Rattle.yaml_nodes.specs.declared.node.NodeKind.TheVariants as kinds
-use Rattle.yaml_nodes.specs.declared.graph.Graph.{Graph}
+use Rattle.yaml_graph.specs.TreeLists.{trees, pairs}
+use Rattle.yaml_graph.specs.GraphModel.{Entries, node_tree, kind_tree, entries_of}
+use Rattle.yaml_graph.specs.GraphView.{nodes_of, graph_trees, tree}
+use Rattle.yaml_graph.proofs.GraphLaws.{node-tree}
+use Rattle.yaml_graph.specs.declared.node.NodeId.{NodeId}
+use Rattle.yaml_graph.specs.declared.node.Node.{Node}
+use Rattle.yaml_graph.specs.declared.node.NodeKind.{NodeKind}
+use Rattle.yaml_graph.specs.declared.node.NodeKind.TheVariants as kinds
+use Rattle.yaml_graph.specs.declared.graph.Graph.{Graph}
 use Rattle.std.proofs.lemmas.Option.{slice_get_within, get_or_from_slice_get, slice_get-get_or}
-use Rattle.yaml_levels.specs.RankModel.{SortsEntries}
-use Rattle.yaml_levels.specs.RanksView.{RanksAre, rank_of, sorted_of}
-use Rattle.yaml_levels.specs.declared.ranks.Ranks.{Ranks}
+use Rattle.yaml_rank.specs.RankModel.{SortsEntries}
+use Rattle.yaml_rank.specs.RanksView.{RanksAre, rank_of, sorted_of}
+use Rattle.yaml_rank.specs.declared.ranks.Ranks.{Ranks}
 use Rattle.yaml_path.specs.Path.{at_item, at_key, Head, scalar_head, sequence_head, mapping_head, head, part, item_in}
 use Rattle.yaml_path.proofs.PathLaws.{found_in, in_found}
 use Rattle.yaml_diff.specs.Lines.{tree_of, trees_of}
@@ -76,7 +76,7 @@ module _ (g : Graph) (r : Ranks) (are : RanksAre g r) where
   entry-within i entries h l k p e =
       let b = (g.grounded i h.node h.is).1 in
       let q = at-place (λ p. (p.0.0 < i) × (p.1.0 < i)) h.list.items k p (subst (λ z. slice_get z k ≡ Some p) h.listed e) in
-      q (subst (λ z. Rattle.std.specs.List.All (λ p. (p.0.0 < i) × (p.1.0 < i)) (Rattle.yaml_nodes.specs.GraphModel.entries_of z)) h.kind b)
+      q (subst (λ z. Rattle.std.specs.List.All (λ p. (p.0.0 < i) × (p.1.0 < i)) (Rattle.yaml_graph.specs.GraphModel.entries_of z)) h.kind b)
     where
       at-place : {X : Type 0} (P : X → Type 0) (xs : List X) (k : ℕ) (x : X) → slice_get xs k ≡ Some x → Rattle.std.specs.List.All P xs → P x
       at-place P [] k x e a = absurd (cc)

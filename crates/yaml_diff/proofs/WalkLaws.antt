@@ -14,15 +14,15 @@ use Rattle.yaml_definitions.specs.model.Tree.{Tree}
 use Rattle.yaml_definitions.specs.model.Same.{same}
 use Rattle.yaml_definitions.proofs.Equivalence.{same_refl, same_sym, same_trans}
 use Rattle.yaml_text.specs.declared.fault.Fault.{Fault}
-use Rattle.yaml_nodes.specs.GraphModel.{Entries, entries_of, items_of, node_tree, kind_tree}
-use Rattle.yaml_nodes.specs.GraphView.{nodes_of, graph_trees, tree}
-use Rattle.yaml_nodes.specs.declared.node.NodeId.{NodeId}
-use Rattle.yaml_nodes.specs.declared.node.Node.{Node}
-use Rattle.yaml_nodes.specs.declared.node.NodeKind.{NodeKind}
-use Rattle.yaml_nodes.specs.declared.node.NodeKind.TheVariants as kinds
-use Rattle.yaml_nodes.specs.declared.graph.Graph.{Graph}
-use Rattle.yaml_levels.specs.RanksView.{RanksAre, rank_of}
-use Rattle.yaml_levels.specs.declared.ranks.Ranks.{Ranks}
+use Rattle.yaml_graph.specs.GraphModel.{Entries, entries_of, items_of, node_tree, kind_tree}
+use Rattle.yaml_graph.specs.GraphView.{nodes_of, graph_trees, tree}
+use Rattle.yaml_graph.specs.declared.node.NodeId.{NodeId}
+use Rattle.yaml_graph.specs.declared.node.Node.{Node}
+use Rattle.yaml_graph.specs.declared.node.NodeKind.{NodeKind}
+use Rattle.yaml_graph.specs.declared.node.NodeKind.TheVariants as kinds
+use Rattle.yaml_graph.specs.declared.graph.Graph.{Graph}
+use Rattle.yaml_rank.specs.RanksView.{RanksAre, rank_of}
+use Rattle.yaml_rank.specs.declared.ranks.Ranks.{Ranks}
 use Rattle.yaml_path.specs.Path.{head, part, part_of, head_of}
 use Rattle.yaml_path.specs.Path as plain
 use Rattle.yaml_path.specs.Ways.{Step, at_places, at_key, Pairing, Allows, EndsPaired, AlikeStep, StepBefore, count, left_part, right_part, placed, left_place, right_place}

@@ -2,17 +2,17 @@
 use Rattle.std.specs.Prelude.{◌≡◌, ℕ, zero, suc, ◌+◌, ◌<◌, ◌≤◌, Bool, true, false, bytes_eq, List, [], ◌∷◌, Vec, map, length, Option, Some, None}
 use Rattle.std.specs.List.{slice_get}
 use Rattle.yaml_definitions.specs.model.Tree.{Tree}
-use Rattle.yaml_nodes.specs.GraphModel.{Entries}
+use Rattle.yaml_graph.specs.GraphModel.{Entries}
 use Rattle.std.proofs.Common.{Global}
 use Rattle.std.specs.Cow.{cow_str_bytes}
-use Rattle.yaml_nodes.specs.GraphView.{nodes_of}
-use Rattle.yaml_nodes.specs.declared.node.NodeId.{NodeId}
-use Rattle.yaml_nodes.specs.declared.node.Node.{Node}
-use Rattle.yaml_nodes.specs.declared.node.NodeKind.{NodeKind}
-use Rattle.yaml_nodes.specs.declared.node.NodeKind.TheVariants as kinds
-use Rattle.yaml_nodes.specs.declared.graph.Graph.{Graph}
-use Rattle.yaml_levels.specs.RanksView.{rank_of}
-use Rattle.yaml_levels.specs.declared.ranks.Ranks.{Ranks}
+use Rattle.yaml_graph.specs.GraphView.{nodes_of}
+use Rattle.yaml_graph.specs.declared.node.NodeId.{NodeId}
+use Rattle.yaml_graph.specs.declared.node.Node.{Node}
+use Rattle.yaml_graph.specs.declared.node.NodeKind.{NodeKind}
+use Rattle.yaml_graph.specs.declared.node.NodeKind.TheVariants as kinds
+use Rattle.yaml_graph.specs.declared.graph.Graph.{Graph}
+use Rattle.yaml_rank.specs.RanksView.{rank_of}
+use Rattle.yaml_rank.specs.declared.ranks.Ranks.{Ranks}
 use Rattle.yaml_path.specs.Ways.{Pairing, Each, Settles, InOrder, left_place, right_place}
 use Rattle.yaml_path.specs.declared.places.Places.{Places}
 use Rattle.yaml_path.specs.declared.places.Places.TheVariants.{Both}

@@ -3,10 +3,10 @@ use Rattle.std.specs.Prelude.{◌≡◌, ◌⊎◌, ℕ, ◌+◌, ◌<◌, ◌�
 use Rattle.std.specs.List.{slice_get}
 use Rattle.yaml_definitions.specs.model.Tree.{Tree}
 use Rattle.yaml_definitions.specs.model.Same.{Same}
-use Rattle.yaml_nodes.specs.GraphModel.{Entries}
-use Rattle.yaml_nodes.specs.GraphView.{tree}
-use Rattle.yaml_nodes.specs.declared.node.NodeId.{NodeId}
-use Rattle.yaml_nodes.specs.declared.graph.Graph.{Graph}
+use Rattle.yaml_graph.specs.GraphModel.{Entries}
+use Rattle.yaml_graph.specs.GraphView.{tree}
+use Rattle.yaml_graph.specs.declared.node.NodeId.{NodeId}
+use Rattle.yaml_graph.specs.declared.graph.Graph.{Graph}
 use Rattle.yaml_path.specs.Path.{part}
 use Rattle.yaml_path.specs.Path as plain
 use Rattle.yaml_path.specs.Ways.{Way, Pairing, PairsAll, Differs, at_places, at_key}

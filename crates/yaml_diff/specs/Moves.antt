@@ -2,7 +2,7 @@
 use Rattle.std.specs.Prelude.{◌≡◌, ℕ, Bool, true, List, [], ◌∷◌, ◌++◌, Option, Some, None}
 use Rattle.std.specs.List.{slice_get}
 use Rattle.yaml_definitions.specs.model.Tree.{Tree}
-use Rattle.yaml_nodes.specs.declared.graph.Graph.{Graph}
+use Rattle.yaml_graph.specs.declared.graph.Graph.{Graph}
 use Rattle.yaml_path.specs.Ways.{Way, Pairing, Reaches, Allows, EndsAlong, SettlesAll, InOrderAll, AlikeWay, at_places}
 use Rattle.yaml_path.specs.Ways as ways
 use Rattle.yaml_path.specs.declared.places.Places.{Places}

@@ -1,15 +1,15 @@
 //! Which items of two sequences are taken for each other.
 ghost use Rattle.std.specs.Prelude.{◌≡◌, ◌≤◌, ◌-◌, ◌++◌, IfOk, IfErr, OnOk};
 ghost use Rattle.yaml_path.specs.Ways.{turns};
-ghost use Rattle.yaml_levels.specs.RanksView.{numbers_of};
+ghost use Rattle.yaml_rank.specs.RanksView.{numbers_of};
 ghost use Rattle.yaml_diff.specs.Found.{Aligns};
 ghost use Rattle.yaml_diff.specs.Aligning.{AllRanked, IsFront, IsBack, AlignsFrom};
 
 use crate::anchors::anchors;
 use std::alloc::Global;
-use yaml_levels::ranks::Ranks;
-use yaml_nodes::node::NodeId;
+use yaml_graph::node::NodeId;
 use yaml_path::places::Places;
+use yaml_rank::ranks::Ranks;
 use yaml_text::fault::Fault;
 
 /// How the items of two sequences are taken for each other: steps with a place of both or of one, and the pairs among them that moved.

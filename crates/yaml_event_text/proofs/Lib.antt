@@ -1,1 +1,4 @@
+mod LineLaws
+mod SlotLaws
+mod StartLaws
 pub mod Reading

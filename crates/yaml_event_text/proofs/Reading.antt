@@ -13,7 +13,7 @@ use Rattle.yaml_text.specs.declared.fault.Fault.{Fault}
 use Rattle.yaml_text.specs.declared.fault.Fault.TheVariants as faults
 use Rattle.yaml_definitions.proofs.MeaningLaws.{readings_have_text}
 use Rattle.yaml_read.specs.Decided.{HasNoReading as NoReading}
-use Rattle.yaml_answers.proofs.UnreadLaws.{no_stream}
+use Rattle.yaml_text.proofs.UnreadLaws.{no_stream}
 use Rattle.yaml_event_text.specs.EventTextAnswer.{IsEventText, IsUnread}
 
 pub some_is : {A : Type 0} (P : A → Type 0) (o : Option A) (x : A) → o ≡ Some x → IfSome o P → P x

@@ -6,8 +6,8 @@ use Rattle.yaml_text.specs.Refused.{RefusesText}
 use Rattle.yaml_definitions.specs.grammar.Reading.{Reads}
 use Rattle.yaml_text.specs.declared.fault.Fault.{Fault}
 use Rattle.yaml_text.specs.declared.fault.Fault.TheVariants.{TooLong, NotUtf8, NotPrintable, Syntax, Tab, KeyTooLong, TooDeep, BadEscape, BadDirective, UnknownHandle, BadTag, OutOfMemory}
-use Rattle.yaml_answers.specs.Unread.{IsNoStream}
-use Rattle.yaml_answers.specs.Rooms.{Places}
+use Rattle.yaml_text.specs.Unread.{IsNoStream}
+use Rattle.yaml_text.specs.Rooms.{Places}
 
 -- the text is that of the events that the bytes are read to
 pub record IsEventText (bytes text : List ℕ) : Type 0 where

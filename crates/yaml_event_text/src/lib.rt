@@ -1,5 +1,10 @@
-//! The event lines of bytes: `event_text`, `event_text_into`.
+//! The event lines of bytes (`event_text`, `event_text_into`), and those of a checked text, written while it is read
+//! (`event_lines`).
 #![tactic(auto)]
+
+mod lines;
+mod slot;
+mod starts;
 
 ghost use Rattle.std.specs.Prelude.{◌≡◌, ℕ, List, map, IfOk, IfErr, OnErr};
 ghost use Rattle.std.specs.Result.{IsErrAnd};
@@ -8,11 +13,11 @@ ghost use Rattle.yaml_definitions.specs.model.EventText.{events_text};
 ghost use Rattle.yaml_definitions.specs.model.Text.{Text};
 ghost use Rattle.yaml_text.specs.EventModel.{event_of};
 ghost use Rattle.yaml_text.specs.Refused.{RefusesText};
-ghost use Rattle.yaml_answers.specs.Rooms.{Places};
+ghost use Rattle.yaml_text.specs.Rooms.{Places};
 ghost use Rattle.yaml_event_text.specs.EventTextAnswer.{IsEventText, IsUnread, PlacesEvents};
 
+pub use lines::event_lines;
 use std::alloc::Global;
-use yaml_event_lines::event_lines;
 use yaml_events::{fill_by_pages, fill_events, surely_fits, text_len, write_events};
 use yaml_read::read_events;
 use yaml_text::chars::Chars;

@@ -30,17 +30,17 @@ use Rattle.law_going_on.proofs.FlowStarts.{alias_left, no_json, yaml_propped, js
 use Rattle.law_going_on.proofs.PropertyChoices.{Second, rest_propped, plain_after, json_after, goes_gives, refused_gives}
 use Rattle.law_going_on.proofs.Separations.{rest_separate, refused_separate, lines_of}
 use Rattle.law_going_on.proofs.FlowLoops.{closes_fresh}
-use Rattle.yaml_line.specs.PropertyDecisions.{AllProperties, Barred, Stops, another, nothing, EndOf, LineGoesOn, IsRefused, IsOnly, DecidesNode}
-use Rattle.yaml_line.specs.NodeDecisions.{IsOpening, ContentOnly, ContentRefused}
-use Rattle.yaml_line.specs.NodeRules.{opens, below, content_at, content_from}
-use Rattle.yaml_line.specs.declared.flow.Kind as kinds
-use Rattle.yaml_line.specs.declared.flow.Kind.TheVariants.{Yaml, Json}
-use Rattle.yaml_line.specs.declared.flow.FlowNode.{FlowNode}
-use Rattle.yaml_line.proofs.PlainDecisions.{yaml_level, json_level}
-use Rattle.yaml_line.proofs.Deciding.{at_err, one_end, no_end}
-use Rattle.yaml_line.proofs.LineLemmas.{spaces_apart}
+use Rattle.yaml_layout.specs.PropertyDecisions.{AllProperties, Barred, Stops, another, nothing, EndOf, LineGoesOn, IsRefused, IsOnly, DecidesNode}
+use Rattle.yaml_layout.specs.NodeDecisions.{IsOpening, ContentOnly, ContentRefused}
+use Rattle.yaml_layout.specs.NodeRules.{opens, below, content_at, content_from}
+use Rattle.yaml_layout.specs.declared.flow.Kind as kinds
+use Rattle.yaml_layout.specs.declared.flow.Kind.TheVariants.{Yaml, Json}
+use Rattle.yaml_layout.specs.declared.flow.FlowNode.{FlowNode}
+use Rattle.yaml_layout.proofs.PlainDecisions.{yaml_level, json_level}
+use Rattle.yaml_layout.proofs.Deciding.{at_err, one_end, no_end}
+use Rattle.yaml_layout.proofs.LineLemmas.{spaces_apart}
 use Rattle.law_going_on.proofs.PropertyLines.{no_gap}
-use Rattle.yaml_line.proofs.PropertyDecisions.{no_more}
+use Rattle.yaml_layout.proofs.PropertyDecisions.{no_more}
 use Rattle.yaml_flow.proofs.ContentDecisions.{opening_kind}
 
 abbrev Wide : Type 0

@@ -23,13 +23,13 @@ use Rattle.law_going_on.proofs.FlowStarts.{single_left, double_left, sequence_le
 use Rattle.law_going_on.specs.GoingOn.{Refused, Goes, Here}
 use Rattle.law_going_on.proofs.PlainScalars.{plain_block_goes}
 use Rattle.law_going_on.proofs.FlowChoices.{plain_in_flow}
-use Rattle.yaml_line.specs.PropertyDecisions.{EndOf}
-use Rattle.yaml_line.specs.NodeDecisions.{IsOpening, ContentTaken, ContentRefused, ContentOnly, DecidesContent}
-use Rattle.yaml_line.specs.NodeRules.{opens, below, content_at}
-use Rattle.yaml_line.specs.declared.flow.Kind as kinds
-use Rattle.yaml_line.specs.declared.flow.FlowNode.{FlowNode}
-use Rattle.yaml_line.proofs.Deciding.{at_err, one_end, no_end}
-use Rattle.yaml_line.specs.declared.flow.Kind.TheVariants.{Yaml, Json}
+use Rattle.yaml_layout.specs.PropertyDecisions.{EndOf}
+use Rattle.yaml_layout.specs.NodeDecisions.{IsOpening, ContentTaken, ContentRefused, ContentOnly, DecidesContent}
+use Rattle.yaml_layout.specs.NodeRules.{opens, below, content_at}
+use Rattle.yaml_layout.specs.declared.flow.Kind as kinds
+use Rattle.yaml_layout.specs.declared.flow.FlowNode.{FlowNode}
+use Rattle.yaml_layout.proofs.Deciding.{at_err, one_end, no_end}
+use Rattle.yaml_layout.specs.declared.flow.Kind.TheVariants.{Yaml, Json}
 
 module _ (cs : List ℕ) where
   -- ---- aliases

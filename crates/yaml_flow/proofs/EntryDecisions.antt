@@ -23,11 +23,11 @@ use Rattle.law_going_on.specs.GoingOn.{Refused, Goes, Rest}
 use Rattle.law_going_on.specs.FlowEnds.{InFlow, EndsYaml, EndsJson}
 use Rattle.law_going_on.proofs.GoingOn.{rest_goes, rest_refused, rest_rest}
 use Rattle.law_going_on.proofs.FlowChoices as left
-use Rattle.yaml_line.specs.NodeRules.{part_of, opens, below}
+use Rattle.yaml_layout.specs.NodeRules.{part_of, opens, below}
 use Rattle.yaml_flow.specs.FlowRules.{entry_at, keyed_at, asked_at, value_at, SignAt, AskedAt, IsParted}
-use Rattle.yaml_line.specs.declared.flow.Kind as kinds
-use Rattle.yaml_line.specs.declared.flow.Kind.TheVariants.{Yaml, Json}
-use Rattle.yaml_line.proofs.NodeLemmas.{from_reads}
+use Rattle.yaml_layout.specs.declared.flow.Kind as kinds
+use Rattle.yaml_layout.specs.declared.flow.Kind.TheVariants.{Yaml, Json}
+use Rattle.yaml_layout.proofs.NodeLemmas.{from_reads}
 use Rattle.yaml_flow.proofs.PartDecisions.{OnlyIn, NoneIn, YamlIn, JsonIn, no_mark, no_asked_yaml, no_asked_json}
 use Rattle.yaml_flow.proofs.ItemDecisions.{explicit_rest, asked_explicit}
 

@@ -13,15 +13,15 @@ use Rattle.yaml_definitions.specs.grammar.Tags as tags
 use Rattle.yaml_definitions.specs.grammar.Events.{Props}
 use Rattle.law_one_reading.specs.Follows.{Solid}
 use Rattle.law_going_on.specs.GoingOn.{Refused, Here}
-use Rattle.yaml_line.specs.NodeAnswer.{Decides}
-use Rattle.yaml_line.specs.PropertyDecisions.{IsOnly, DecidesNode}
+use Rattle.yaml_layout.specs.NodeAnswer.{Decides}
+use Rattle.yaml_layout.specs.PropertyDecisions.{IsOnly, DecidesNode}
 use Rattle.yaml_flow.specs.FlowDecisions.{DecidesEach}
 use Rattle.yaml_flow.specs.FlowRules.{MayFollowColon, SignAt, IsParted}
-use Rattle.yaml_line.specs.declared.flow.Kind as kinds
-use Rattle.yaml_line.specs.declared.flow.Kind.TheVariants.{Yaml, Json}
-use Rattle.yaml_line.specs.declared.flow.FlowNode.{FlowNode}
-use Rattle.yaml_line.proofs.Deciding.{at_err}
-use Rattle.yaml_line.proofs.PropertyDecisions.{or_else}
+use Rattle.yaml_layout.specs.declared.flow.Kind as kinds
+use Rattle.yaml_layout.specs.declared.flow.Kind.TheVariants.{Yaml, Json}
+use Rattle.yaml_layout.specs.declared.flow.FlowNode.{FlowNode}
+use Rattle.yaml_layout.proofs.Deciding.{at_err}
+use Rattle.yaml_layout.proofs.PropertyDecisions.{or_else}
 use Rattle.yaml_flow.proofs.BareDecisions.{alias_only, alias_refused}
 use Rattle.yaml_flow.proofs.EntryDecisions.{char_inside, nb_question}
 

@@ -10,15 +10,15 @@ use Rattle.yaml_definitions.specs.grammar.FlowScalars as flow
 use Rattle.yaml_definitions.specs.grammar.Nodes as nodes
 use Rattle.yaml_definitions.specs.grammar.Nodes.{reads}
 use Rattle.yaml_text.proofs.Repeats.{any_push}
-use Rattle.yaml_line.specs.Keys.{ColonAfter}
-use Rattle.yaml_line.specs.NodeRules.{flow_from, content_from, from_room, IsInner}
+use Rattle.yaml_layout.specs.Keys.{ColonAfter}
+use Rattle.yaml_layout.specs.NodeRules.{flow_from, content_from, from_room, IsInner}
 use Rattle.yaml_flow.specs.FlowRules.{item_at, entry_at, keyed_at, asked_at, value_at, spaced, comma, parts, MayFollowColon, IsParted, quoted, quoted_style}
 use Rattle.yaml_flow.specs.declared.flow.scalars.Quote.{Quote}
 use Rattle.yaml_flow.specs.declared.flow.scalars.Quote.TheVariants as quotes
-use Rattle.yaml_line.specs.declared.flow.Kind.{Kind}
-use Rattle.yaml_line.specs.declared.flow.Kind.TheVariants.{Yaml, Json}
-use Rattle.yaml_line.proofs.KeyLaws.{flow_key_too}
-use Rattle.yaml_line.proofs.SpaceLemmas.{maybe_sep, in_text}
+use Rattle.yaml_layout.specs.declared.flow.Kind.{Kind}
+use Rattle.yaml_layout.specs.declared.flow.Kind.TheVariants.{Yaml, Json}
+use Rattle.yaml_layout.proofs.KeyLaws.{flow_key_too}
+use Rattle.yaml_layout.proofs.SpaceLemmas.{maybe_sep, in_text}
 
 append_nil_back : {A : Type 0} (xs : List A) → xs ≡ xs ++ []
 append_nil_back [] = refl

@@ -17,13 +17,13 @@ use Rattle.law_going_on.specs.FlowEnds.{InFlow, EndsYaml, EndsJson}
 use Rattle.law_going_on.proofs.GoingOn.{rest_goes, rest_refused, rest_rest, refused_either}
 use Rattle.law_going_on.proofs.FlowChoices as left
 use Rattle.yaml_flow.specs.FlowDecisions.{NoKey, LongKey}
-use Rattle.yaml_line.specs.Keys.{Spaced, IsKeySized}
-use Rattle.yaml_line.specs.NodeRules.{opens, below}
+use Rattle.yaml_layout.specs.Keys.{Spaced, IsKeySized}
+use Rattle.yaml_layout.specs.NodeRules.{opens, below}
 use Rattle.yaml_flow.specs.FlowRules.{item_at, asked_at, value_at, SignAt, AskedAt}
-use Rattle.yaml_line.specs.declared.flow.Kind as kinds
-use Rattle.yaml_line.specs.declared.flow.Kind.TheVariants.{Yaml, Json}
+use Rattle.yaml_layout.specs.declared.flow.Kind as kinds
+use Rattle.yaml_layout.specs.declared.flow.Kind.TheVariants.{Yaml, Json}
 use Rattle.yaml_flow.proofs.BareDecisions.{facts_of}
-use Rattle.yaml_line.proofs.NodeLemmas.{from_reads, to_reads}
+use Rattle.yaml_layout.proofs.NodeLemmas.{from_reads, to_reads}
 use Rattle.yaml_flow.proofs.PartDecisions.{OnlyIn, NoneIn, YamlIn, JsonIn, yaml_begins, json_begins, no_asked_yaml, no_asked_json, pair_rest, no_pair, no_pair_here, item_alone, item_paired, item_unpaired, item_nowhere, pair_closed}
 
 abbrev Wide : Type 0

@@ -16,7 +16,7 @@ use Rattle.law_going_on.specs.FlowEnds.{InFlow}
 use Rattle.law_going_on.proofs.GoingOn.{rest_goes, rest_refused, rest_rest}
 use Rattle.law_going_on.proofs.FlowLoops.{parts_closed, parts_last, parts_more, parts_no_more, parts_refused, parts_unclosed, parts_no_way}
 use Rattle.law_going_on.proofs.FlowCollections.{Bracketed, Items, Entries, sequence_opens, sequence_no_gap, mapping_opens, mapping_no_gap}
-use Rattle.yaml_line.specs.NodeRules.{opens, below}
+use Rattle.yaml_layout.specs.NodeRules.{opens, below}
 use Rattle.yaml_flow.specs.FlowRules.{spaced, comma, parts, item_at, entry_at}
 
 abbrev Wide : Type 0

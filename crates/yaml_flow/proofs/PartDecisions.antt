@@ -19,13 +19,13 @@ use Rattle.law_going_on.specs.GoingOn.{Refused, Goes, Rest}
 use Rattle.law_going_on.specs.FlowEnds.{InFlow, EndsYaml, EndsJson}
 use Rattle.law_going_on.proofs.GoingOn.{rest_refused, refused_within}
 use Rattle.law_going_on.proofs.FlowChoices as left
-use Rattle.yaml_line.specs.PropertyDecisions.{IsOnly, IsRefused}
-use Rattle.yaml_line.specs.Keys.{Spaced, IsKeySized}
-use Rattle.yaml_line.specs.NodeRules.{opens, below}
+use Rattle.yaml_layout.specs.PropertyDecisions.{IsOnly, IsRefused}
+use Rattle.yaml_layout.specs.Keys.{Spaced, IsKeySized}
+use Rattle.yaml_layout.specs.NodeRules.{opens, below}
 use Rattle.yaml_flow.specs.FlowRules.{SignAt, AskedAt}
-use Rattle.yaml_line.specs.declared.flow.Kind as kinds
-use Rattle.yaml_line.specs.declared.flow.Kind.TheVariants.{Yaml, Json}
-use Rattle.yaml_line.proofs.PlainDecisions.{bare_yaml, bare_json}
+use Rattle.yaml_layout.specs.declared.flow.Kind as kinds
+use Rattle.yaml_layout.specs.declared.flow.Kind.TheVariants.{Yaml, Json}
+use Rattle.yaml_layout.proofs.PlainDecisions.{bare_yaml, bare_json}
 
 abbrev Wide : Type 0
 Wide = Unit {0}

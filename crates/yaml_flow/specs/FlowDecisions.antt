@@ -8,10 +8,10 @@ use Rattle.yaml_text.specs.declared.fault.Fault.{Fault}
 use Rattle.yaml_text.specs.declared.fault.Fault.TheVariants.{OutOfMemory}
 use Rattle.law_going_on.specs.GoingOn.{Refused, Goes, Here}
 use Rattle.law_going_on.specs.FlowEnds.{InFlow}
-use Rattle.yaml_line.specs.NodeAnswer.{Decides}
+use Rattle.yaml_layout.specs.NodeAnswer.{Decides}
 use Rattle.yaml_flow.specs.FlowRules.{SignAt}
-use Rattle.yaml_line.specs.Keys.{Spaced, IsKeySized}
-use Rattle.yaml_line.specs.declared.flow.Kind.{Kind}
+use Rattle.yaml_layout.specs.Keys.{Spaced, IsKeySized}
+use Rattle.yaml_layout.specs.declared.flow.Kind.{Kind}
 
 -- after a node from i to j no colon makes it the key of a pair; one does, but it is no key by its size
 abbrev pub NoKey : List ℕ → Kind → Ctx → ℕ → ℕ → Type 0

@@ -11,14 +11,14 @@ use Rattle.yaml_definitions.specs.grammar.Nodes.{yaml_part, json_part, pair_part
 use Rattle.yaml_text.specs.Place.{Steps}
 use Rattle.yaml_text.specs.Source.{bytes_of, text_of, place_of}
 use Rattle.yaml_text.specs.declared.chars.Chars.{Chars}
-use Rattle.yaml_line.specs.Keys.{Spaced, IsKeySized}
-use Rattle.yaml_line.specs.NodeRules.{NoOpening}
+use Rattle.yaml_layout.specs.Keys.{Spaced, IsKeySized}
+use Rattle.yaml_layout.specs.NodeRules.{NoOpening}
 use Rattle.yaml_flow.specs.declared.flow.signs.First.{First}
 use Rattle.yaml_flow.specs.declared.flow.signs.First.TheVariants.{Sequence, Mapping, Single, Double, Other}
 use Rattle.yaml_flow.specs.declared.flow.scalars.Quote.{Quote}
 use Rattle.yaml_flow.specs.declared.flow.scalars.Quote.TheVariants as quotes
-use Rattle.yaml_line.specs.declared.flow.Kind.{Kind}
-use Rattle.yaml_line.specs.declared.flow.Kind.TheVariants.{Yaml, Json}
+use Rattle.yaml_layout.specs.declared.flow.Kind.{Kind}
+use Rattle.yaml_layout.specs.declared.flow.Kind.TheVariants.{Yaml, Json}
 
 module _ (cs : List ℕ) (Wide : Type 0) (handles : Handles) where
   -- 7.4.1: an item of a sequence

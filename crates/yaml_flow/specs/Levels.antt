@@ -12,15 +12,15 @@ use Rattle.yaml_text.specs.declared.chars.Chars.{Chars}
 use Rattle.yaml_text.specs.declared.fault.Fault.{Fault}
 use Rattle.yaml_mark.specs.HandlesModel.{handles_of}
 use Rattle.law_going_on.specs.GoingOn.{Here}
-use Rattle.yaml_line.specs.NodeAnswer.{Appends, Decides}
-use Rattle.yaml_line.specs.NodeDecisions.{DecidesContent}
+use Rattle.yaml_layout.specs.NodeAnswer.{Appends, Decides}
+use Rattle.yaml_layout.specs.NodeDecisions.{DecidesContent}
 use Rattle.yaml_flow.specs.FlowDecisions.{DecidesPart, DecidesEach}
-use Rattle.yaml_line.specs.NodeRules.{from_room, opens, below, IsInner}
+use Rattle.yaml_layout.specs.NodeRules.{from_room, opens, below, IsInner}
 use Rattle.yaml_flow.specs.FlowRules.{item_at, entry_at, keyed_at, asked_at, value_at, parts, MayFollowColon, SignAt, AskedAt}
-use Rattle.yaml_line.specs.declared.level.Level.{Level}
-use Rattle.yaml_line.specs.declared.flow.Kind.{Kind}
-use Rattle.yaml_line.specs.declared.flow.Kind.TheVariants.{Yaml}
-use Rattle.yaml_line.specs.declared.flow.FlowNode.{FlowNode}
+use Rattle.yaml_layout.specs.declared.level.Level.{Level}
+use Rattle.yaml_layout.specs.declared.flow.Kind.{Kind}
+use Rattle.yaml_layout.specs.declared.flow.Kind.TheVariants.{Yaml}
+use Rattle.yaml_layout.specs.declared.flow.FlowNode.{FlowNode}
 use Rattle.yaml_flow.specs.declared.flow.entries.Colon.{Colon}
 
 -- ---- where they begin

@@ -9,9 +9,9 @@ mod sequence;
 mod signs;
 
 use std::alloc::Global;
-use yaml_line::flow::{FlowNode, FlowReader};
-use yaml_line::level::Level;
-use yaml_line::properties::Head;
+use yaml_layout::flow::{FlowNode, FlowReader};
+use yaml_layout::level::Level;
+use yaml_layout::properties::Head;
 use yaml_sink::sink::{Keeper, Sink};
 use yaml_text::chars::Chars;
 use yaml_text::fault::Fault;

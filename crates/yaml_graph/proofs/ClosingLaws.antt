@@ -3,7 +3,7 @@ use Rattle.std.proofs.Common.{◌≤◌, ℕ, List, [], ◌∷◌, ◌++◌, ari
 use Rattle.yaml_definitions.specs.model.Tree.{Tree, Trees, Pairs, scalar, sequence, mapping, end, item, done, entry, height, heights, heights_of_pairs}
 use Rattle.yaml_definitions.specs.model.Serial.{SerialNode, SerialNodes, SerialPairs, alias_at, scalar_at, sequence_at, mapping_at, end_serial, item_serial, done_serial, entry_serial, Document}
 use Rattle.yaml_graph.specs.Closing.{trees_inside, trees_inside_all, trees_inside_pairs, stream_trees}
-use Rattle.yaml_nodes.proofs.LowLaws.{Low}
+use Rattle.yaml_graph.proofs.LowLaws.{Low}
 
 low-append : (h : ℕ) (ts us : List Tree) → Low h ts → Low h us → Low h (ts ++ us)
 low-append h [] us k l = l

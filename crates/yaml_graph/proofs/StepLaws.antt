@@ -6,9 +6,9 @@ use Rattle.yaml_definitions.specs.model.Event.{Event, Anchor, WrittenTag, Style,
 use Rattle.yaml_definitions.specs.model.Serial.{SerialNode, SerialNodes, SerialPairs, alias_at, scalar_at, sequence_at, mapping_at, end_serial, item_serial, done_serial, entry_serial, flat, flat_all, flat_pairs, Document, documents_events, stream_events}
 use Rattle.yaml_definitions.specs.model.Core.{Cause, Resolved, resolve, collection_tag}
 use Rattle.yaml_definitions.specs.model.Unfold.{Outcome, Table, and_then, placed, opened, closed, last_named, tree_named, event_count, unfold_node, unfold_all, unfold_pairs, trees_from, trees_of}
-use Rattle.yaml_nodes.specs.TreeLists.{trees, pairs}
+use Rattle.yaml_graph.specs.TreeLists.{trees, pairs}
 use Rattle.yaml_graph.specs.Closing.{trees_inside, trees_inside_all, trees_inside_pairs, stream_trees}
-use Rattle.yaml_nodes.specs.ComposerSteps.{State, initial_state, paired, scalar_added, collection_begun, added, step, on_outcome, steps}
+use Rattle.yaml_graph.specs.ComposerSteps.{State, initial_state, paired, scalar_added, collection_begun, added, step, on_outcome, steps}
 
 -- ---- counts
 

@@ -11,10 +11,10 @@ use Rattle.yaml_text.specs.declared.fault.Fault.TheVariants as faults
 use Rattle.yaml_text.specs.declared.event.Event as code
 use Rattle.yaml_graph.specs.Closing.{stream_trees}
 use Rattle.yaml_graph.specs.Composed.{RefusesStream}
-use Rattle.yaml_nodes.specs.Refused.{RefusesUnfolding}
-use Rattle.yaml_nodes.specs.ComposerSteps.{State, initial_state, step, on_outcome, next, steps}
-use Rattle.yaml_nodes.specs.ComposerModel.{Reached}
-use Rattle.yaml_nodes.specs.declared.composer.Composer.{Composer}
+use Rattle.yaml_graph.specs.Refused.{RefusesUnfolding}
+use Rattle.yaml_graph.specs.ComposerSteps.{State, initial_state, step, on_outcome, next, steps}
+use Rattle.yaml_graph.specs.ComposerModel.{Reached}
+use Rattle.yaml_graph.specs.declared.composer.Composer.{Composer}
 use Rattle.yaml_graph.proofs.StepLaws.{comes_to, with_all, run-stream}
 
 -- what the steps come to tells the documents' trees: refused, or found with those of all nodes

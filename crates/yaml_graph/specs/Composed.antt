@@ -10,10 +10,10 @@ use Rattle.yaml_text.specs.declared.event.Event as code
 use Rattle.yaml_text.specs.declared.fault.Fault.{Fault}
 use Rattle.yaml_text.specs.declared.fault.Fault.TheVariants.{TooHigh}
 use Rattle.yaml_graph.specs.Closing.{stream_trees}
-use Rattle.yaml_nodes.specs.GraphModel.{AreLow}
-use Rattle.yaml_nodes.specs.GraphView as graph
-use Rattle.yaml_nodes.specs.Refused.{RefusesUnfolding}
-use Rattle.yaml_nodes.specs.declared.graph.Graph.{Graph}
+use Rattle.yaml_graph.specs.GraphModel.{AreLow}
+use Rattle.yaml_graph.specs.GraphView as graph
+use Rattle.yaml_graph.specs.Refused.{RefusesUnfolding}
+use Rattle.yaml_graph.specs.declared.graph.Graph.{Graph}
 
 -- the events are those of some documents
 pub record Composable (events : List code.Event) : Type 0 where

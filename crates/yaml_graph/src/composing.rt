@@ -4,10 +4,10 @@ ghost use Rattle.yaml_definitions.specs.model.Serial.{Document, stream_events};
 ghost use Rattle.yaml_text.specs.EventModel.{event_of};
 ghost use Rattle.yaml_graph.specs.Composed.{Composable, Composed, RefusesStream};
 
+use crate::composer::Composer;
+use crate::copied::copies;
+use crate::graph::Graph;
 use std::alloc::Global;
-use yaml_nodes::composer::Composer;
-use yaml_nodes::copied::copies;
-use yaml_nodes::graph::Graph;
 use yaml_text::event::Event;
 use yaml_text::fault::Fault;
 

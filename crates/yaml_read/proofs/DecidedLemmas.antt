@@ -23,7 +23,7 @@ use Rattle.law_one_reading.proofs.Documents.{mark_inside, dashes_mark_is}
 use Rattle.law_going_on.specs.GoingOn.{Refused, Rest}
 use Rattle.law_going_on.proofs.GoingOn.{rest_goes, rest_refused, rest_rest, rest_seen, rest_left, rest_right}
 use Rattle.law_going_on.proofs.StreamRests.{directed_marked, no_directives, no_percent, no_bare}
-use Rattle.yaml_line.specs.NodeAnswer.{Decides}
+use Rattle.yaml_layout.specs.NodeAnswer.{Decides}
 use Rattle.yaml_read.specs.Decided.{DocumentEnd}
 use Rattle.yaml_read.specs.StreamRules.{after_mark, opened_by_mark, opened_bare, opened_by_directives}
 

@@ -15,7 +15,7 @@ use Rattle.yaml_text.specs.declared.fault.Fault.{Fault}
 use Rattle.yaml_text.specs.declared.fault.Fault.TheVariants as fault
 use Rattle.yaml_mark.specs.MarkFaults.{DirectivesRefuse}
 use Rattle.yaml_text.specs.LeafAnswer.{IsRefusal}
-use Rattle.yaml_line.specs.NodeAnswer.{Appends}
+use Rattle.yaml_layout.specs.NodeAnswer.{Appends}
 use Rattle.yaml_text.specs.EventModel.{event_of}
 use Rattle.yaml_text.specs.declared.event.Event as code
 use Rattle.yaml_sink.specs.Held.{Puts}
@@ -25,7 +25,7 @@ use Rattle.yaml_sink.specs.declared.list.EventList.{EventList}
 use Rattle.yaml_sink.specs.declared.sink.Sink.{Sink}
 use Rattle.yaml_sink.specs.declared.sink.Sink.TheVariants.{Listed, Both}
 use Rattle.yaml_sink.specs.declared.sink.Beside.{Beside}
-use Rattle.yaml_line.proofs.AnswerLemmas.{puts_on}
+use Rattle.yaml_layout.proofs.AnswerLemmas.{puts_on}
 use Rattle.std.specs.Prelude.{Result, Ok, Err, IfOk, IfErr, MatchResult}
 use Rattle.yaml_read.specs.StreamRules.{opened_by_mark, opened_by_directives}
 

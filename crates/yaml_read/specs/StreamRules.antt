@@ -10,7 +10,7 @@ use Rattle.yaml_definitions.specs.grammar.Tags.{Handles}
 use Rattle.yaml_definitions.specs.grammar.Events.{no_props, e-scalar as empty}
 use Rattle.yaml_definitions.specs.grammar.Streams.{document_mark, l-bare-document as bare_document, l-directive-document as directive_document}
 use Rattle.yaml_definitions.specs.grammar.Nodes.{wide}
-use Rattle.yaml_line.specs.declared.line.Line.{Line}
+use Rattle.yaml_layout.specs.declared.line.Line.{Line}
 use Rattle.yaml_read.specs.declared.stream.Next.{Next}
 use Rattle.yaml_read.specs.declared.stream.Next.TheVariants.{End, Suffix, Explicit, Content}
 

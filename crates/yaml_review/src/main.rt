@@ -1,11 +1,11 @@
 //! The program `yamlreview`: where two YAML streams differ, and where and why a file is rejected.
 #![tactic(auto)]
 
+use review_command::arguments::words_of;
+use review_command::command::command;
+use review_command::telling::tell_no_words;
 use std::io::IsTerminal;
 use std::process::ExitCode;
-use yaml_review_command::arguments::words_of;
-use yaml_review_command::command::command;
-use yaml_review_command::telling::tell_no_words;
 
 fn main(rt: HostRuntime) -> ExitCode {
     let alloc = rt.alloc();

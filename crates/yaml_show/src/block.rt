@@ -6,7 +6,7 @@ use crate::scalar::put_scalar_lines;
 use crate::stop::Stop;
 use crate::tag::{is_left_out, put_tag, put_tag_before};
 use std::alloc::Global;
-use yaml_nodes::node::{NodeId, NodeKind};
+use yaml_graph::node::{NodeId, NodeKind};
 use yaml_text::core_tag;
 use yaml_text::limits::text_limit;
 

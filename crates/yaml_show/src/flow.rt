@@ -5,7 +5,7 @@ use crate::scalar::{Quotes, put_scalar};
 use crate::stop::Stop;
 use crate::tag::put_tag_before;
 use std::alloc::Global;
-use yaml_nodes::node::{Node, NodeId, NodeKind};
+use yaml_graph::node::{Node, NodeId, NodeKind};
 use yaml_text::core_tag;
 
 /// How many nodes may be inside one another.

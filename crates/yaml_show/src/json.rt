@@ -7,7 +7,7 @@ use crate::out::Out;
 use crate::stop::Stop;
 use crate::tag::is_core;
 use std::alloc::{AllocError, Global};
-use yaml_nodes::node::{NodeId, NodeKind};
+use yaml_graph::node::{NodeId, NodeKind};
 use yaml_text::core_tag;
 use yaml_text::limits::text_limit;
 

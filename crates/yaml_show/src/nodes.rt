@@ -1,12 +1,12 @@
 //! A graph with its ranks.
 ghost use Rattle.std.specs.Prelude.{◌≡◌, length};
-ghost use Rattle.yaml_nodes.specs.GraphView.{nodes_of};
-ghost use Rattle.yaml_levels.specs.RanksView.{sorted_of};
+ghost use Rattle.yaml_graph.specs.GraphView.{nodes_of};
+ghost use Rattle.yaml_rank.specs.RanksView.{sorted_of};
 
 use crate::stop::Stop;
-use yaml_levels::ranks::Ranks;
-use yaml_nodes::graph::Graph;
-use yaml_nodes::node::{Node, NodeId};
+use yaml_graph::graph::Graph;
+use yaml_graph::node::{Node, NodeId};
+use yaml_rank::ranks::Ranks;
 
 /// The documents of a stream: a graph with its ranks.
 #[derive(Drop)]

@@ -7,20 +7,20 @@ use Rattle.yaml_definitions.specs.model.Tree.{Tree, sequence, mapping}
 use Rattle.yaml_definitions.specs.model.Order.{arranged}
 use Rattle.yaml_definitions.specs.model.Same.{same}
 use Rattle.yaml_definitions.proofs.Equivalence.{same_refl}
-use Rattle.yaml_nodes.specs.TreeLists.{trees, pairs}
-use Rattle.yaml_nodes.specs.GraphModel.{Entries, items_of}
-use Rattle.yaml_nodes.specs.GraphView.{nodes_of, tree}
-use Rattle.yaml_nodes.specs.declared.node.NodeId.{NodeId}
-use Rattle.yaml_nodes.specs.declared.node.Node.{Node}
-use Rattle.yaml_nodes.specs.declared.node.NodeKind.{NodeKind}
-use Rattle.yaml_nodes.specs.declared.node.NodeKind.TheVariants as kinds
-use Rattle.yaml_nodes.specs.declared.graph.Graph.{Graph}
-use Rattle.yaml_levels.specs.View.{Inside, content, items, entries, InsideBelow, inside_tree}
-use Rattle.yaml_levels.specs.Insides.{Held}
-use Rattle.yaml_levels.specs.RanksView.{RanksAre, sorted_of}
-use Rattle.yaml_levels.specs.Laws.{arranged_kind}
-use Rattle.yaml_levels.specs.declared.ranks.Ranks.{Ranks}
-use Rattle.yaml_levels.proofs.Shapes.{sorted-is-arranged}
+use Rattle.yaml_graph.specs.TreeLists.{trees, pairs}
+use Rattle.yaml_graph.specs.GraphModel.{Entries, items_of}
+use Rattle.yaml_graph.specs.GraphView.{nodes_of, tree}
+use Rattle.yaml_graph.specs.declared.node.NodeId.{NodeId}
+use Rattle.yaml_graph.specs.declared.node.Node.{Node}
+use Rattle.yaml_graph.specs.declared.node.NodeKind.{NodeKind}
+use Rattle.yaml_graph.specs.declared.node.NodeKind.TheVariants as kinds
+use Rattle.yaml_graph.specs.declared.graph.Graph.{Graph}
+use Rattle.yaml_rank.specs.View.{Inside, content, items, entries, InsideBelow, inside_tree}
+use Rattle.yaml_rank.specs.Insides.{Held}
+use Rattle.yaml_rank.specs.RanksView.{RanksAre, sorted_of}
+use Rattle.yaml_rank.specs.Laws.{arranged_kind}
+use Rattle.yaml_rank.specs.declared.ranks.Ranks.{Ranks}
+use Rattle.yaml_rank.proofs.Shapes.{sorted-is-arranged}
 use Rattle.yaml_spell.specs.RankView.{rank_in}
 use Rattle.yaml_spell.specs.RankedNodes.{RanksTell}
 use Rattle.yaml_spell.proofs.RankLaws.{rank-there, same-rank, rank-same}

@@ -8,11 +8,11 @@ use Rattle.yaml_definitions.specs.model.Same.{same}
 use Rattle.yaml_definitions.proofs.SameLaws.{same_to, same_from}
 use Rattle.yaml_definitions.proofs.Arranged.{IsArranged, neat_same, arranged_neat}
 use Rattle.yaml_definitions.proofs.Equivalence.{same_refl}
-use Rattle.yaml_nodes.specs.GraphView.{nodes_of, graph_trees, tree}
-use Rattle.yaml_nodes.proofs.GraphLaws.{trees-length}
-use Rattle.yaml_nodes.specs.declared.graph.Graph.{Graph}
-use Rattle.yaml_levels.specs.RanksView.{RanksAre, rank_of}
-use Rattle.yaml_levels.specs.declared.ranks.Ranks.{Ranks}
+use Rattle.yaml_graph.specs.GraphView.{nodes_of, graph_trees, tree}
+use Rattle.yaml_graph.proofs.GraphLaws.{trees-length}
+use Rattle.yaml_graph.specs.declared.graph.Graph.{Graph}
+use Rattle.yaml_rank.specs.RanksView.{RanksAre, rank_of}
+use Rattle.yaml_rank.specs.declared.ranks.Ranks.{Ranks}
 use Rattle.yaml_spell.specs.RankView.{rank_in}
 
 -- the first tree of a list that is the same as this one, which is among them

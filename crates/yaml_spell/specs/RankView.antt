@@ -4,10 +4,10 @@ use Rattle.std.specs.List.{position_or_len}
 use Rattle.yaml_definitions.specs.model.Tree.{Tree}
 use Rattle.yaml_definitions.specs.model.Order.{arranged}
 use Rattle.yaml_definitions.specs.model.Same.{same}
-use Rattle.yaml_nodes.specs.GraphView.{graph_trees}
-use Rattle.yaml_nodes.specs.declared.graph.Graph.{Graph}
-use Rattle.yaml_levels.specs.RanksView.{rank_of}
-use Rattle.yaml_levels.specs.declared.ranks.Ranks.{Ranks}
+use Rattle.yaml_graph.specs.GraphView.{graph_trees}
+use Rattle.yaml_graph.specs.declared.graph.Graph.{Graph}
+use Rattle.yaml_rank.specs.RanksView.{rank_of}
+use Rattle.yaml_rank.specs.declared.ranks.Ranks.{Ranks}
 
 -- the rank of the first node whose tree, arranged, is this one
 unfoldable pub rank_in : Graph → Ranks → Tree → ℕ

@@ -2,9 +2,9 @@
 use crate::node::short_len;
 use crate::ranked::RankedNodes;
 use crate::shown::{Inside, Shown};
-use yaml_levels::ranks::Ranks;
-use yaml_nodes::graph::Graph;
-use yaml_nodes::node::{NodeId, NodeKind};
+use yaml_graph::graph::Graph;
+use yaml_graph::node::{NodeId, NodeKind};
+use yaml_rank::ranks::Ranks;
 
 /// A graph with its ranks.
 #[derive(Clone, Copy)]
@@ -16,8 +16,8 @@ pub struct RankedGraph<'g, 't> {
 impl<'g, 't> RankedNodes<NodeId> for RankedGraph<'g, 't> {
     ghost use Rattle.std.specs.Prelude.{length};
     ghost use Rattle.yaml_definitions.specs.model.Order.{arranged};
-    ghost use Rattle.yaml_nodes.specs.GraphView.{nodes_of, tree};
-    ghost use Rattle.yaml_levels.specs.RanksView.{RanksAre};
+    ghost use Rattle.yaml_graph.specs.GraphView.{nodes_of, tree};
+    ghost use Rattle.yaml_rank.specs.RanksView.{RanksAre};
     ghost use Rattle.yaml_spell.specs.RankView.{rank_in};
 
     ghost stands = { λ s. RanksAre s.graph.now s.ranks.now };

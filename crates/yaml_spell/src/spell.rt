@@ -2,8 +2,8 @@
 ghost use Rattle.std.specs.Prelude.{◌≡◌, ◌<◌, ◌≤◌, length, map, OnOk, IfErr, IfOk};
 ghost use Rattle.yaml_definitions.specs.model.Limits.{text_limit};
 ghost use Rattle.yaml_definitions.specs.canonical.Spell.{spell_bytes};
-ghost use Rattle.yaml_nodes.specs.GraphView.{forest};
-ghost use Rattle.yaml_levels.specs.RanksView.{RanksAre};
+ghost use Rattle.yaml_graph.specs.GraphView.{forest};
+ghost use Rattle.yaml_rank.specs.RanksView.{RanksAre};
 ghost use Rattle.yaml_spell.specs.NamesView.{ranks_in};
 ghost use Rattle.yaml_spell.specs.Stops.{fault_of};
 ghost use Rattle.yaml_spell.specs.Pieces.{Puts, Fails};
@@ -18,8 +18,8 @@ use crate::sink::Sink;
 use crate::stop::Stop;
 use crate::walk::{notice, write_node};
 use std::alloc::Global;
-use yaml_levels::ranks::Ranks;
-use yaml_nodes::graph::Graph;
+use yaml_graph::graph::Graph;
+use yaml_rank::ranks::Ranks;
 use yaml_text::fault::Fault;
 use yaml_text::limits::text_limit;
 

@@ -14,15 +14,16 @@ use Rattle.yaml_definitions.specs.model.Same.{Keyed}
 use Rattle.yaml_definitions.specs.model.Proper.{Admitted}
 use Rattle.yaml_definitions.specs.model.Means.{Means}
 use Rattle.yaml_text.specs.declared.fault.Fault.{Fault}
-use Rattle.yaml_nodes.specs.GraphModel.{tree_at}
-use Rattle.yaml_compact.specs.TextModel.{text_of}
-use Rattle.yaml_compact.specs.declared.ranking.Ranked.{Ranked}
-use Rattle.yaml_compact.specs.StoreGrows.{tags_of, trees_of}
-use Rattle.yaml_compact.specs.StoreView.{tree_of, StoreRanked}
-use Rattle.yaml_compact.specs.Walked.{ranks_of, walked_tree, RanksTaken}
-use Rattle.yaml_compact.proofs.Growing.{trees-count}
-use Rattle.yaml_compose.specs.ComposerModel.{AllAt}
-use Rattle.yaml_compose.specs.declared.composer.Forest.{Forest}
+use Rattle.yaml_graph.specs.GraphModel.{tree_at}
+use Rattle.yaml_store.specs.TextModel.{text_of}
+use Rattle.yaml_store_rank.specs.declared.ranking.Ranked.{Ranked}
+use Rattle.yaml_store.specs.StoreGrows.{tags_of, trees_of}
+use Rattle.yaml_store.specs.StoreView.{tree_of}
+use Rattle.yaml_store_rank.specs.StoreRanks.{StoreRanked}
+use Rattle.yaml_store_rank.specs.Walked.{ranks_of, walked_tree, RanksTaken}
+use Rattle.yaml_store.proofs.Growing.{trees-count}
+use Rattle.yaml_store_composer.specs.ComposerModel.{AllAt}
+use Rattle.yaml_store_composer.specs.declared.composer.Forest.{Forest}
 use Rattle.yaml_canon.specs.Accepting.{IsMemory, MeaningsAreAccepted}
 use Rattle.yaml_canon.specs.Both.{HasBoth}
 use Rattle.yaml_canon.specs.declared.both.BothForests.{BothForests}

@@ -4,7 +4,7 @@ use Rattle.std.specs.List.{All}
 use Rattle.std.specs.String.{string_bytes}
 use Rattle.yaml_definitions.specs.model.Tree.{Tree}
 use Rattle.yaml_definitions.specs.model.Order.{arranged}
-use Rattle.yaml_compact.specs.Walked.{StandsFor, walked_tree}
+use Rattle.yaml_store_rank.specs.Walked.{StandsFor, walked_tree}
 use Rattle.yaml_canon.specs.Claims.{MeansAlone}
 use Rattle.yaml_values.specs.Denotes.{Denotes}
 use Rattle.yaml_values.specs.declared.making.Values.{Values}

@@ -5,8 +5,8 @@ ghost use Rattle.yaml_stream_values.specs.ValuesOf.{RanksOfStream};
 
 use std::alloc::Global;
 use yaml_canon::both::BothForests;
-use yaml_compact::{Ranked, compact_rank};
-use yaml_compose::Forest;
+use yaml_store_composer::Forest;
+use yaml_store_rank::{Ranked, compact_rank};
 use yaml_text::fault::Fault;
 
 /// Ranked nodes, and the ranks of documents' roots, of which the first ones are those of the stream.

@@ -4,8 +4,8 @@ use Rattle.std.proofs.Common.{◌⊎◌, List, ℕ, Option, inl, inr}
 use Rattle.yaml_text.specs.declared.fault.Fault.{Fault}
 use Rattle.yaml_text.specs.declared.fault.Fault.TheVariants.{WriteFault}
 use Rattle.yaml_text.specs.declared.counted.Counted.{Counted}
-use Rattle.yaml_answers.specs.Writers.{Printed, Broken}
-use Rattle.yaml_report.specs.Printing.{PrintFails}
+use Rattle.yaml_text.specs.Writers.{Printed, Broken}
+use Rattle.yaml_command.specs.Printing.{PrintFails}
 
 -- the line goes out whole, or the writer fails behind a beginning of it
 pub told_either : {T E : Type 0} (contents : E → Option (List ℕ)) (old new : Counted E) (text : List ℕ) (r : Result T Fault) → OnOk r (Printed contents old new text) → IfErr r (PrintFails contents old new text) → Printed contents old new text ⊎ Broken contents old new text

@@ -9,9 +9,9 @@ use Rattle.yaml_text.specs.declared.fault.Fault.{Fault}
 use Rattle.yaml_text.specs.declared.fault.Fault.TheVariants.{OutOfMemory, WriteFault}
 use Rattle.yaml_text.specs.declared.counted.Counted.{Counted}
 use Rattle.yaml_spell.specs.Writers.{Sent, CutOff}
-use Rattle.yaml_answers.specs.Writers.{Printed, Broken}
+use Rattle.yaml_text.specs.Writers.{Printed, Broken}
 use Rattle.yaml_spell.proofs.Streams.{appends_none, appends_more}
-use Rattle.yaml_report.specs.Printing.{PrintFails}
+use Rattle.yaml_command.specs.Printing.{PrintFails}
 use Rattle.yaml_sum.specs.Names.{IsCut, pieces}
 use Rattle.yaml_sum.specs.Complaints.{IsTold}
 use Rattle.yaml_sum.specs.Asks.{list_limit, ListChecked, ListNotChecked}

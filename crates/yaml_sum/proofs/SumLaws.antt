@@ -11,10 +11,10 @@ use Rattle.yaml_text.specs.declared.fault.Fault.{Fault}
 use Rattle.yaml_text.specs.declared.fault.Fault.TheVariants.{TooLong, OutOfMemory, ReadFault, WriteFault}
 use Rattle.yaml_text.specs.declared.counted.Counted.{Counted}
 use Rattle.yaml_spell.specs.Writers.{Sent, CutOff}
-use Rattle.yaml_answers.specs.Writers.{Printed, Broken}
+use Rattle.yaml_text.specs.Writers.{Printed, Broken}
 use Rattle.yaml_spell.proofs.Streams.{appends_none, appends_more}
-use Rattle.yaml_report.specs.Printing.{PrintFails}
-use Rattle.yaml_report.specs.Shelves.{IsOf, FileFails}
+use Rattle.yaml_command.specs.Printing.{PrintFails}
+use Rattle.yaml_command.specs.Shelves.{IsOf, FileFails}
 use Rattle.yaml_sum.specs.Complaints.{complaint, IsTold}
 use Rattle.yaml_sum.specs.Lines.{sum_line}
 use Rattle.yaml_sum.specs.Reading.{GivesAll, GivesNotAll}

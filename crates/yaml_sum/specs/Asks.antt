@@ -2,7 +2,7 @@
 use Rattle.std.specs.Prelude.{◌≡◌, ◌⊎◌, ℕ, List, map, Option}
 use Rattle.yaml_text.specs.declared.counted.Counted.{Counted}
 use Rattle.yaml_text.specs.CountedModel.{inner_of, faults_of}
-use Rattle.yaml_answers.specs.Writers.{Printed, Broken}
+use Rattle.yaml_text.specs.Writers.{Printed, Broken}
 use Rattle.yaml_sum.specs.Checks.{ChecksAll, ChecksCut, Closes, any_in}
 use Rattle.yaml_sum.specs.Listed.{Listing, all_listings, improper_count, lines_of}
 use Rattle.yaml_sum.specs.Names.{names_in}

@@ -5,7 +5,7 @@ use Rattle.yaml_text.specs.Fault.{fault_number, fault_name}
 use Rattle.yaml_text.specs.declared.fault.Fault.{Fault}
 use Rattle.yaml_text.specs.declared.counted.Counted.{Counted}
 use Rattle.yaml_spell.specs.Writers.{Sent, CutOff}
-use Rattle.yaml_report.specs.Refusals.{place_end}
+use Rattle.yaml_command.specs.Refusals.{place_end}
 use Rattle.yaml_sum.specs.Lines.{told_name}
 use Rattle.yaml_sum.specs.declared.reason.Reason.{Reason}
 use Rattle.yaml_sum.specs.declared.reason.Reason.TheVariants.{NotFound, Denied, Folder, NoFolder, NotUtf8, Other}

@@ -1,8 +1,8 @@
 -- Why a file has no sum, and why sums are not made to the end.
 use Rattle.std.specs.Prelude.{ℕ, List, ◌++◌, codes}
 use Rattle.yaml_text.specs.declared.fault.Fault.TheVariants.{ReadFault}
-use Rattle.yaml_report.specs.Refusals.{fault_line}
-use Rattle.yaml_report.specs.Statuses.{fault_status}
+use Rattle.yaml_command.specs.Refusals.{fault_line}
+use Rattle.yaml_command.specs.Statuses.{fault_status}
 use Rattle.yaml_sum.specs.Complaints.{reason_words}
 use Rattle.yaml_sum.specs.declared.stop.Halt.{Halt}
 use Rattle.yaml_sum.specs.declared.stop.Halt.TheVariants.{NoList, Fault}

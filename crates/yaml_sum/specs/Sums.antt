@@ -7,8 +7,8 @@ use Rattle.yaml_text.specs.declared.fault.Fault.TheVariants.{OutOfMemory, WriteF
 use Rattle.yaml_text.specs.declared.counted.Counted.{Counted}
 use Rattle.yaml_canon.specs.Claims.{CanonicalRefuses}
 use Rattle.yaml_spell.specs.Writers.{Sent, CutOff}
-use Rattle.yaml_answers.specs.Writers.{Printed, Broken}
-use Rattle.yaml_report.specs.Shelves.{IsOf, FileFails}
+use Rattle.yaml_text.specs.Writers.{Printed, Broken}
+use Rattle.yaml_command.specs.Shelves.{IsOf, FileFails}
 use Rattle.yaml_sum.specs.Complaints.{complaint, IsTold}
 use Rattle.yaml_sum.specs.Digests.{IsDigest}
 use Rattle.yaml_sum.specs.Lines.{sum_line}

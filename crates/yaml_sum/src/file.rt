@@ -1,7 +1,7 @@
 //! The sum of one file.
 ghost use Rattle.std.specs.Prelude.{◌≡◌, ◌<◌, ◌-◌, ◌^◌, OnOk, IfOk, IfErr};
 ghost use Rattle.yaml_sum.specs.Sums.{is_input, kept_line, NotReadAs, IsRead, IsNotRead, HasDigest, HasNone, HasLine, Sums, Cuts};
-ghost use Rattle.yaml_report.specs.Shelves.{IsOf};
+ghost use Rattle.yaml_command.specs.Shelves.{IsOf};
 
 use crate::buffers::Buffers;
 use crate::digest::digest_of;

@@ -1,6 +1,6 @@
 //! Why a file has no sum, and why sums are not made to the end.
 ghost use Rattle.std.specs.Prelude.{◌≡◌, max};
-ghost use Rattle.yaml_report.specs.Statuses.{fault_status};
+ghost use Rattle.yaml_command.specs.Statuses.{fault_status};
 
 use crate::reason::Reason;
 use yaml_text::fault::Fault;

@@ -1,8 +1,8 @@
 //! The lines that tell why a file has no sum.
 ghost use Rattle.std.specs.Prelude.{◌≡◌, ◌++◌, ◌<◌, ◌-◌, ◌^◌, [], codes, OnOk, OnErr, IfOk, IfErr};
-ghost use Rattle.yaml_report.specs.Refusals.{fault_line};
-ghost use Rattle.yaml_report.specs.Printing.{PrintFails};
-ghost use Rattle.yaml_answers.specs.Writers.{Printed};
+ghost use Rattle.yaml_command.specs.Refusals.{fault_line};
+ghost use Rattle.yaml_command.specs.Printing.{PrintFails};
+ghost use Rattle.yaml_text.specs.Writers.{Printed};
 ghost use Rattle.yaml_text.specs.CountedModel.{faults_of};
 ghost use Rattle.yaml_sum.specs.Complaints.{reason, complaint, IsTold};
 ghost use Rattle.yaml_sum.specs.Stops.{halt_line};

@@ -13,3 +13,4 @@ pub mod AsciiRuns
 pub mod Classes
 pub mod TagRuns
 pub mod DirectiveRuns
+pub mod UnreadLaws

@@ -10,3 +10,7 @@ pub mod Count
 pub mod CountedModel
 pub mod Calls
 pub mod LeafAnswer
+pub mod Gathering
+pub mod Rooms
+pub mod Unread
+pub mod Writers

@@ -1,4 +1,5 @@
-//! Checked texts and their characters, events, faults and limits.
+//! Checked texts and their characters, events, faults and limits; reading a whole input (`gather`); words of contracts that several
+//! calls share.
 #![tactic(auto)]
 
 pub mod chars;
@@ -9,9 +10,11 @@ pub mod counted;
 pub mod event;
 pub mod fault;
 pub mod front;
+pub mod gathering;
 pub mod limits;
 pub mod lines;
 pub mod places;
+pub mod side;
 pub mod text_laws;
 
 pub use chars::Chars;
@@ -19,3 +22,5 @@ pub use context::Ctx;
 pub use counted::Counted;
 pub use event::{Event, EventTag, Style};
 pub use fault::Fault;
+pub use gathering::gather;
+pub use side::Side;

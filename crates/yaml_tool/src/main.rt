@@ -3,10 +3,10 @@
 
 use std::env;
 use std::process::ExitCode;
+use yaml_args::{WordsFault, behind_name};
 use yaml_command::command::{command, report};
 use yaml_command::refusal::Refusal;
 use yaml_text::counted::Counted;
-use yaml_words::{WordsFault, behind_name};
 
 fn main(rt: HostRuntime) -> ExitCode {
     let alloc = rt.alloc();

@@ -3,7 +3,7 @@ use Rattle.std.proofs.Common.{◌≡◌, ℕ, zero, suc, ◌+◌, ◌<◌, ◌�
 use Rattle.std.proofs.lemmas.List.{append-nil, take_more, take_all}
 use Rattle.std.specs.List.{All}
 use Rattle.std.proofs.lemmas.List.Elements.{All-append}
-use Rattle.yaml_compact.proofs.Growing.{range-grown, range-new}
+use Rattle.yaml_store.proofs.Growing.{range-grown, range-new}
 use Rattle.yaml_values.specs.Ranges.{IsRange, Grows, Puts, in_turn}
 
 pub grows-none : {X : Type 0} (xs : List X) → Grows xs xs

@@ -13,10 +13,10 @@ ghost use Rattle.yaml_block.specs.BlockCalls.{StartsIn, IsFirstKey, EndsKey, Rea
 use crate::block::signs::{first_colon, line_goes_on};
 use crate::block::words::read_word_key;
 use std::alloc::Global;
-use yaml_line::flow::{FlowNode, FlowReader};
-use yaml_line::key::{Fit, key_fit};
-use yaml_line::level::Level;
-use yaml_line::properties::{Head, read_properties};
+use yaml_layout::flow::{FlowNode, FlowReader};
+use yaml_layout::key::{Fit, key_fit};
+use yaml_layout::level::Level;
+use yaml_layout::properties::{Head, read_properties};
 use yaml_mark::starts::begins_word;
 use yaml_sink::list::EventList;
 use yaml_sink::sink::{Keeper, Sink};

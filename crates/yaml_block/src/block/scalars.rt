@@ -7,7 +7,7 @@ ghost use Rattle.yaml_text.specs.declared.fault.Fault.TheVariants.{OutOfMemory};
 ghost use Rattle.yaml_scalar.specs.BlockModel.{column};
 ghost use Rattle.yaml_text.specs.Placed.{IsPlaced};
 ghost use Rattle.law_going_on.specs.GoingOn.{Here};
-ghost use Rattle.yaml_line.specs.NodeAnswer.{Appends, Decides};
+ghost use Rattle.yaml_layout.specs.NodeAnswer.{Appends, Decides};
 ghost use Rattle.yaml_sink.specs.Held.{Puts};
 ghost use Rattle.yaml_sink.specs.SinkModel.{holds_of};
 ghost use Rattle.yaml_sink.specs.PropertyRules.{props_of};
@@ -18,7 +18,7 @@ ghost use Rattle.yaml_block.specs.declared.block.signs.Block.TheVariants.{Litera
 
 use crate::block::signs::{Block, Sign};
 use std::alloc::Global;
-use yaml_line::line::{Line, line_at};
+use yaml_layout::line::{Line, line_at};
 use yaml_scalar::block::{read_folded, read_literal};
 use yaml_sink::properties::Properties;
 use yaml_sink::push::{push_empty, push_scalar};

@@ -10,9 +10,9 @@ ghost use Rattle.yaml_block.specs.BlockCalls.{StartsIn, StartsWord, EndsLine, En
 
 use crate::block::signs::first_colon;
 use std::alloc::Global;
-use yaml_line::flow::FlowReader;
-use yaml_line::level::Level;
-use yaml_line::line::{Line, next_line};
+use yaml_layout::flow::FlowReader;
+use yaml_layout::level::Level;
+use yaml_layout::line::{Line, next_line};
 use yaml_sink::sink::{Keeper, Sink};
 use yaml_text::chars::Chars;
 use yaml_text::context::Ctx;

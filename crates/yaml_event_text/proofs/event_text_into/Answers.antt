@@ -2,7 +2,7 @@ use Rattle.std.proofs.Common.{map, refl, subst, rules}
 use Rattle.std.proofs.lemmas.Result.{IfOk-weaker}
 use Rattle.yaml_text.specs.EventModel.{event_of}
 use Rattle.yaml_definitions.specs.model.EventText.{events_text}
-use Rattle.yaml_answers.specs.Rooms.{Places}
+use Rattle.yaml_text.specs.Rooms.{Places}
 use Rattle.yaml_text.specs.Source.{text_of}
 use Rattle.yaml_definitions.specs.grammar.Reading.{Reads}
 use Rattle.yaml_definitions.proofs.MeaningLaws.{readings_have_text}

@@ -2,18 +2,18 @@
 ghost use Rattle.std.specs.Prelude.{◌≡◌, IfOk, IfErr};
 ghost use Rattle.yaml_text.specs.EventModel.{context_of};
 ghost use Rattle.yaml_definitions.specs.grammar.Separation.{inner, flow_in};
-ghost use Rattle.yaml_line.specs.declared.flow.Kind.TheVariants.{Json};
+ghost use Rattle.yaml_layout.specs.declared.flow.Kind.TheVariants.{Json};
 ghost use Rattle.yaml_text.specs.Placed.{IsPlaced};
 ghost use Rattle.yaml_sink.specs.SinkModel.{holds_of};
-ghost use Rattle.yaml_line.specs.NodeLevels.{content_rule, ReadsNode};
+ghost use Rattle.yaml_layout.specs.NodeLevels.{content_rule, ReadsNode};
 ghost use Rattle.yaml_flow.specs.Levels.{StartsCollection, StartsPart, EndsPast, entries_rule, mapping_rule, ReadsPart, DecidesCollectionAt, DecidesPartsAt};
 
 use crate::flow::entries::read_entry;
 use crate::flow::signs::{inner, part_gap};
 use std::alloc::Global;
-use yaml_line::flow::{FlowNode, Kind};
-use yaml_line::level::Level;
-use yaml_line::line::separation;
+use yaml_layout::flow::{FlowNode, Kind};
+use yaml_layout::level::Level;
+use yaml_layout::line::separation;
 use yaml_sink::push::{push_flow_mapping, push_mapping_end};
 use yaml_sink::sink::{Keeper, Sink};
 use yaml_text::chars::Chars;

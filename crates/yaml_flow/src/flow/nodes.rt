@@ -5,9 +5,9 @@ ghost use Rattle.yaml_text.specs.EventModel.{context_of};
 ghost use Rattle.yaml_definitions.specs.grammar.Separation.{flow_in, flow_out};
 ghost use Rattle.yaml_text.specs.Placed.{IsPlaced};
 ghost use Rattle.yaml_sink.specs.SinkModel.{holds_of};
-ghost use Rattle.yaml_line.specs.PropertyDecisions.{LineGoesOn};
+ghost use Rattle.yaml_layout.specs.PropertyDecisions.{LineGoesOn};
 ghost use Rattle.yaml_sink.specs.PropertyRules.{props_of};
-ghost use Rattle.yaml_line.specs.NodeLevels.{StartsNode, StartsWith, Ends, node_rule, content_rule, bare_rule, ReadsNode, FindsNode, DecidesNodeAt};
+ghost use Rattle.yaml_layout.specs.NodeLevels.{StartsNode, StartsWith, Ends, node_rule, content_rule, bare_rule, ReadsNode, FindsNode, DecidesNodeAt};
 ghost use Rattle.yaml_flow.specs.Levels.{EndsPast, DecidesContentAt};
 
 use crate::flow::mapping::read_mapping;
@@ -15,10 +15,10 @@ use crate::flow::scalars::{Quote, push_lone, read_alias, read_plain_node, read_q
 use crate::flow::sequence::read_sequence;
 use crate::flow::signs::{First, first_of};
 use std::alloc::Global;
-use yaml_line::flow::FlowNode;
-use yaml_line::level::Level;
-use yaml_line::line::separation;
-use yaml_line::properties::{Head, read_properties};
+use yaml_layout::flow::FlowNode;
+use yaml_layout::level::Level;
+use yaml_layout::line::separation;
+use yaml_layout::properties::{Head, read_properties};
 use yaml_sink::properties::Properties;
 use yaml_sink::sink::{Keeper, Sink};
 use yaml_text::chars::Chars;

@@ -5,15 +5,15 @@ ghost use Rattle.yaml_text.specs.Lines.{Inside};
 ghost use Rattle.law_one_reading.specs.Follows.{Closes};
 ghost use Rattle.yaml_text.specs.Placed.{IsPlaced};
 ghost use Rattle.yaml_sink.specs.SinkModel.{holds_of};
-ghost use Rattle.yaml_line.specs.NodeLevels.{Ends};
+ghost use Rattle.yaml_layout.specs.NodeLevels.{Ends};
 ghost use Rattle.yaml_flow.specs.Levels.{StartsKey, StartsAsked, StartsEmpty, item_rule, pair_rule, ReadsPart, DecidesPartAt};
 
 use crate::flow::entries::{Colon, read_asked, read_value};
 use crate::flow::nodes::read_flow_node;
 use crate::flow::signs::key_colon;
 use std::alloc::Global;
-use yaml_line::flow::Kind;
-use yaml_line::level::Level;
+use yaml_layout::flow::Kind;
+use yaml_layout::level::Level;
 use yaml_sink::push::{push_empty, push_flow_mapping, push_mapping_end};
 use yaml_sink::sink::{Keeper, Sink};
 use yaml_text::chars::Chars;

@@ -5,10 +5,10 @@ ghost use Rattle.yaml_text.specs.EventModel.{context_of};
 ghost use Rattle.yaml_definitions.specs.grammar.Separation.{inner, flow_in};
 ghost use Rattle.yaml_text.specs.Lines.{Inside};
 ghost use Rattle.law_one_reading.specs.Follows.{Closes};
-ghost use Rattle.yaml_line.specs.declared.flow.Kind.TheVariants.{Json};
+ghost use Rattle.yaml_layout.specs.declared.flow.Kind.TheVariants.{Json};
 ghost use Rattle.yaml_text.specs.Placed.{IsPlaced};
 ghost use Rattle.yaml_sink.specs.SinkModel.{holds_of};
-ghost use Rattle.yaml_line.specs.NodeLevels.{Ends, content_rule, ReadsNode};
+ghost use Rattle.yaml_layout.specs.NodeLevels.{Ends, content_rule, ReadsNode};
 ghost use Rattle.yaml_flow.specs.Levels.{StartsCollection, StartsPart, StartsKey, EndsPast, item_rule, items_rule, sequence_rule, ReadsPart, DecidesCollectionAt, DecidesPartAt, DecidesPartsAt};
 
 use crate::flow::entries::{Colon, read_value};
@@ -16,9 +16,9 @@ use crate::flow::nodes::read_flow_node;
 use crate::flow::pairs::{read_asked_pair, read_empty_pair, read_pair};
 use crate::flow::signs::{inner, key_colon, part_gap, question_sign, value_sign};
 use std::alloc::Global;
-use yaml_line::flow::{FlowNode, Kind};
-use yaml_line::level::Level;
-use yaml_line::line::separation;
+use yaml_layout::flow::{FlowNode, Kind};
+use yaml_layout::level::Level;
+use yaml_layout::line::separation;
 use yaml_sink::push::{
     insert_flow_mapping, push_flow_sequence, push_mapping_end, push_sequence_end,
 };

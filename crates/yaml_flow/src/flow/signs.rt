@@ -11,13 +11,13 @@ ghost use Rattle.law_one_reading.specs.Follows.{Closes, Fresh};
 ghost use Rattle.yaml_text.specs.LeafAnswer.{IsRefusal};
 ghost use Rattle.yaml_text.specs.Placed.{IsPlaced};
 ghost use Rattle.yaml_flow.specs.FlowDecisions.{NoKey, LongKey};
-ghost use Rattle.yaml_line.specs.Lines.{IsStretch, LeadsFrom};
-ghost use Rattle.yaml_line.specs.NodeRules.{IsInner};
+ghost use Rattle.yaml_layout.specs.Lines.{IsStretch, LeadsFrom};
+ghost use Rattle.yaml_layout.specs.NodeRules.{IsInner};
 ghost use Rattle.yaml_flow.specs.FlowRules.{MayFollowColon, SignAt, AskedAt, IsParted, FirstIs, IsKeyColon};
 
-use yaml_line::flow::Kind;
-use yaml_line::key::{Fit, key_fit};
-use yaml_line::line::separation;
+use yaml_layout::flow::Kind;
+use yaml_layout::key::{Fit, key_fit};
+use yaml_layout::line::separation;
 use yaml_text::chars::Chars;
 use yaml_text::class::is_plain_safe;
 use yaml_text::context::Ctx;

@@ -3,7 +3,7 @@ use Rattle.yaml_text.specs.Source.{text_of}
 use Rattle.yaml_definitions.specs.grammar.Reading.{Reads}
 use Rattle.yaml_definitions.proofs.grammar.Documents.{readings_are_documents}
 use Rattle.yaml_sink.specs.SinkModel.{holds_of}
-use Rattle.yaml_compose.specs.KeeperModel.{Composes}
+use Rattle.yaml_store_composer.specs.KeeperModel.{Composes}
 use Rattle.rows_canon.proofs.visits.counted.Goals as goal
 
 pub compact_rank-requires-clause-good : goal.compact_rank-requires-clause-good

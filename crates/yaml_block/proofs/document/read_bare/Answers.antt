@@ -5,9 +5,9 @@ use Rattle.yaml_definitions.specs.grammar.Streams.{l-bare-document as bare_docum
 use Rattle.yaml_mark.specs.HandlesModel.{handles_of}
 use Rattle.yaml_definitions.specs.grammar.Separation.{block_in}
 use Rattle.law_going_on.specs.GoingOn.{Here}
-use Rattle.yaml_line.specs.NodeAnswer.{Decides}
+use Rattle.yaml_layout.specs.NodeAnswer.{Decides}
 use Rattle.yaml_sink.specs.SinkModel.{holds_of}
-use Rattle.yaml_line.proofs.AnswerLemmas.{appends_by}
+use Rattle.yaml_layout.proofs.AnswerLemmas.{appends_by}
 use Rattle.yaml_block.specs.BlockEnds.{AfterNode}
 use Rattle.yaml_block.proofs.Passing.{decides_rest}
 use Rattle.yaml_block.proofs.RootDecisions.{document_root}

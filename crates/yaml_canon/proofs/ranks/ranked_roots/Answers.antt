@@ -2,7 +2,7 @@ use Rattle.std.proofs.Common.{◌≡◌, ◌<◌, length, slice_index, sym, ◌�
 use Rattle.std.specs.List.{All}
 use Rattle.std.specs.Vec.{with_items}
 use Rattle.std.proofs.lemmas.List.{with_items_is, length-map}
-use Rattle.yaml_compact.specs.Walked.{ranks_of, RanksTaken}
+use Rattle.yaml_store_rank.specs.Walked.{ranks_of, RanksTaken}
 use Rattle.yaml_canon.specs.RefusedRanks.{IsInStream}
 use Rattle.yaml_canon.proofs.KeyLaws.{in-stream, in-both}
 use Rattle.yaml_canon.proofs.RootRanks.{roots-ranked, ranks-of-roots}

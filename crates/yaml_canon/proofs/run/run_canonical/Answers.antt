@@ -1,5 +1,5 @@
 use Rattle.std.proofs.Common.{◌≡◌, subst, rules}
-use Rattle.yaml_answers.specs.Gathering.{Gathers, GatherFails}
+use Rattle.yaml_text.specs.Gathering.{Gathers, GatherFails}
 use Rattle.yaml_canon.specs.FaultPlaces.{TellsPlace}
 use Rattle.yaml_spell.proofs.PieceLaws.{if_err}
 use Rattle.yaml_canon.proofs.PlacedLaws.{gather_elsewhere, read_place}

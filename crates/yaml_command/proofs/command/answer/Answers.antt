@@ -1,6 +1,6 @@
 use Rattle.std.proofs.Common.{map, string_bytes}
 use Rattle.yaml_command.specs.Commands.{WordsDone, WordsNotDone}
-use Rattle.yaml_report.specs.Refusals.{Told}
+use Rattle.yaml_command.specs.Refusals.{Told}
 use Rattle.yaml_command.proofs.Answering.{answered, quiet_below, status_tells, status_told}
 use Rattle.yaml_command.proofs.command.answer.Goals as goal
 

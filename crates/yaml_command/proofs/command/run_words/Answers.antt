@@ -1,5 +1,5 @@
 use Rattle.std.proofs.Common.{map, string_bytes}
-use Rattle.yaml_report.proofs.FileLaws.{if_one, if_refused}
+use Rattle.yaml_command.proofs.FileLaws.{if_one, if_refused}
 use Rattle.yaml_command.proofs.Answering.{not_done}
 use Rattle.yaml_command.proofs.command.run_words.Goals as goal
 

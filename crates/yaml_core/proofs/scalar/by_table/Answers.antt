@@ -1,8 +1,8 @@
 use Rattle.std.proofs.Common.{Ok, sym, ◌∙◌, ap, subst}
 use Rattle.std.specs.Cow.{cow_str_bytes}
-use Rattle.yaml_content.specs.CoreAnswer.{RefusesScalar}
-use Rattle.yaml_content.specs.Form.{form_kind}
-use Rattle.yaml_content.specs.Kind.{of_kind}
+use Rattle.yaml_core.specs.CoreAnswer.{RefusesScalar}
+use Rattle.yaml_core.specs.Form.{form_kind}
+use Rattle.yaml_core.specs.Kind.{of_kind}
 use Rattle.yaml_core.proofs.ResolveLemmas.{table_is, kept_kind}
 use Rattle.yaml_core.proofs.scalar.by_table.Goals as goal
 

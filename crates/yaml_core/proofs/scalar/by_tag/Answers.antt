@@ -2,8 +2,8 @@ use Rattle.std.proofs.Common.{Ok, sym, ◌∙◌, ap, subst}
 use Rattle.std.specs.Cow.{cow_str_bytes}
 use Rattle.yaml_definitions.specs.model.Core.{wrong_kind}
 use Rattle.yaml_definitions.proofs.CoreLaws.{wrong}
-use Rattle.yaml_content.specs.CoreAnswer.{RefusesScalar}
-use Rattle.yaml_content.specs.declared.tag.TagUse.{TagUse}
+use Rattle.yaml_core.specs.CoreAnswer.{RefusesScalar}
+use Rattle.yaml_core.specs.declared.tag.TagUse.{TagUse}
 use Rattle.yaml_core.proofs.ResolveLemmas.{UsedBy, tag_is, kept_kind}
 use Rattle.yaml_core.proofs.scalar.by_tag.Goals as goal
 

@@ -5,7 +5,7 @@ use Rattle.yaml_definitions.specs.model.Tag.{str_tag}
 use Rattle.yaml_definitions.specs.model.Event.{untagged}
 use Rattle.yaml_text.specs.EventModel.{written_of, style_of}
 use Rattle.yaml_definitions.specs.model.Core.{Resolved, resolve, by_table, by_tag}
-use Rattle.yaml_content.specs.CoreAnswer.{RefusesScalar}
+use Rattle.yaml_core.specs.CoreAnswer.{RefusesScalar}
 use Rattle.yaml_core.proofs.scalar.resolve.Goals as goal
 
 pub returns-in-Plain-clause-means : goal.returns-in-Plain-clause-means

@@ -6,15 +6,15 @@ use Rattle.yaml_definitions.specs.grammar.Events.{no_props, e-scalar as empty, a
 use Rattle.yaml_definitions.specs.grammar.Tags as tags
 use Rattle.yaml_definitions.specs.grammar.Rules.{any, ◌◂◌, given, gives, seen}
 use Rattle.yaml_text.proofs.Tests.{on_true_at, on_false_at}
-use Rattle.yaml_line.specs.NodeRules.{opens, below, from_room, content_from, Bare, aliased, plainly, with_properties, lone}
+use Rattle.yaml_layout.specs.NodeRules.{opens, below, from_room, content_from, Bare, aliased, plainly, with_properties, lone}
 use Rattle.yaml_flow.specs.FlowRules.{SignAt, AskedAt, IsKeyColon, spaced, comma, item_at, entry_at, keyed_at, asked_at, value_at, parts}
 use Rattle.yaml_mark.specs.HandlesModel.{handles_of}
 use Rattle.yaml_sink.specs.PropertyRules.{props_of, dressed}
-use Rattle.yaml_line.specs.declared.flow.Kind.TheVariants.{Yaml}
+use Rattle.yaml_layout.specs.declared.flow.Kind.TheVariants.{Yaml}
 use Rattle.yaml_sink.specs.SinkModel.{holds_of}
-use Rattle.yaml_line.proofs.PropertyLemmas.{own_marks, marks_props}
-use Rattle.yaml_line.proofs.AnswerLemmas.{puts_on, puts_none, puts_altered, appends_by, appends_after, appends_same, perhaps_some, perhaps_none}
-use Rattle.yaml_line.proofs.NodeLemmas.{bare_flow}
+use Rattle.yaml_layout.proofs.PropertyLemmas.{own_marks, marks_props}
+use Rattle.yaml_layout.proofs.AnswerLemmas.{puts_on, puts_none, puts_altered, appends_by, appends_after, appends_same, perhaps_some, perhaps_none}
+use Rattle.yaml_layout.proofs.NodeLemmas.{bare_flow}
 use Rattle.yaml_flow.proofs.FlowLemmas.{no_parts, one_part, parts_end, part_end, sequence_is, mapping_is, pair_item, no_value, key_entry, lone_entry, value_is, empty_entry, asked_keyed, asked_nothing, keyed_entry, asked_entry, asked_pair, empty_pair}
 use Rattle.yaml_definitions.specs.grammar.Separation.{flow_in}
 use Rattle.yaml_flow.proofs.LoopDecisions.{all_left, left_closed, left_refused, left_no_way, left_last, left_unclosed, left_more, left_no_more, to_in, none_in, item_begins, entry_begins, bracket_shut, bracket_other, brace_shut, brace_other, sequence_nowhere, sequence_goes, sequence_refused, mapping_nowhere, mapping_goes, mapping_refused}
@@ -22,9 +22,9 @@ use Rattle.yaml_definitions.specs.grammar.Nodes.{c-flow-sequence as flow_seq, c-
 use Rattle.law_going_on.specs.GoingOn.{Here}
 use Rattle.law_going_on.specs.FlowEnds.{InFlow}
 use Rattle.yaml_flow.specs.FlowDecisions.{NoKey, LongKey}
-use Rattle.yaml_line.proofs.PropertyDecisions.{or_else}
-use Rattle.yaml_line.proofs.Deciding.{decides_err, decides_by}
-use Rattle.yaml_line.proofs.PlainDecisions.{plain_content, bare_only, bare_refused, content_some, content_none}
+use Rattle.yaml_layout.proofs.PropertyDecisions.{or_else}
+use Rattle.yaml_layout.proofs.Deciding.{decides_err, decides_by}
+use Rattle.yaml_layout.proofs.PlainDecisions.{plain_content, bare_only, bare_refused, content_some, content_none}
 use Rattle.yaml_flow.proofs.ContentDecisions.{single_only, no_single, double_only, no_double, sequence_only, no_sequence, no_sequence_left, mapping_only, no_mapping, no_mapping_left, content_err}
 use Rattle.yaml_flow.proofs.BareDecisions.{props_nowhere, props_lone, props_none, props_only, props_refused, content_begins, barred_refused, node_err}
 use Rattle.yaml_flow.proofs.PartDecisions.{only_in, refused_in, no_mark}

@@ -5,7 +5,7 @@ use Rattle.yaml_text.specs.Source.{bytes_of, text_of, place_of, IsBorder}
 use Rattle.yaml_definitions.specs.grammar.Rules.{any, ◌◂◌}
 use Rattle.yaml_definitions.specs.grammar.Separation.{flow_in}
 use Rattle.yaml_mark.specs.HandlesModel.{handles_of}
-use Rattle.yaml_line.specs.NodeRules.{from_room}
+use Rattle.yaml_layout.specs.NodeRules.{from_room}
 use Rattle.yaml_flow.specs.FlowRules.{item_at, entry_at, spaced, comma}
 use Rattle.yaml_sink.specs.Held.{Puts}
 use Rattle.yaml_sink.specs.SinkModel.{holds_of}

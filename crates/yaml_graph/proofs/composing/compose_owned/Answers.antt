@@ -5,8 +5,8 @@ use Rattle.yaml_text.specs.EventModel.{event_of}
 use Rattle.yaml_graph.specs.Composed.{RefusesStream}
 use Rattle.yaml_graph.proofs.StreamLaws.{Stepped, stepped, goes-on, refused, ended}
 use Rattle.yaml_graph.proofs.EndLaws.{nodes-low, finished}
-use Rattle.yaml_nodes.specs.ComposerSteps.{steps}
-use Rattle.yaml_nodes.specs.ComposerModel.{Reached}
+use Rattle.yaml_graph.specs.ComposerSteps.{steps}
+use Rattle.yaml_graph.specs.ComposerModel.{Reached}
 use Rattle.yaml_graph.proofs.composing.compose_owned.Goals as goal
 
 pub returns-in_err-take : goal.returns-in_err-take

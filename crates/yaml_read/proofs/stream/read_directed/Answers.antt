@@ -1,8 +1,8 @@
 use Rattle.yaml_text.specs.Source.{text_of, place_of}
-use Rattle.yaml_line.specs.declared.line.Line.{Line}
+use Rattle.yaml_layout.specs.declared.line.Line.{Line}
 use Rattle.yaml_read.specs.StreamRules.{opened_by_directives}
 use Rattle.yaml_sink.specs.SinkModel.{holds_of}
-use Rattle.yaml_line.proofs.AnswerLemmas.{appends_err}
+use Rattle.yaml_layout.proofs.AnswerLemmas.{appends_err}
 use Rattle.yaml_mark.specs.HandlesModel.{bindings_of}
 use Rattle.yaml_read.proofs.StreamLemmas.{directed, directives_refusal}
 use Rattle.std.proofs.Common.{inr}

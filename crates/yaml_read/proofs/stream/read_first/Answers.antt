@@ -1,7 +1,7 @@
 use Rattle.std.proofs.Common.{inl, inr}
 use Rattle.yaml_definitions.specs.grammar.Rules.{◌∪◌}
 use Rattle.yaml_sink.specs.SinkModel.{holds_of}
-use Rattle.yaml_line.proofs.AnswerLemmas.{appends_by}
+use Rattle.yaml_layout.proofs.AnswerLemmas.{appends_by}
 use Rattle.yaml_read.specs.StreamRules.{opened_bare, opened_by_directives}
 use Rattle.law_going_on.specs.GoingOn.{Here}
 use Rattle.yaml_text.specs.Source.{text_of, place_of}

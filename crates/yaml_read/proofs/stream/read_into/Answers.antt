@@ -3,7 +3,7 @@ use Rattle.yaml_definitions.specs.model.Limits.{open_limit}
 use Rattle.yaml_definitions.specs.model.Event.{stream_start, stream_end}
 use Rattle.yaml_text.specs.Source.{text_of}
 use Rattle.law_one_reading.proofs.Documents.{text_same}
-use Rattle.yaml_line.proofs.AnswerLemmas.{puts_on}
+use Rattle.yaml_layout.proofs.AnswerLemmas.{puts_on}
 use Rattle.yaml_read.proofs.stream.read_into.Goals as goal
 
 pub returns-clause-ok : goal.returns-clause-ok

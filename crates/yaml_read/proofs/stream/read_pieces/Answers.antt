@@ -2,7 +2,7 @@ use Rattle.std.proofs.Common.{◌≡◌, [], ◌∷◌, ◌++◌, refl, sym, ap,
 use Rattle.std.proofs.lemmas.Bool.{false≢true}
 use Rattle.yaml_definitions.specs.model.Event.{stream_start}
 use Rattle.yaml_text.specs.Source.{text_of, place_of}
-use Rattle.yaml_line.proofs.AnswerLemmas.{puts_on, puts_none}
+use Rattle.yaml_layout.proofs.AnswerLemmas.{puts_on, puts_none}
 use Rattle.yaml_read.specs.Sofar.{document_closing, IsSofar}
 use Rattle.yaml_read.proofs.SofarLaws.{sofar_start, sofar_suffix, sofar_explicit, sofar_bare, sofar_directives, sofar_end}
 use Rattle.yaml_read.proofs.StreamLemmas.{mark_suffix, mark_explicit, after_comments}

@@ -4,7 +4,7 @@ use Rattle.yaml_text.specs.Source.{bytes_of, text_of, place_of}
 use Rattle.yaml_text.specs.Lines.{AfterLine}
 use Rattle.yaml_sink.specs.Held.{Puts}
 use Rattle.yaml_sink.specs.SinkModel.{holds_of}
-use Rattle.yaml_line.specs.Lines.{IsLine}
+use Rattle.yaml_layout.specs.Lines.{IsLine}
 use Rattle.yaml_read.specs.Sofar.{IsSofar}
 use Rattle.yaml_read.proofs.LeftLemmas.{Leaves}
 use Rattle.yaml_read.proofs.stream.read_pieces.Given as goal

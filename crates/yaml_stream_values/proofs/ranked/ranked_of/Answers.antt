@@ -2,7 +2,7 @@ use Rattle.std.proofs.Common.{◌≡◌, ◌<◌, length, slice_index, refl, sym
 use Rattle.std.specs.List.{All}
 use Rattle.std.specs.Vec.{with_items}
 use Rattle.std.proofs.lemmas.List.{with_items_is, length-map}
-use Rattle.yaml_compact.specs.Walked.{ranks_of, RanksTaken}
+use Rattle.yaml_store_rank.specs.Walked.{ranks_of, RanksTaken}
 use Rattle.yaml_stream_values.proofs.StreamLaws.{roots-ranked, ranks-of-stream}
 use Rattle.yaml_stream_values.proofs.ranked.ranked_of.Goals as goal
 

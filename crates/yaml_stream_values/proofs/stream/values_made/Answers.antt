@@ -3,7 +3,7 @@ use Rattle.std.specs.Prelude.{IfOk}
 use Rattle.std.specs.List.{All}
 use Rattle.std.specs.String.{string_bytes}
 use Rattle.std.proofs.lemmas.List.{length-take-le}
-use Rattle.yaml_compact.specs.Walked.{walked_tree}
+use Rattle.yaml_store_rank.specs.Walked.{walked_tree}
 use Rattle.yaml_values.specs.Denotes.{Denotes}
 use Rattle.yaml_stream_values.proofs.StreamLaws.{if_values}
 use Rattle.yaml_stream_values.proofs.stream.values_made.Goals as goal

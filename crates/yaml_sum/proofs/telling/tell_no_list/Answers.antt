@@ -1,8 +1,8 @@
 use Rattle.std.proofs.Common.{◌≡◌, ◌++◌, ℕ, List, sym, ◌∙◌, subst}
 use Rattle.std.specs.Prelude.{codes, OnOk, IfErr}
 use Rattle.std.proofs.lemmas.List.{append_assoc}
-use Rattle.yaml_answers.specs.Writers.{Printed}
-use Rattle.yaml_report.specs.Printing.{PrintFails}
+use Rattle.yaml_text.specs.Writers.{Printed}
+use Rattle.yaml_command.specs.Printing.{PrintFails}
 use Rattle.yaml_sum.proofs.telling.tell_no_list.Goals as goal
 
 rest-of : (name why : List ℕ) → name ++ codes ": cannot open: " ++ why ++ codes "\n" ≡ name ++ (codes ": cannot open: " ++ (why ++ codes "\n"))

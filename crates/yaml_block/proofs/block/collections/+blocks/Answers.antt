@@ -14,12 +14,12 @@ use Rattle.law_going_on.proofs.GoingOn.{rest_rest, rest_goes, rest_refused}
 use Rattle.yaml_sink.specs.Held.{Keeps, Puts}
 use Rattle.yaml_sink.specs.SinkModel.{holds_of}
 use Rattle.yaml_sink.specs.PropertyRules.{props_of}
-use Rattle.yaml_line.specs.Lines.{IsLine, IsDash}
-use Rattle.yaml_line.specs.declared.level.Level.{Level}
-use Rattle.yaml_line.specs.declared.line.Line.{Line}
-use Rattle.yaml_line.proofs.AnswerLemmas.{puts_on, puts_none, perhaps_some, perhaps_none}
-use Rattle.yaml_line.proofs.PropertyDecisions.{or_else}
-use Rattle.yaml_line.proofs.Deciding.{decides_err}
+use Rattle.yaml_layout.specs.Lines.{IsLine, IsDash}
+use Rattle.yaml_layout.specs.declared.level.Level.{Level}
+use Rattle.yaml_layout.specs.declared.line.Line.{Line}
+use Rattle.yaml_layout.proofs.AnswerLemmas.{puts_on, puts_none, perhaps_some, perhaps_none}
+use Rattle.yaml_layout.proofs.PropertyDecisions.{or_else}
+use Rattle.yaml_layout.proofs.Deciding.{decides_err}
 use Rattle.yaml_block.specs.BlockRules.{value_rest, entry_rest, entries_rest, sequence_with, seq_body, key_rest}
 use Rattle.yaml_block.specs.BlockEnds.{AfterSequence, AfterMapping, AfterColon, IsFurther}
 use Rattle.yaml_block.specs.BlockCalls.{StartsOpened, EndsLine, IsNext, IsNextDash, ReadsLine, DecidesNextKey, DecidesRest, begins, entry_level, entries_level, key_rule, rest_rule, opened_at}

@@ -1,7 +1,7 @@
 use Rattle.std.proofs.Common.{inl, inr}
 use Rattle.yaml_text.proofs.Tests.{on_true_at, on_false_at}
-use Rattle.yaml_line.proofs.PropertyDecisions.{or_else}
-use Rattle.yaml_line.proofs.Deciding.{at_err}
+use Rattle.yaml_layout.proofs.PropertyDecisions.{or_else}
+use Rattle.yaml_layout.proofs.Deciding.{at_err}
 use Rattle.yaml_block.specs.BlockCalls.{DecidesNextKey}
 use Rattle.yaml_block.proofs.block.collections.next_colon.Goals as goal
 

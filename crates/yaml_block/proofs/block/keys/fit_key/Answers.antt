@@ -2,8 +2,8 @@ use Rattle.std.proofs.Common.{◌≡◌, suc, inr, arith, subst, sym, ◌-◌}
 use Rattle.yaml_text.specs.Source.{text_of, place_of}
 use Rattle.yaml_definitions.specs.grammar.Separation.{flow_out}
 use Rattle.yaml_mark.specs.HandlesModel.{handles_of}
-use Rattle.yaml_line.specs.PropertyDecisions.{IsOnly}
-use Rattle.yaml_line.specs.NodeRules.{Bare}
+use Rattle.yaml_layout.specs.PropertyDecisions.{IsOnly}
+use Rattle.yaml_layout.specs.NodeRules.{Bare}
 use Rattle.yaml_sink.specs.PropertyRules.{props_of}
 use Rattle.yaml_block.specs.KeyFits.{NoneBelow}
 use Rattle.yaml_block.proofs.KeyDecisions.{puts_again, none_below}

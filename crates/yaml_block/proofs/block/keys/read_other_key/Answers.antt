@@ -5,11 +5,11 @@ use Rattle.yaml_text.proofs.Tests.{on_true_at, on_false_at}
 use Rattle.yaml_mark.specs.HandlesModel.{handles_of}
 use Rattle.law_going_on.specs.GoingOn.{Here}
 use Rattle.yaml_sink.specs.PropertyRules.{props_of, dressed}
-use Rattle.yaml_line.proofs.AnswerLemmas.{puts_altered}
-use Rattle.yaml_line.proofs.NodeLemmas.{bare_flow}
-use Rattle.yaml_line.proofs.PropertyLemmas.{own_marks}
-use Rattle.yaml_line.proofs.PropertyDecisions.{or_else, line_own, line_all}
-use Rattle.yaml_line.proofs.Deciding.{decides_err}
+use Rattle.yaml_layout.proofs.AnswerLemmas.{puts_altered}
+use Rattle.yaml_layout.proofs.NodeLemmas.{bare_flow}
+use Rattle.yaml_layout.proofs.PropertyLemmas.{own_marks}
+use Rattle.yaml_layout.proofs.PropertyDecisions.{or_else, line_own, line_all}
+use Rattle.yaml_layout.proofs.Deciding.{decides_err}
 use Rattle.yaml_block.specs.BlockRules.{key_rest}
 use Rattle.yaml_block.specs.BlockEnds.{AfterColon, IsNoKey}
 use Rattle.yaml_block.specs.BlockCalls.{IsFirstColon}

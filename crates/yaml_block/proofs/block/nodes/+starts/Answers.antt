@@ -7,9 +7,9 @@ use Rattle.yaml_text.specs.declared.chars.Chars.{Chars}
 use Rattle.yaml_mark.specs.HandlesModel.{handles_of}
 use Rattle.yaml_sink.specs.PropertyRules.{props_of}
 use Rattle.yaml_sink.specs.SinkModel.{holds_of}
-use Rattle.yaml_line.proofs.AnswerLemmas.{puts_none}
-use Rattle.yaml_line.proofs.PropertyDecisions.{or_else}
-use Rattle.yaml_line.proofs.Deciding.{at_err}
+use Rattle.yaml_layout.proofs.AnswerLemmas.{puts_none}
+use Rattle.yaml_layout.proofs.PropertyDecisions.{or_else}
+use Rattle.yaml_layout.proofs.Deciding.{at_err}
 use Rattle.yaml_block.specs.BlockRules.{node_rest}
 use Rattle.yaml_block.specs.BlockEnds.{AfterNode}
 use Rattle.yaml_block.specs.BlockCalls.{DecidesOpened, DecidesOpenedNode, site_rule}
@@ -19,7 +19,7 @@ use Rattle.yaml_block.proofs.LineDecisions.{comments_after, dash_here}
 use Rattle.yaml_definitions.specs.grammar.Separation.{flow_out, block_key}
 use Rattle.yaml_text.proofs.Tests.{on_true_at, on_false_at}
 use Rattle.yaml_sink.specs.PropertyRules.{SomeProperties}
-use Rattle.yaml_line.proofs.PropertyLemmas.{own_marks}
+use Rattle.yaml_layout.proofs.PropertyLemmas.{own_marks}
 use Rattle.yaml_block.specs.OuterRules.{above, Above, properties_left}
 use Rattle.yaml_block.proofs.OuterLemmas.{any_column, above_own, fewer_left, marked_column, marked_nothing, marked_sequence}
 use Rattle.yaml_block.proofs.Places.{places_up}

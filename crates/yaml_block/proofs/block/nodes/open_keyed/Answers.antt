@@ -12,12 +12,12 @@ use Rattle.yaml_sink.specs.PropertyRules.{props_of, both_props, dressed}
 use Rattle.yaml_sink.specs.Held.{Alters}
 use Rattle.yaml_sink.specs.SinkModel.{holds_of}
 use Rattle.yaml_sink.specs.declared.properties.Properties.{Properties}
-use Rattle.yaml_line.specs.NodeLevels.{StartsWith}
-use Rattle.yaml_line.specs.declared.properties.Head.{Head}
-use Rattle.yaml_line.proofs.AnswerLemmas.{puts_after, puts_altered}
-use Rattle.yaml_line.proofs.NodeLemmas.{bare_flow}
-use Rattle.yaml_line.proofs.PropertyDecisions.{or_else, line_all}
-use Rattle.yaml_line.proofs.Deciding.{at_err}
+use Rattle.yaml_layout.specs.NodeLevels.{StartsWith}
+use Rattle.yaml_layout.specs.declared.properties.Head.{Head}
+use Rattle.yaml_layout.proofs.AnswerLemmas.{puts_after, puts_altered}
+use Rattle.yaml_layout.proofs.NodeLemmas.{bare_flow}
+use Rattle.yaml_layout.proofs.PropertyDecisions.{or_else, line_all}
+use Rattle.yaml_layout.proofs.Deciding.{at_err}
 use Rattle.yaml_block.specs.BlockRules.{node_rest}
 use Rattle.yaml_block.specs.BlockEnds.{AfterNode, IsNoKey}
 use Rattle.yaml_block.specs.BlockCalls.{flow_level, StartsDressed, IsFirstColon, DecidesOpenedNode, site_rule}

@@ -1,8 +1,8 @@
 use Rattle.yaml_text.specs.EventModel.{context_of}
 use Rattle.yaml_text.specs.Source.{text_of, place_of}
 use Rattle.law_going_on.specs.GoingOn.{Here}
-use Rattle.yaml_line.proofs.AnswerLemmas.{appends_after}
-use Rattle.yaml_line.proofs.Deciding.{decides_err}
+use Rattle.yaml_layout.proofs.AnswerLemmas.{appends_after}
+use Rattle.yaml_layout.proofs.Deciding.{decides_err}
 use Rattle.yaml_block.specs.BlockEnds.{AfterNode}
 use Rattle.yaml_block.specs.BlockCalls.{rest_rule, left_rule, rest_end, opened_at, site_rule}
 use Rattle.yaml_block.proofs.Passing.{decides_rest}

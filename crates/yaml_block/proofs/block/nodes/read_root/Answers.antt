@@ -4,12 +4,12 @@ use Rattle.yaml_definitions.specs.grammar.Separation.{block_in}
 use Rattle.yaml_mark.specs.HandlesModel.{handles_of}
 use Rattle.yaml_sink.specs.PropertyRules.{props_of}
 use Rattle.yaml_sink.specs.SinkModel.{holds_of}
-use Rattle.yaml_line.proofs.AnswerLemmas.{appends_by}
+use Rattle.yaml_layout.proofs.AnswerLemmas.{appends_by}
 use Rattle.yaml_block.specs.BlockRules.{root_rest, node_rest, sequence_with}
 use Rattle.yaml_block.specs.OuterRules.{column_of}
 use Rattle.yaml_definitions.specs.grammar.Events.{no_props}
 use Rattle.law_going_on.specs.GoingOn.{Here}
-use Rattle.yaml_line.specs.NodeAnswer.{Decides}
+use Rattle.yaml_layout.specs.NodeAnswer.{Decides}
 use Rattle.yaml_block.specs.BlockEnds.{AfterNode, AfterSequence}
 use Rattle.yaml_block.proofs.OuterLemmas.{column_free}
 use Rattle.yaml_block.proofs.Passing.{decides_rest}

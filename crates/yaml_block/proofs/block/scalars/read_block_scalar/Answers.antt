@@ -2,9 +2,9 @@ use Rattle.yaml_text.specs.Source.{text_of, place_of}
 use Rattle.yaml_definitions.specs.grammar.Events.{no_props}
 use Rattle.law_going_on.specs.GoingOn.{Here}
 use Rattle.yaml_sink.specs.PropertyRules.{props_of, dressed}
-use Rattle.yaml_line.proofs.AnswerLemmas.{puts_altered}
-use Rattle.yaml_line.proofs.PropertyDecisions.{or_else}
-use Rattle.yaml_line.proofs.Deciding.{decides_err}
+use Rattle.yaml_layout.proofs.AnswerLemmas.{puts_altered}
+use Rattle.yaml_layout.proofs.PropertyDecisions.{or_else}
+use Rattle.yaml_layout.proofs.Deciding.{decides_err}
 use Rattle.yaml_block.specs.BlockRules.{block_scalar_rest}
 use Rattle.yaml_block.specs.BlockEnds.{AfterScalar}
 use Rattle.yaml_block.proofs.OuterLemmas.{scalar_dressed}

@@ -13,8 +13,8 @@ use Rattle.yaml_text.specs.LeafAnswer.{Unread, FurthestAlone}
 use Rattle.yaml_text.specs.Lines.{AfterLine}
 use Rattle.law_going_on.specs.GoingOn.{Goes, Here}
 use Rattle.law_going_on.proofs.BlockScalars.{scalar_after}
-use Rattle.yaml_line.proofs.PropertyDecisions.{or_else}
-use Rattle.yaml_line.proofs.Deciding.{decides_err, refusal}
+use Rattle.yaml_layout.proofs.PropertyDecisions.{or_else}
+use Rattle.yaml_layout.proofs.Deciding.{decides_err, refusal}
 use Rattle.yaml_block.specs.BlockEnds.{AfterScalar}
 use Rattle.yaml_block.proofs.ScalarDecisions.{literal_refused, literal_goes, scalar_stuck}
 use Rattle.yaml_block.proofs.block.scalars.read_literal_node.Goals as goal

@@ -6,7 +6,7 @@ use Rattle.yaml_mark.specs.HandlesModel.{handles_of}
 use Rattle.law_going_on.specs.GoingOn.{Rest}
 use Rattle.yaml_sink.specs.PropertyRules.{props_of}
 use Rattle.yaml_sink.specs.SinkModel.{holds_of}
-use Rattle.yaml_line.proofs.AnswerLemmas.{puts_none}
+use Rattle.yaml_layout.proofs.AnswerLemmas.{puts_none}
 use Rattle.yaml_block.specs.BlockRules.{node_rest, line_rest, sequence_with}
 use Rattle.yaml_block.specs.BlockEnds.{AfterNode, AfterSequence}
 use Rattle.yaml_block.specs.BlockCalls.{DecidesOpened}

@@ -8,8 +8,8 @@ use Rattle.law_going_on.specs.GoingOn.{Rest}
 use Rattle.law_going_on.proofs.GoingOn.{rest_rest}
 use Rattle.yaml_sink.specs.PropertyRules.{props_of}
 use Rattle.yaml_sink.specs.SinkModel.{holds_of}
-use Rattle.yaml_line.specs.Lines.{IsBlock}
-use Rattle.yaml_line.proofs.AnswerLemmas.{puts_none}
+use Rattle.yaml_layout.specs.Lines.{IsBlock}
+use Rattle.yaml_layout.proofs.AnswerLemmas.{puts_none}
 use Rattle.yaml_block.specs.BlockRules.{node_rest, line_rest, entry_rest, sequence_with}
 use Rattle.yaml_block.specs.BlockEnds.{AfterNode, AfterEntry, AfterSequence}
 use Rattle.yaml_block.specs.BlockCalls.{DecidesOpened}

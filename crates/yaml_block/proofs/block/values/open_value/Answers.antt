@@ -6,8 +6,8 @@ use Rattle.yaml_text.specs.declared.chars.Chars.{Chars}
 use Rattle.yaml_mark.specs.HandlesModel.{handles_of}
 use Rattle.yaml_sink.specs.PropertyRules.{props_of}
 use Rattle.yaml_sink.specs.SinkModel.{holds_of}
-use Rattle.yaml_line.proofs.PropertyDecisions.{or_else}
-use Rattle.yaml_line.proofs.Deciding.{at_err}
+use Rattle.yaml_layout.proofs.PropertyDecisions.{or_else}
+use Rattle.yaml_layout.proofs.Deciding.{at_err}
 use Rattle.yaml_block.specs.BlockRules.{node_rest, line_rest, value_rest}
 use Rattle.yaml_block.specs.BlockEnds.{AfterNode}
 use Rattle.yaml_block.specs.BlockCalls.{DecidesOpened}

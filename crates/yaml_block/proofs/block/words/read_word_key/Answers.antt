@@ -3,12 +3,12 @@ use Rattle.yaml_text.specs.Source.{text_of, place_of}
 use Rattle.yaml_definitions.specs.grammar.Separation.{flow_out}
 use Rattle.yaml_mark.specs.HandlesModel.{handles_of}
 use Rattle.law_going_on.specs.GoingOn.{Here}
-use Rattle.yaml_line.specs.NodeRules.{content_from}
-use Rattle.yaml_line.specs.NodeLevels.{EndsAlone}
-use Rattle.yaml_line.proofs.AnswerLemmas.{perhaps_some}
-use Rattle.yaml_line.proofs.NodeLemmas.{content_flow}
-use Rattle.yaml_line.proofs.Deciding.{decides_err}
-use Rattle.yaml_line.proofs.WordDecisions.{word_only, word_refused}
+use Rattle.yaml_layout.specs.NodeRules.{content_from}
+use Rattle.yaml_layout.specs.NodeLevels.{EndsAlone}
+use Rattle.yaml_layout.proofs.AnswerLemmas.{perhaps_some}
+use Rattle.yaml_layout.proofs.NodeLemmas.{content_flow}
+use Rattle.yaml_layout.proofs.Deciding.{decides_err}
+use Rattle.yaml_layout.proofs.WordDecisions.{word_only, word_refused}
 use Rattle.yaml_block.specs.BlockRules.{key_rest}
 use Rattle.yaml_block.specs.BlockEnds.{AfterColon, IsNoKey}
 use Rattle.yaml_block.specs.BlockCalls.{IsFirstColon}

@@ -2,7 +2,7 @@ use Rattle.std.proofs.Common.{◌≤◌, map, refl, subst, rules}
 use Rattle.yaml_definitions.specs.model.Limits.{text_limit}
 use Rattle.yaml_spell.specs.RankedNodes.{tree_of}
 use Rattle.yaml_spell.proofs.PieceLaws.{if_both}
-use Rattle.yaml_answers.specs.Writers.{Broken}
+use Rattle.yaml_text.specs.Writers.{Broken}
 use Rattle.yaml_canon.proofs.TargetLaws.{left_arranged, broken_arranged}
 use Rattle.yaml_canon.proofs.RunLaws.{printed_arranged}
 use Rattle.yaml_canon.proofs.run.CountedTarget.put.Goals as goal

@@ -6,10 +6,10 @@ use Rattle.yaml_definitions.specs.model.Event.{alias_event}
 use Rattle.yaml_text.specs.Source.{text_of, place_of}
 use Rattle.yaml_definitions.specs.grammar.Tags as tags
 use Rattle.law_going_on.specs.GoingOn.{Here}
-use Rattle.yaml_line.proofs.Deciding.{decides_err}
-use Rattle.yaml_line.proofs.PropertyDecisions.{name_refused, or_else}
+use Rattle.yaml_layout.proofs.Deciding.{decides_err}
+use Rattle.yaml_layout.proofs.PropertyDecisions.{name_refused, or_else}
 use Rattle.yaml_flow.proofs.ContentDecisions.{alias_goes, no_alias}
-use Rattle.yaml_line.proofs.PropertyLemmas.{alias_read}
+use Rattle.yaml_layout.proofs.PropertyLemmas.{alias_read}
 use Rattle.yaml_flow.proofs.flow.scalars.read_alias.Goals as goal
 
 pub returns-clause-reads : goal.returns-clause-reads

@@ -9,7 +9,7 @@ use Rattle.yaml_text.specs.Source.{text_of, place_of}
 use Rattle.yaml_text.specs.EventModel.{context_of}
 use Rattle.yaml_definitions.specs.grammar.FlowScalars.{ns-plain as plain}
 use Rattle.yaml_text.specs.LeafAnswer.{Furthest, Unread}
-use Rattle.yaml_line.proofs.Deciding.{refusal, one_left}
+use Rattle.yaml_layout.proofs.Deciding.{refusal, one_left}
 use Rattle.yaml_flow.proofs.ContentDecisions.{plain_taken}
 use Rattle.yaml_mark.specs.HandlesModel.{handles_of}
 use Rattle.yaml_flow.proofs.FlowLemmas.{plain_is}

@@ -5,12 +5,12 @@ use Rattle.yaml_text.specs.Source.{text_of, place_of}
 use Rattle.yaml_text.specs.EventModel.{context_of}
 use Rattle.yaml_definitions.specs.grammar.Events.{no_props, scalar}
 use Rattle.law_going_on.specs.GoingOn.{Here}
-use Rattle.yaml_line.specs.NodeRules.{content_from}
+use Rattle.yaml_layout.specs.NodeRules.{content_from}
 use Rattle.yaml_flow.specs.FlowRules.{quoted}
-use Rattle.yaml_line.proofs.Deciding.{decides_err, refusal, unread_refused, only_goes}
-use Rattle.yaml_line.proofs.PropertyDecisions.{or_else}
+use Rattle.yaml_layout.proofs.Deciding.{decides_err, refusal, unread_refused, only_goes}
+use Rattle.yaml_layout.proofs.PropertyDecisions.{or_else}
 use Rattle.yaml_mark.specs.HandlesModel.{handles_of}
-use Rattle.yaml_line.specs.declared.flow.Kind.TheVariants.{Json}
+use Rattle.yaml_layout.specs.declared.flow.Kind.TheVariants.{Json}
 use Rattle.yaml_flow.proofs.FlowLemmas.{quoted_is}
 use Rattle.yaml_flow.proofs.flow.scalars.read_quoted_node.Goals as goal
 

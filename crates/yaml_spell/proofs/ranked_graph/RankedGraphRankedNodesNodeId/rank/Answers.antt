@@ -1,5 +1,5 @@
 use Rattle.std.proofs.Common.{◌<◌, length, sym, ◌∙◌, subst}
-use Rattle.yaml_nodes.specs.GraphView.{nodes_of}
+use Rattle.yaml_graph.specs.GraphView.{nodes_of}
 use Rattle.yaml_spell.proofs.RankLaws.{rank-there}
 use Rattle.yaml_spell.proofs.ranked_graph.RankedGraphRankedNodesNodeId.rank.Goals as goal
 

@@ -1,6 +1,6 @@
 use Rattle.std.proofs.Common.{sym, ◌∙◌}
 use Rattle.yaml_definitions.specs.model.Order.{arranged}
-use Rattle.yaml_nodes.specs.GraphView.{tree}
+use Rattle.yaml_graph.specs.GraphView.{tree}
 use Rattle.yaml_spell.proofs.ShownLaws.{short-is}
 use Rattle.yaml_spell.proofs.ranked_graph.RankedGraphRankedNodesNodeId.short_len.Goals as goal
 

@@ -1,8 +1,0 @@
-use Rattle.law_closing.proofs.Repeats.{graph-to, graph-from, view-to, view-from}
-use Rattle.law_closing.proofs.laws.repeats_by_tree.Goals as goal
-
-pub returns-clause-graph : goal.returns-clause-graph
-returns-clause-graph c = λ g k first second l. (graph-to g k first second, graph-from g k first second l)
-
-pub returns-clause-view : goal.returns-clause-view
-returns-clause-view c = λ v n first second l. (view-to v n l first second, view-from v n l first second)

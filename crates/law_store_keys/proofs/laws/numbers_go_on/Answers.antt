@@ -1,0 +1,11 @@
+use Rattle.law_store_keys.proofs.NumberLaws.{closes-again, closes-first, holdable}
+use Rattle.law_store_keys.proofs.laws.numbers_go_on.Goals as goal
+
+pub returns-clause-stay : goal.returns-clause-stay
+returns-clause-stay c = closes-again
+
+pub returns-clause-grow : goal.returns-clause-grow
+returns-clause-grow c = closes-first
+
+pub returns-clause-hold : goal.returns-clause-hold
+returns-clause-hold c = holdable

@@ -1,0 +1,328 @@
+//! The grammar of the program's words: its commands and their arguments.
+use clap::builder::ValueParser;
+use clap::{Arg, ArgAction, Command};
+use std::alloc::{AllocError, Global};
+
+/// How a command reads an argument.
+#[derive(Clone, Copy)]
+enum Takes {
+    /// A file, which has to be given.
+    File,
+    /// Any number of files.
+    Files,
+    /// Whether it is given.
+    Flag,
+    /// The same, by one letter too.
+    Letter(char),
+    /// A number of lines around others, by one letter too.
+    Around(char),
+    /// When lines are in colour.
+    Color,
+    /// Patterns of paths.
+    Paths,
+    /// A number of lines.
+    Lines,
+    /// One of two words, of which the first one is taken if none is given.
+    OneOf(&'static str, &'static [&'static str; 2]),
+    /// The same, of which the default depends on other arguments.
+    Most,
+    /// A list of files, in place of files.
+    Names,
+    /// A list of digests, in place of files and of a list of them.
+    Digests,
+    /// All words, whatever they begin with.
+    Words,
+}
+
+/// An argument of a command.
+struct Row {
+    id: &'static str,
+    takes: Takes,
+    help: &'static str,
+}
+
+const DIFF: [Row; 11] = [
+    Row {
+        id: "A",
+        takes: Takes::File,
+        help: "The left file; `-` is standard input",
+    },
+    Row {
+        id: "B",
+        takes: Takes::File,
+        help: "The right file",
+    },
+    Row {
+        id: "no-places",
+        takes: Takes::Flag,
+        help: "Leave the lines and columns out",
+    },
+    Row {
+        id: "whole",
+        takes: Takes::Flag,
+        help: "Show texts of more than 60 bytes whole",
+    },
+    Row {
+        id: "lines",
+        takes: Takes::Most,
+        help: "Print at most N lines (1000), and then `...` if there are more; 0 for the status alone",
+    },
+    Row {
+        id: "unified",
+        takes: Takes::Around('U'),
+        help: "Of strings that have several lines, print N lines before and behind each changed line",
+    },
+    Row {
+        id: "quiet",
+        takes: Takes::Letter('q'),
+        help: "Print nothing; the status tells the result",
+    },
+    Row {
+        id: "stat",
+        takes: Takes::Flag,
+        help: "Print how many differences there are: `+` only right, `-` only left, `~` changed",
+    },
+    Row {
+        id: "color",
+        takes: Takes::Color,
+        help: "Print lines in colour; `auto` does so on a terminal",
+    },
+    Row {
+        id: "ignore",
+        takes: Takes::Paths,
+        help: "Leave out what is at or below PATH: steps as they are printed, `*` for any step; repeatable",
+    },
+    FORM,
+];
+
+const FAULTS: [Row; 2] = [FILES, FORM];
+
+const WARN: [Row; 3] = [
+    FILES,
+    Row {
+        id: "lines",
+        takes: Takes::Lines,
+        help: "Print at most N lines for each file, and then `...` if there are more; 0 for the status alone",
+    },
+    FORM,
+];
+
+const SHOW: [Row; 3] = [
+    FILES,
+    Row {
+        id: "format",
+        takes: Takes::OneOf("FORMAT", &FORMATS),
+        help: "YAML in block style, or a line of JSON for each document",
+    },
+    Row {
+        id: "textconv",
+        takes: Takes::Flag,
+        help: "Write a rejected file as it is, with status 0, as git wants it",
+    },
+];
+
+const SUM: [Row; 3] = [
+    FILES,
+    Row {
+        id: "files-from",
+        takes: Takes::Names,
+        help: "Take names from LIST, each ended by NUL or a line feed; `-` is standard input",
+    },
+    Row {
+        id: "check",
+        takes: Takes::Digests,
+        help: "Check the digests of LIST, which `sum` wrote",
+    },
+];
+
+const GIT: [Row; 1] = [Row {
+    id: "WORD",
+    takes: Takes::Words,
+    help: "1, 7 or 9 words, as git passes them; `--lines=show` before them prints changed lines of what `show` writes",
+}];
+
+const FILES: Row = Row {
+    id: "FILE",
+    takes: Takes::Files,
+    help: "A file; `-`, or none, is standard input",
+};
+
+const FORM: Row = Row {
+    id: "format",
+    takes: Takes::OneOf("FORM", &FORMS),
+    help: "Lines of text, or one JSON object a line",
+};
+
+const FORMS: [&str; 2] = ["line", "json"];
+
+const FORMATS: [&str; 2] = ["yaml", "json"];
+
+const COLORS: [&str; 3] = ["auto", "always", "never"];
+
+fn arg_of<'a>(alloc: Global, row: &Row) -> Result<Arg<'a>, AllocError> {
+    let arg = Arg::new(alloc, row.id).help(row.help);
+    match row.takes {
+        Takes::File => Ok(arg.required(true)),
+        Takes::Files => Ok(arg.num_args(0..).action(ArgAction::Append)),
+        Takes::Flag => Ok(arg.long(row.id).action(ArgAction::SetTrue)),
+        Takes::Letter(letter) => Ok(arg.long(row.id).short(letter).action(ArgAction::SetTrue)),
+        Takes::Lines => Ok(
+            arg.long(row.id)
+                .value_name("N")
+                .value_parser(ValueParser::unsigned(0, 1_000_000))
+                .default_value("1000"),
+        ),
+        Takes::Most => Ok(
+            arg.long(row.id)
+                .value_name("N")
+                .value_parser(ValueParser::unsigned(0, 1_000_000)),
+        ),
+        Takes::Around(letter) => Ok(
+            arg.long(row.id)
+                .short(letter)
+                .value_name("N")
+                .value_parser(ValueParser::unsigned(0, 1_000))
+                .default_value("0"),
+        ),
+        Takes::Color => Ok(
+            arg.long(row.id)
+                .value_name("WHEN")
+                .value_parser(COLORS.as_slice())
+                .default_value("auto"),
+        ),
+        Takes::Paths => Ok(
+            arg.long(row.id)
+                .value_name("PATH")
+                .action(ArgAction::Append),
+        ),
+        Takes::OneOf(name, words) => Ok(
+            arg.long(row.id)
+                .value_name(name)
+                .value_parser(words.as_slice())
+                .default_value(words[0]),
+        ),
+        Takes::Names => arg.long(row.id).value_name("LIST").conflicts_with("FILE"),
+        Takes::Digests => arg
+            .long(row.id)
+            .value_name("LIST")
+            .conflicts_with_all(&["FILE", "files-from"]),
+        Takes::Words => Ok(
+            arg.required(true)
+                .num_args(1..)
+                .action(ArgAction::Append)
+                .trailing_var_arg(true)
+                .allow_hyphen_values(true),
+        ),
+    }
+}
+
+/// A command and its arguments.
+struct Entry {
+    name: &'static str,
+    about: &'static str,
+    /// The exit statuses.
+    statuses: &'static str,
+    rows: &'static [Row],
+}
+
+const DIFF_STATUSES: &str = "Exit status:
+  0  the streams are the same, or differ only at or below paths that are ignored
+  1  they differ
+  2  a file is rejected
+  3  the words, a file or a stream cannot be used";
+
+const FAULTS_STATUSES: &str = "Exit status (of several files the greatest):
+  0  no file is rejected
+  2  a file is rejected
+  3  the words, a file or a stream cannot be used";
+
+const WARN_STATUSES: &str = "Exit status (of several files the greatest):
+  0  no file is rejected, whether or not there are warnings
+  2  a file is rejected
+  3  the words, a file or a stream cannot be used";
+
+const SHOW_STATUSES: &str = "Exit status (of several files the greatest):
+  0  each file is shown; with --textconv also if one is rejected
+  2  a file is rejected, or JSON cannot express it
+  3  the words, a file or a stream cannot be used";
+
+const SUM_STATUSES: &str = "Exit status (of several files the greatest):
+  0  each file has a digest, or the one that LIST has
+  1  a file has another digest than LIST has
+  2  a file is rejected
+  3  the words, a file, LIST or a stream cannot be used";
+
+const GIT_STATUSES: &str = "Exit status:
+  0  whatever is found, since git stops at any other status
+  2  memory is refused
+  3  the words or the output cannot be used";
+
+const COMMANDS: [Entry; 6] = [
+    Entry {
+        name: "diff",
+        about: "Prints where two streams differ",
+        statuses: DIFF_STATUSES,
+        rows: &DIFF,
+    },
+    Entry {
+        name: "faults",
+        about: "Prints where files are rejected, and why",
+        statuses: FAULTS_STATUSES,
+        rows: &FAULTS,
+    },
+    Entry {
+        name: "warn",
+        about: "Prints what tools of YAML 1.1 read otherwise",
+        statuses: WARN_STATUSES,
+        rows: &WARN,
+    },
+    Entry {
+        name: "show",
+        about: "Prints streams as readable YAML, or as JSON",
+        statuses: SHOW_STATUSES,
+        rows: &SHOW,
+    },
+    Entry {
+        name: "sum",
+        about: "Prints the SHA-256 of each file's canonical text, as sha256sum does",
+        statuses: SUM_STATUSES,
+        rows: &SUM,
+    },
+    Entry {
+        name: "git",
+        about: "Prints what differs, called by git as GIT_EXTERNAL_DIFF or diff.NAME.command",
+        statuses: GIT_STATUSES,
+        rows: &GIT,
+    },
+];
+
+fn command_of<'a>(alloc: Global, entry: &Entry) -> Result<Command<'a>, AllocError> {
+    let mut args = Vec::new(alloc);
+    for row in entry.rows {
+        args.push(arg_of(alloc, row)?)?;
+    }
+    Command::new(alloc, entry.name)
+        .about(entry.about)
+        .after_help(entry.statuses)
+        .args(args)
+}
+
+fn commands<'a>(alloc: Global) -> Result<Vec<Command<'a>>, AllocError> {
+    let mut commands = Vec::new(alloc);
+    for entry in &COMMANDS {
+        commands.push(command_of(alloc, entry)?)?;
+    }
+    Ok(commands)
+}
+
+/// The grammar of the program's words.
+pub(crate) fn grammar<'a>(alloc: Global) -> Result<Command<'a>, AllocError> {
+    let commands = commands(alloc)?;
+    Command::new(alloc, "yamlreview")
+        .version("1.1.0 (yamlcanon-form-1)")
+        .about("Prints where two YAML streams differ, and where in a file a fault is")
+        .bin_name("yamlreview")?
+        .no_binary_name(true)
+        .subcommand_required(true)
+        .subcommands(commands)
+}

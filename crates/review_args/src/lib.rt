@@ -1,0 +1,9 @@
+//! The arguments of the program `yamlreview`.
+#![tactic(auto)]
+
+mod grammar;
+pub mod order;
+pub mod words;
+
+pub use order::in_order;
+pub use words::{Asked, Diff, Form, Format, Report, Show, Sum, read_words};

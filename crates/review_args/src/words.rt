@@ -1,0 +1,252 @@
+//! The program's words.
+ghost use Rattle.std.specs.Prelude.{◌≤◌};
+
+use crate::grammar::grammar;
+use clap::error::ErrorKind;
+use clap::{ArgMatches, Error};
+use review_patterns::{Pattern, read_pattern};
+use std::alloc::{AllocError, Global};
+
+/// How many lines are told where no number is given.
+pub const LINES: usize = 1_000;
+
+/// How many differences are counted where no number is given.
+const COUNTED: usize = 1_000_000;
+
+/// The greatest number of lines that are printed before and behind each changed line of a string.
+pub const CONTEXT: usize = 1_000;
+
+/// In which form lines are written.
+#[derive(Clone, Copy, Debug, PartialEq, Eq)]
+pub enum Form {
+    /// Text with columns.
+    Line,
+    /// One JSON object a line.
+    Json,
+}
+
+/// Where two files differ.
+#[derive(Clone, Copy)]
+pub struct Diff<'a> {
+    pub left: &'a str,
+    pub right: &'a str,
+    /// Whether lines and columns are told.
+    pub places: bool,
+    /// Whether texts are shown whole.
+    pub whole: bool,
+    /// The greatest number of lines.
+    pub lines: usize,
+    pub form: Form,
+    /// How many lines are printed before and behind each changed line of a string.
+    pub context: usize,
+    /// Whether lines are in colour.
+    pub color: bool,
+    /// Whether differences are counted, and not told.
+    pub stat: bool,
+    pub ghost few: { context ≤ 1000 },
+}
+
+/// What is told of files, one after another.
+#[derive(Drop)]
+pub struct Report<'a> {
+    /// Their names, of which `-` is standard input.
+    pub files: Vec<&'a str>,
+    pub form: Form,
+}
+
+/// How `show` writes a stream.
+#[derive(Clone, Copy, Debug, PartialEq, Eq)]
+pub enum Format {
+    /// YAML in block style.
+    Yaml,
+    /// A line of JSON for each document.
+    Json,
+}
+
+/// Files that are shown.
+#[derive(Drop)]
+pub struct Show<'a> {
+    pub files: Vec<&'a str>,
+    pub format: Format,
+    /// Whether a rejected file is written as it is.
+    pub textconv: bool,
+}
+
+/// Digests of files.
+#[derive(Drop)]
+pub struct Sum<'a> {
+    pub files: Vec<&'a str>,
+    /// The file with names of further files.
+    pub files_from: Option<&'a str>,
+    /// The list that is checked.
+    pub check: Option<&'a str>,
+}
+
+/// A command.
+#[derive(Drop)]
+pub enum Asked<'a> {
+    /// With the paths whose differences are left out.
+    Diff(Diff<'a>, Vec<Pattern<'a>>),
+    Faults(Report<'a>),
+    /// With the greatest number of lines a file.
+    Warn(Report<'a>, usize),
+    Show(Show<'a>),
+    Sum(Sum<'a>),
+    /// What `GIT_EXTERNAL_DIFF` passes.
+    Git(Vec<&'a str>),
+}
+
+fn form_of(matches: &ArgMatches<'_>) -> Form {
+    match matches.get_str("format") {
+        Some("json") => Form::Json,
+        _ => Form::Line,
+    }
+}
+
+fn lines_of(matches: &ArgMatches<'_>) -> usize {
+    matches.get_one::<usize>("lines").unwrap_or(LINES)
+}
+
+/// How many differences are looked for: for the status alone none.
+fn diff_lines_of(matches: &ArgMatches<'_>) -> usize {
+    if matches.get_flag("quiet") {
+        return 0;
+    }
+    let most = if matches.get_flag("stat") {
+        COUNTED
+    } else {
+        LINES
+    };
+    matches.get_one::<usize>("lines").unwrap_or(most)
+}
+
+/// How many lines are printed around changed ones.
+fn context_of(matches: &ArgMatches<'_>) -> usize
+    ensures { result ≤ 1000 }
+{
+    matches
+        .get_one::<usize>("unified")
+        .unwrap_or(0)
+        .min(CONTEXT)
+}
+
+/// Whether lines are in colour.
+fn color_of(matches: &ArgMatches<'_>, is_terminal: bool) -> bool {
+    match matches.get_str("color") {
+        Some("always") => true,
+        Some("never") => false,
+        _ => is_terminal,
+    }
+}
+
+fn names<'a>(
+    alloc: Global,
+    matches: &ArgMatches<'a>,
+    id: &str,
+) -> Result<Vec<&'a str>, AllocError> {
+    let mut list = Vec::new(alloc);
+    if let Some(values) = matches.get_strs(id) {
+        for value in values {
+            list.push(*value)?;
+        }
+    }
+    Ok(list)
+}
+
+/// The names of files; with none, that of standard input.
+fn files_of<'a>(alloc: Global, matches: &ArgMatches<'a>) -> Result<Vec<&'a str>, AllocError> {
+    let mut files = names(alloc, matches, "FILE")?;
+    if files.is_empty() {
+        files.push("-")?;
+    }
+    Ok(files)
+}
+
+fn report_of<'a>(alloc: Global, matches: &ArgMatches<'a>) -> Result<Report<'a>, AllocError> {
+    Ok(Report {
+        files: files_of(alloc, matches)?,
+        form: form_of(matches),
+    })
+}
+
+fn diff_of<'a>(matches: &ArgMatches<'a>, is_terminal: bool) -> Diff<'a> {
+    Diff {
+        left: matches.get_str("A").unwrap_or("-"),
+        right: matches.get_str("B").unwrap_or("-"),
+        places: !matches.get_flag("no-places"),
+        whole: matches.get_flag("whole"),
+        lines: diff_lines_of(matches),
+        form: form_of(matches),
+        context: context_of(matches),
+        color: color_of(matches, is_terminal),
+        stat: matches.get_flag("stat"),
+    }
+}
+
+fn show_of<'a>(alloc: Global, matches: &ArgMatches<'a>) -> Result<Show<'a>, AllocError> {
+    Ok(Show {
+        files: files_of(alloc, matches)?,
+        format: match matches.get_str("format") {
+            Some("json") => Format::Json,
+            _ => Format::Yaml,
+        },
+        textconv: matches.get_flag("textconv"),
+    })
+}
+
+/// What is wrong with a pattern.
+const NO_PATTERN: &str =
+    "--ignore takes a path as diff prints it, with `*` for any step: .spec.replicas, .metadata.annotations[\"a/b\"], .containers[*].image";
+
+/// The patterns of the paths whose differences are left out.
+fn ignored_of<'a>(alloc: Global, matches: &ArgMatches<'a>) -> Result<Vec<Pattern<'a>>, Error> {
+    let mut list = Vec::new(alloc);
+    for text in names(alloc, matches, "ignore")? {
+        match read_pattern(alloc, text)? {
+            Some(pattern) => list.push(pattern)?,
+            None => {
+                let message = format!(in alloc; "{text}: {NO_PATTERN}")?;
+                return Err(grammar(alloc)?.error(ErrorKind::ValueValidation, message.as_str())?);
+            }
+        }
+    }
+    Ok(list)
+}
+
+/// What the words of this command ask for.
+fn asked_of<'a>(
+    alloc: Global,
+    name: &str,
+    inner: &ArgMatches<'a>,
+    is_terminal: bool,
+) -> Result<Asked<'a>, Error> {
+    match name {
+        "faults" => Ok(Asked::Faults(report_of(alloc, inner)?)),
+        "warn" => Ok(Asked::Warn(report_of(alloc, inner)?, lines_of(inner))),
+        "show" => Ok(Asked::Show(show_of(alloc, inner)?)),
+        "sum" => Ok(Asked::Sum(Sum {
+            files: files_of(alloc, inner)?,
+            files_from: inner.get_str("files-from"),
+            check: inner.get_str("check"),
+        })),
+        "git" => Ok(Asked::Git(names(alloc, inner, "WORD")?)),
+        _ => {
+            let ignored = ignored_of(alloc, inner)?;
+            Ok(Asked::Diff(diff_of(inner, is_terminal), ignored))
+        }
+    }
+}
+
+/// Reads the words behind the program's own name, of a run whose output is a terminal or not. An error has the text for the user: what is wrong with the words, or the help
+/// or version that they ask for.
+pub fn read_words<'a>(
+    alloc: Global,
+    words: &'a [String],
+    is_terminal: bool,
+) -> Result<Asked<'a>, Error> {
+    let matches = grammar(alloc)?.try_get_matches_from(words)?;
+    match matches.subcommand() {
+        Some((name, inner)) => asked_of(alloc, name, inner, is_terminal),
+        None => Err(grammar(alloc)?.error(ErrorKind::MissingSubcommand, "no command is given")?),
+    }
+}

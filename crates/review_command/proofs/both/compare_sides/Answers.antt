@@ -1,0 +1,13 @@
+use Rattle.review_command.proofs.SideLaws.{compares}
+use Rattle.review_command.proofs.both.compare_sides.Goals as goal
+
+pub returns-in-Ok-clause-same : goal.returns-in-Ok-clause-same
+returns-in-Ok-clause-same c e =
+    compares c.args.left.now c.args.right.now c.in_ok-both.both (c.in_ok-both.ensures c.args.left.now c.args.right.now c.in_ok-forests.ensures.both) c.in-Ok.told.same (c.in-Ok.ensures.same e)
+
+pub returns-in-Ok-clause-lines : goal.returns-in-Ok-clause-lines
+returns-in-Ok-clause-lines c = record {
+  both = c.in_ok-both.both;
+  are = c.in_ok-both.ensures c.args.left.now c.args.right.now c.in_ok-forests.ensures.both;
+  tells = c.in-Ok.ensures.text;
+}

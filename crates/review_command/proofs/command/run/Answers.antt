@@ -1,0 +1,27 @@
+use Rattle.std.proofs.Common.{sym, subst}
+use Rattle.review_command.specs.Runs.{Does}
+use Rattle.review_command.proofs.command.run.Goals as goal
+
+pub returns-in-Faults : goal.returns-in-Faults
+returns-in-Faults g c =
+    subst (λ z. Does (g.S.Shelf.holds c.args.shelf.now) g.R.Read.remaining g.W.Write.contents g.E.Write.contents z c.args.input c.args.out c.args.err c.reports.result) (sym c.in-Faults.is)
+    (record {
+      end = c.reports.new.input;
+      old = c.new-out.result;
+      new = c.reports.new.out;
+      writer = c.new-out.ensures.inner;
+      no_write = c.new-out.ensures.faults;
+      tells = c.reports.ensures.tells;
+    })
+
+pub returns-in-Warn : goal.returns-in-Warn
+returns-in-Warn g c =
+    subst (λ z. Does (g.S.Shelf.holds c.args.shelf.now) g.R.Read.remaining g.W.Write.contents g.E.Write.contents z c.args.input c.args.out c.args.err c.reports-in-Warn.result) (sym c.in-Warn.is)
+    (record {
+      end = c.reports-in-Warn.new.input;
+      old = c.new-out-in-Warn.result;
+      new = c.reports-in-Warn.new.out;
+      writer = c.new-out-in-Warn.ensures.inner;
+      no_write = c.new-out-in-Warn.ensures.faults;
+      tells = c.reports-in-Warn.ensures.tells;
+    })

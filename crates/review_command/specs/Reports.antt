@@ -1,0 +1,90 @@
+-- What `faults` and `warn` tell of files.
+use Rattle.std.specs.Prelude.{◌≡◌, ◌⊎◌, ℕ, max, List, [], ◌∷◌, Option, codes}
+use Rattle.yaml_definitions.specs.model.Limits.{text_limit}
+use Rattle.yaml_text.specs.declared.fault.Fault.{Fault}
+use Rattle.yaml_text.specs.declared.fault.Fault.TheVariants.{TooLong, WriteFault}
+use Rattle.yaml_text.specs.declared.counted.Counted.{Counted}
+use Rattle.yaml_text.specs.Writers.{Printed, Broken}
+use Rattle.yaml_command.specs.Shelves.{FileFails}
+use Rattle.yaml_canon.specs.Claims.{IsCanonicalText, CanonicalRefuses}
+use Rattle.yaml_canon.specs.FaultPlaces.{TellsPlace}
+use Rattle.review_args.specs.declared.words.Form.{Form}
+use Rattle.review_lines.specs.FaultLines.{TellsFault}
+use Rattle.review_command.specs.Named.{IsNamed, IsUnread}
+use Rattle.review_command.specs.Statuses.{unread_status}
+use Rattle.review_command.specs.declared.unread.Unread.{Unread}
+use Rattle.review_command.specs.declared.unread.Unread.TheVariants as unread
+use Rattle.review_command.specs.declared.reports.Kind.{Kind}
+use Rattle.review_command.specs.declared.reports.Kind.TheVariants.{Faults, Warnings}
+
+-- ---- the bytes of a file
+
+-- `faults` prints nothing of a file that is accepted; what `warn` prints of it is not said
+abbrev pub Adds : Kind → List ℕ → Type 0
+Adds Faults text = text ≡ []
+Adds (Warnings room) text = Unit {0}
+
+-- `canonical` answers a text
+abbrev pub IsAccepted : List ℕ → Type 0
+IsAccepted bytes = (text : List ℕ) × IsCanonicalText bytes text
+
+-- it refuses the bytes, and its fault is told
+abbrev pub TellsRefusal : Form → List ℕ → List ℕ → List ℕ → Type 0
+TellsRefusal form name bytes text = (fault : Fault) × CanonicalRefuses bytes fault × TellsPlace bytes fault × TellsFault form name bytes fault text
+
+-- The status is 0 for bytes that are accepted, and 2 for others.
+abbrev pub TellsBytes : Kind → Form → List ℕ → List ℕ → List ℕ → ℕ → Type 0
+TellsBytes kind form name bytes text status = (IsAccepted bytes × Adds kind text × (status ≡ 0)) ⊎ (TellsRefusal form name bytes text × (status ≡ 2))
+
+-- why the input is not read: it is not read whole
+abbrev pub InputFails : Option (List ℕ) → Unread → Type 0
+InputFails rest (unread.CannotOpen why) = ⊥
+InputFails rest (unread.Fault fault) = FileFails rest text_limit fault
+
+module _ {R : Type 0} (holds : List ℕ → Option (List ℕ)) (remaining : R → Option (List ℕ)) where
+  -- ---- reading one
+
+  -- the bytes of a file, or of the input; a file leaves the input as it was
+  pub record ReadsNamed (name : List ℕ) (old new : R) (bytes : List ℕ) : Type 0 where
+    pub named : IsNamed holds (remaining old) name bytes
+    pub kept : (name ≡ codes "-" → ⊥) → new ≡ old
+
+  -- why a file or the input is not
+  pub record ReadsNot (name : List ℕ) (old new : R) (why : Unread) : Type 0 where
+    pub input : name ≡ codes "-" → InputFails (remaining old) why
+    pub file : (name ≡ codes "-" → ⊥) → IsUnread (holds name) why
+    pub kept : (name ≡ codes "-" → ⊥) → new ≡ old
+
+  -- what there is to print of a file, which has more bytes than a text may have or is read
+  abbrev pub HasText : Kind → Form → List ℕ → R → R → List ℕ → ℕ → Type 0
+  HasText kind form name old new text status =
+      ((bytes : List ℕ) × ReadsNamed name old new bytes × TellsBytes kind form name bytes text status)
+      ⊎ (ReadsNot name old new (unread.Fault TooLong) × TellsFault form name [] TooLong text × (status ≡ 2))
+
+  -- why there is nothing: it is not read, or no text is made, as where memory is refused
+  abbrev pub HasNoText : List ℕ → R → R → Unread → Type 0
+  HasNoText name old new why = ReadsNot name old new why ⊎ ((fault : Fault) × (why ≡ unread.Fault fault))
+
+  module _ {W : Type 0} (contents : W → Option (List ℕ)) where
+    -- ---- writing it
+
+    -- the text was written, or nothing, with the status of why there is none
+    abbrev pub TellsFile : Kind → Form → List ℕ → R → R → Counted W → Counted W → ℕ → Type 0
+    TellsFile kind form name old new out end status =
+        ((text : List ℕ) × HasText kind form name old new text status × Printed contents out end text)
+        ⊎ ((why : Unread) × HasNoText name old new why × (end ≡ out) × (status ≡ unread_status why))
+
+    -- the output fails behind a beginning of the text
+    pub record CutsFile (kind : Kind) (form : Form) (name : List ℕ) (old new : R) (out end : Counted W) (fault : Fault) : Type 0 where
+      pub text : List ℕ
+      pub status : ℕ
+      pub has : HasText kind form name old new text status
+      pub broke : Broken contents out end text
+      pub is : fault ≡ WriteFault
+
+    -- The same of files in turn. The status is the greatest of all, or 3 where the output fails. So it is 0 exactly if each file is read and accepted.
+    abbrev pub TellsFiles : Kind → Form → List (List ℕ) → R → R → Counted W → Counted W → ℕ → Type 0
+    TellsFiles kind form [] old new out end status = (new ≡ old) × (end ≡ out) × (status ≡ 0)
+    TellsFiles kind form (name ∷ names) old new out end status =
+        ((next : R) × (middle : Counted W) × (first : ℕ) × (rest : ℕ) × TellsFile kind form name old next out middle first × TellsFiles kind form names next new middle end rest × (status ≡ max first rest))
+        ⊎ (CutsFile kind form name old new out end WriteFault × (status ≡ 3))

@@ -1,0 +1,236 @@
+//! The commands.
+ghost use Rattle.review_command.specs.Runs.{AsksSum, SumRuns, Does};
+
+use crate::both::fault_of;
+use crate::diff::{NoDiff, diff};
+use crate::folders::{are_folders, folders};
+use crate::git::{git_asked, git_text, put_page};
+use crate::host::Host;
+use crate::reports::{Kind, reports};
+use crate::show::show_files;
+use crate::telling::{
+    GIT_WORDS, ONE_INPUT, UNUSABLE, put_line, tell_bare, tell_unread, tell_usage,
+};
+use crate::unread::Unread;
+use clap::Error;
+use review_args::{Asked, Sum, in_order, read_words};
+use review_text::put_shown;
+use std::alloc::Global;
+use std::io::{Read, Write};
+use std::rt::Files;
+use yaml_command::shelf::Shelf;
+use yaml_command::streams::write_out;
+use yaml_sum::asked::Asked as SumAsked;
+use yaml_sum::reason::Reason;
+use yaml_sum::regular::Regular;
+use yaml_sum::sum::sum as sum_files;
+use yaml_text::counted::Counted;
+use yaml_text::fault::Fault;
+
+const DONE: u8 = 0;
+
+/// Writes what git asks for, and answers the status.
+fn git<S: Shelf, W: Write, E: Write>(
+    shelf: &S,
+    alloc: Global,
+    words: &[&str],
+    out: &mut W,
+    err: &mut E,
+) -> u8 {
+    let Some(asked) = git_asked(words) else {
+        return tell_usage(GIT_WORDS, err);
+    };
+    let written = match git_text(shelf, alloc, asked) {
+        Ok(text) => put_page(out, text.as_bytes()),
+        Err(fault) => Err(fault),
+    };
+    match written {
+        Ok(()) => DONE,
+        Err(fault) => tell_bare(fault, err),
+    }
+}
+
+/// The status of a comparison, of which it is told why there is none.
+fn diff_status<E: Write>(answer: Result<u8, NoDiff>, err: &mut E) -> u8 {
+    match answer {
+        Ok(status) => status,
+        Err(NoDiff::OneInput) => tell_usage(ONE_INPUT, err),
+        Err(NoDiff::Rejected(text, status)) => {
+            put_line(&text, err);
+            status
+        }
+        Err(NoDiff::Fault(fault)) => tell_bare(fault, err),
+    }
+}
+
+/// Does what is asked, and answers the status.
+fn run<S: Shelf, R: Read + Drop, W: Write + Drop, E: Write + Drop>(
+    shelf: &S,
+    alloc: Global,
+    asked: Asked<'_>,
+    mut input: R,
+    mut out: W,
+    mut err: E,
+) -> u8
+    ensures { Does (S.holds shelf.now) R.remaining W.contents E.contents asked.entry input out err result }
+{
+    match asked {
+        Asked::Diff(asked, ignored) => {
+            let answer = diff(
+                shelf,
+                alloc,
+                &asked,
+                &ignored,
+                &mut input,
+                &mut Counted::new(&mut out),
+            );
+            diff_status(answer, &mut err)
+        }
+        Asked::Faults(asked) => {
+            let mut out = Counted::new(out);
+            reports(
+                shelf,
+                alloc,
+                Kind::Faults,
+                &asked,
+                &mut input,
+                &mut out,
+                &mut err,
+            )
+        }
+        Asked::Warn(asked, room) => {
+            let mut out = Counted::new(out);
+            reports(
+                shelf,
+                alloc,
+                Kind::Warnings(room),
+                &asked,
+                &mut input,
+                &mut out,
+                &mut err,
+            )
+        }
+        Asked::Show(asked) => { show_files(shelf, alloc, &asked, &mut input, &mut out, &mut err) }
+        Asked::Git(words) => git(shelf, alloc, &words, &mut out, &mut err),
+        Asked::Sum(asked) => sum(shelf, alloc, sum_asked(&asked), input, out, err),
+    }
+}
+
+/// What is asked of sums.
+fn sum_asked<'b, 'a: 'b>(asked: &'b Sum<'a>) -> SumAsked<'b>
+    ensures { AsksSum asked.now result }
+{
+    match (asked.check, asked.files_from) {
+        (Some(list), _) => SumAsked::Check(list),
+        (None, Some(list)) => SumAsked::FilesFrom(list),
+        (None, None) => SumAsked::Files(&asked.files),
+    }
+}
+
+/// Makes or checks sums. A list whose name is not UTF-8 is not opened.
+fn sum<S: Shelf, R: Read + Drop, W: Write + Drop, E: Write + Drop>(
+    shelf: &S,
+    alloc: Global,
+    asked: SumAsked<'_>,
+    input: R,
+    out: W,
+    mut err: E,
+) -> u8
+    ensures { SumRuns (S.holds shelf.now) R.remaining W.contents E.contents asked.entry input out err result }
+{
+    match asked.list() {
+        Some(list) if list.contains('\0') => {
+            let unread = Unread::CannotOpen(Reason::NotUtf8);
+            tell_unread(alloc, list, unread, &mut err)
+        }
+        _ => sum_files(shelf, alloc, asked, input, out, err),
+    }
+}
+
+/// The text of an error of the words, with `?` for what of the words a terminal would not print.
+fn error_text(alloc: Global, error: &Error) -> Result<String, Fault> {
+    let text = format!(in alloc; "{error}")?;
+    let mut shown = String::new(alloc);
+    for (number, line) in text.split('\n').enumerate() {
+        if number > 0 {
+            shown.push('\n')?;
+        }
+        put_shown(&mut shown, line)?;
+    }
+    Ok(shown)
+}
+
+/// Tells why words ask for no command: the help and the version on the output, what is wrong with them on standard error.
+fn told<W: Write, E: Write>(alloc: Global, error: Error, out: &mut W, err: &mut E) -> u8 {
+    let text = match error_text(alloc, &error) {
+        Ok(text) => text,
+        Err(fault) => return tell_bare(fault, err),
+    };
+    if error.use_stderr() {
+        put_line(&text, err);
+        return UNUSABLE;
+    }
+    match write_out(&mut Counted::new(out), text.as_bytes()) {
+        Ok(()) => DONE,
+        Err(fault) => tell_bare(fault, err),
+    }
+}
+
+/// Runs the command that the words give, without the program's own name, over the files of a shelf, and answers the exit status: 0,
+/// 1 where two files differ or a file has another sum than its list tells, 2 where an input is refused, 3 where the words, a file or
+/// a stream can't be used. The output is no terminal.
+pub fn command_over<S: Shelf, R: Read + Drop, W: Write + Drop, E: Write + Drop>(
+    shelf: &S,
+    alloc: Global,
+    words: &[String],
+    input: R,
+    mut out: W,
+    mut err: E,
+) -> u8 {
+    let words = match in_order(alloc, words) {
+        Ok(words) => words,
+        Err(_) => return tell_bare(Fault::OutOfMemory, &mut err),
+    };
+    match read_words(alloc, &words, false) {
+        Ok(asked) => run(shelf, alloc, asked, input, out, err),
+        Err(error) => told(alloc, error, &mut out, &mut err),
+    }
+}
+
+/// The same over the files that `rt` opens, of which nothing is known, with an output that is a terminal or not. Sums are made of
+/// regular files alone, and `diff` compares the files of two folders too.
+pub fn command<
+    T: Files + AllocGlobal + Clone + Drop,
+    R: Read + Drop,
+    W: Write + Drop,
+    E: Write + Drop,
+>(
+    rt: &T,
+    alloc: Global,
+    words: &[String],
+    input: R,
+    mut out: W,
+    mut err: E,
+    is_terminal: bool,
+) -> u8 {
+    let words = match in_order(alloc, words) {
+        Ok(words) => words,
+        Err(_) => return tell_bare(Fault::OutOfMemory, &mut err),
+    };
+    match read_words(alloc, &words, is_terminal) {
+        Ok(Asked::Sum(asked)) => {
+            let asked = sum_asked(&asked);
+            let shelf = Regular::new(rt, asked.list());
+            sum(&shelf, alloc, asked, input, out, err)
+        }
+        Ok(Asked::Diff(asked, ignored)) => {
+            if are_folders(rt, &asked) {
+                return folders(rt, alloc, &asked, &ignored, &mut out, &mut err);
+            }
+            let asked = Asked::Diff(asked, ignored);
+            run(&Host::new(rt), alloc, asked, input, out, err)
+        }
+        Ok(asked) => run(&Host::new(rt), alloc, asked, input, out, err),
+        Err(error) => told(alloc, error, &mut out, &mut err),
+    }
+}

@@ -1,0 +1,102 @@
+//! The command `diff`.
+ghost use Rattle.std.specs.Prelude.{◌≡◌, ◌<◌, ◌-◌, ◌^◌, cond, IfOk};
+ghost use Rattle.yaml_text.specs.CountedModel.{faults_of};
+ghost use Rattle.review_command.specs.Diffs.{DiffTells};
+
+use crate::both::compare_sides;
+use crate::files::{NotBoth, read_both};
+use crate::rejected::{Named, put_not_compared, put_rejections};
+use crate::unread::Unread;
+use review_args::Diff;
+use review_patterns::Pattern;
+use std::alloc::Global;
+use std::io::{Read, Write};
+use yaml_canon::Side;
+use yaml_command::shelf::Shelf;
+use yaml_command::streams::write_out;
+use yaml_text::counted::Counted;
+use yaml_text::fault::Fault;
+
+/// Why two files are not compared, or the lines of their differences are not written.
+#[derive(Drop)]
+pub enum NoDiff {
+    /// Both files are standard input, which is read once.
+    OneInput,
+    /// One at least is not read or is rejected: what is printed of both, as `faults` does, and the status.
+    Rejected(String, u8),
+    /// The output fails, or memory is refused.
+    Fault(Fault),
+}
+
+impl From<Fault> for NoDiff {
+    fn from(fault: Fault) -> Self {
+        NoDiff::Fault(fault)
+    }
+}
+
+/// The status of two streams that are the same, or differ.
+fn status_of(same: bool) -> u8
+    ensures { result ≡ cond same 0 1 }
+{
+    if same { 0 } else { 1 }
+}
+
+/// What reading a file gave, with its name.
+fn named<'n>(name: &'n str, answer: &'n Result<Vec<u8>, Unread>) -> Named<'n> {
+    Named { name, answer }
+}
+
+/// Why two files are not both read.
+fn not_read(alloc: Global, asked: &Diff<'_>, none: NotBoth) -> Result<NoDiff, Fault> {
+    let (left, right) = match none {
+        NotBoth::OneInput => return Ok(NoDiff::OneInput),
+        NotBoth::Unread(left, right) => (left, right),
+    };
+    let mut text = String::new(alloc);
+    let first = named(asked.left, &left);
+    let second = named(asked.right, &right);
+    let status = put_rejections(alloc, &mut text, first, second, asked.form)?;
+    Ok(NoDiff::Rejected(text, status))
+}
+
+/// Why two files that are read are not compared.
+fn not_compared(
+    alloc: Global,
+    asked: &Diff<'_>,
+    left: Vec<u8>,
+    right: Vec<u8>,
+    refused: (Side, Fault),
+) -> Result<NoDiff, Fault> {
+    let (left, right) = (Ok(left), Ok(right));
+    let mut text = String::new(alloc);
+    let first = named(asked.left, &left);
+    let second = named(asked.right, &right);
+    let status = put_not_compared(alloc, &mut text, first, second, refused, asked.form)?;
+    Ok(NoDiff::Rejected(text, status))
+}
+
+/// Writes a line for each difference of two streams that is not at or below a path that one of the patterns matches, and answers 0 where
+/// there is none, and 1 where there is one. Without patterns it answers 0 exactly if each stream is accepted, and they have equally many
+/// documents, pairwise the same.
+pub fn diff<S: Shelf, R: Read, W: Write>(
+    shelf: &S,
+    alloc: Global,
+    asked: &Diff<'_>,
+    ignored: &[Pattern<'_>],
+    input: &mut R,
+    out: &mut Counted<W>,
+) -> Result<u8, NoDiff>
+    requires { faults_of out.old < 2 ^ 64 - 1 }
+    ensures tells { IfOk result (DiffTells (S.holds shelf.now) (R.remaining input.old) W.contents asked.now ignored.now out.old out.new) }
+{
+    let (left, right) = match read_both(shelf, alloc, asked.left, asked.right, input) {
+        Ok(both) => both,
+        Err(none) => return Err(not_read(alloc, asked, none)?),
+    };
+    let told = match compare_sides(alloc, asked, ignored, &left, &right) {
+        Ok(told) => told,
+        Err(refused) => return Err(not_compared(alloc, asked, left, right, refused)?),
+    };
+    write_out(out, told.text.as_bytes())?;
+    Ok(status_of(told.same))
+}

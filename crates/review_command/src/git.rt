@@ -1,0 +1,383 @@
+//! What git passes to an external diff.
+use crate::both::compare_sides;
+use crate::files::read_file;
+use crate::git_show::put_shown_lines;
+use crate::rejected::{Named, put_not_compared, put_rejection, put_rejections};
+use crate::unread::Unread;
+use review_args::{Diff, Form};
+use review_text::put_shown;
+use std::alloc::Global;
+use std::io::{ErrorKind, Write};
+use std::str;
+use yaml_command::shelf::Shelf;
+use yaml_text::fault::Fault;
+
+/// How many lines `git` prints for a file.
+const LINES: usize = 1_000;
+
+/// What git passes for the hash and the mode of a side that does not exist.
+const NONE: &str = ".";
+
+/// The mode of a file that is not executable.
+const PLAIN: &str = "100644";
+
+/// What the one line of a submodule's text begins with.
+const COMMIT: &str = "Subproject commit ";
+
+/// The word before those of git that asks for lines of what `show` writes.
+const SHOWN: &str = "--lines=show";
+
+/// One side: the file to read, its hash and its mode.
+#[derive(Clone, Copy)]
+pub(crate) struct Side<'a> {
+    file: &'a str,
+    hash: &'a str,
+    mode: &'a str,
+}
+
+/// What a side is, by its mode.
+#[derive(Clone, Copy, Debug, PartialEq, Eq)]
+enum Kind {
+    /// It does not exist.
+    None,
+    File,
+    Link,
+    Submodule,
+}
+
+impl Side<'_> {
+    fn kind(self) -> Kind {
+        match self.mode {
+            NONE => Kind::None,
+            "120000" => Kind::Link,
+            "160000" => Kind::Submodule,
+            _ => Kind::File,
+        }
+    }
+}
+
+/// The words of one file: its path, both sides, and the path that it has now and git's lines on it if it was renamed or copied.
+#[derive(Clone, Copy)]
+pub(crate) struct Pair<'a> {
+    path: &'a str,
+    left: Side<'a>,
+    right: Side<'a>,
+    renamed: Option<(&'a str, &'a str)>,
+    /// Whether changed lines of what `show` writes are asked for, and not differences.
+    is_shown: bool,
+}
+
+/// What git asks for.
+#[derive(Clone, Copy)]
+pub(crate) enum GitAsked<'a> {
+    /// A path that is not merged, of which there is nothing to compare.
+    Unmerged(&'a str),
+    Changed(Pair<'a>),
+}
+
+/// One side from these three words.
+fn side_of<'a>(words: &[&'a str]) -> Option<Side<'a>> {
+    Some(Side {
+        file: words.first().copied()?,
+        hash: words.get(1).copied()?,
+        mode: words.get(2).copied()?,
+    })
+}
+
+/// The words of git, and whether there is one before them that asks for lines of what `show` writes. Those of git are 1, 7 or 9, so a
+/// path of that name is none.
+fn split_shown<'w, 'a>(words: &'w [&'a str]) -> (&'w [&'a str], bool) {
+    match words.split_first() {
+        Some((first, rest)) if *first == SHOWN && matches!(rest.len(), 1 | 7 | 9) => (rest, true),
+        _ => (words, false),
+    }
+}
+
+/// What 1, 7 or 9 words ask for: a path; the path, the old file with its hash and mode, and the new one with its own; or these
+/// and the new path with lines on what was renamed or copied.
+pub(crate) fn git_asked<'a>(given: &[&'a str]) -> Option<GitAsked<'a>> {
+    let (words, is_shown) = split_shown(given);
+    let path = words.first().copied()?;
+    match words.len() {
+        1 => Some(GitAsked::Unmerged(path)),
+        7 | 9 => Some(GitAsked::Changed(Pair {
+            path,
+            left: side_of(words.get(1..4)?)?,
+            right: side_of(words.get(4..7)?)?,
+            renamed: match words.get(7..9) {
+                Some(more) => Some((more.first().copied()?, more.get(1).copied()?)),
+                None => None,
+            },
+            is_shown,
+        })),
+        _ => None,
+    }
+}
+
+/// Writes the name of a pair.
+fn put_name(out: &mut String, pair: Pair<'_>) -> Result<(), Fault> {
+    out.push_str("diff ")?;
+    put_shown(out, pair.path)?;
+    if let Some((renamed, _)) = pair.renamed {
+        out.push_str(" -> ")?;
+        put_shown(out, renamed)?;
+    }
+    out.push('\n')?;
+    Ok(())
+}
+
+/// Writes a mode, and what it stands for where that is no file.
+fn put_mode(out: &mut String, side: Side<'_>) -> Result<(), Fault> {
+    put_shown(out, side.mode)?;
+    match side.kind() {
+        Kind::Link => out.push_str(" (symbolic link)")?,
+        Kind::Submodule => out.push_str(" (submodule)")?,
+        Kind::File | Kind::None => {}
+    }
+    Ok(())
+}
+
+/// Writes that a side is the only one, with its mode unless it is that of most files.
+fn put_alone(out: &mut String, words: &str, side: Side<'_>) -> Result<(), Fault> {
+    out.push_str(words)?;
+    if side.mode != PLAIN {
+        out.push_str(", mode ")?;
+        put_mode(out, side)?;
+    }
+    out.push('\n')?;
+    Ok(())
+}
+
+/// Writes which mode was changed, if one was.
+fn put_modes(out: &mut String, pair: Pair<'_>) -> Result<(), Fault> {
+    if pair.left.mode == pair.right.mode {
+        return Ok(());
+    }
+    out.push_str("mode ")?;
+    put_mode(out, pair.left)?;
+    out.push_str(" -> ")?;
+    put_mode(out, pair.right)?;
+    out.push('\n')?;
+    Ok(())
+}
+
+/// Writes from which path a file was renamed or copied, if it was.
+fn put_renamed(out: &mut String, pair: Pair<'_>) -> Result<(), Fault> {
+    let Some((_, lines)) = pair.renamed else {
+        return Ok(());
+    };
+    let is_copy = lines.split('\n').any(|line| line.starts_with("copy from "));
+    out.push_str(if is_copy {
+        "copied from "
+    } else {
+        "renamed from "
+    })?;
+    put_shown(out, pair.path)?;
+    out.push('\n')?;
+    Ok(())
+}
+
+/// The first line of what a link or a submodule holds: where it leads, or the commit.
+fn first_line(bytes: &[u8]) -> &str {
+    let text = str::from_utf8(bytes).unwrap_or("");
+    let line = text.split('\n').next().unwrap_or(text);
+    line.strip_prefix(COMMIT).unwrap_or(line)
+}
+
+/// Writes what a link or a submodule was and is.
+fn put_targets<S: Shelf>(
+    shelf: &S,
+    alloc: Global,
+    out: &mut String,
+    words: &str,
+    pair: Pair<'_>,
+) -> Result<(), Fault> {
+    let left = read_file(shelf, alloc, pair.left.file);
+    let right = read_file(shelf, alloc, pair.right.file);
+    let (Ok(left), Ok(right)) = (&left, &right) else {
+        put_rejections(
+            alloc,
+            out,
+            Named {
+                name: pair.left.file,
+                answer: &left,
+            },
+            Named {
+                name: pair.right.file,
+                answer: &right,
+            },
+            Form::Line,
+        )?;
+        return Ok(());
+    };
+    let (left, right) = (first_line(left), first_line(right));
+    if left == right {
+        return Ok(());
+    }
+    out.push_str(words)?;
+    put_shown(out, left)?;
+    out.push_str(" -> ")?;
+    put_shown(out, right)?;
+    out.push('\n')?;
+    Ok(())
+}
+
+/// A path as git labels it on one side.
+fn label(alloc: Global, side: &str, path: &str) -> Result<String, Fault> {
+    let mut name = String::new(alloc);
+    name.push_str(side)?;
+    name.push_str(path)?;
+    Ok(name)
+}
+
+/// The label of the right path, which a renamed file has anew.
+fn right_label(alloc: Global, pair: Pair<'_>) -> Result<String, Fault> {
+    match pair.renamed {
+        Some((path, _)) => label(alloc, "b/", path),
+        None => label(alloc, "b/", pair.path),
+    }
+}
+
+/// What is asked of the differences of two files of these names.
+fn lines_of<'n>(left: &'n str, right: &'n str) -> Diff<'n> {
+    Diff {
+        left,
+        right,
+        places: true,
+        whole: false,
+        lines: LINES,
+        form: Form::Line,
+        context: 0,
+        color: false,
+        stat: false,
+    }
+}
+
+/// The lines of the differences of two files; or, of each that is not read or is rejected, what `faults` prints.
+fn put_differences<S: Shelf>(
+    shelf: &S,
+    alloc: Global,
+    out: &mut String,
+    pair: Pair<'_>,
+) -> Result<(), Fault> {
+    let (left_name, right_name) = (label(alloc, "a/", pair.path)?, right_label(alloc, pair)?);
+    let (left_name, right_name) = (left_name.as_str(), right_name.as_str());
+    let left = read_file(shelf, alloc, pair.left.file);
+    let right = read_file(shelf, alloc, pair.right.file);
+    let first = Named {
+        name: left_name,
+        answer: &left,
+    };
+    let second = Named {
+        name: right_name,
+        answer: &right,
+    };
+    let (Ok(left), Ok(right)) = (&left, &right) else {
+        put_rejections(alloc, out, first, second, Form::Line)?;
+        return Ok(());
+    };
+    if pair.is_shown {
+        let left = (left_name, left.as_slice());
+        return put_shown_lines(alloc, out, left, (right_name, right.as_slice()));
+    }
+    match compare_sides(alloc, &lines_of(left_name, right_name), &[], left, right) {
+        Ok(told) => out.push_str(&told.text)?,
+        Err(refused) => {
+            put_not_compared(alloc, out, first, second, refused, Form::Line)?;
+        }
+    }
+    Ok(())
+}
+
+/// What is printed of a new file: that it is one, and why it is rejected, if it is.
+fn put_new<S: Shelf>(
+    shelf: &S,
+    alloc: Global,
+    out: &mut String,
+    pair: Pair<'_>,
+) -> Result<(), Fault> {
+    put_alone(out, "new file", pair.right)?;
+    if pair.right.kind() == Kind::File {
+        let name = right_label(alloc, pair)?;
+        let answer: Result<Vec<u8>, Unread> = read_file(shelf, alloc, pair.right.file);
+        let file = Named {
+            name: name.as_str(),
+            answer: &answer,
+        };
+        put_rejection(alloc, out, file, Form::Line)?;
+    }
+    Ok(())
+}
+
+/// Whether both sides are known to have the same bytes. A file that is not in git's store has a hash of zeros.
+fn are_equal(left: Side<'_>, right: Side<'_>) -> bool {
+    left.hash == right.hash && left.hash.bytes().any(|digit| digit != b'0')
+}
+
+/// What is printed of two sides that exist.
+fn put_changed<S: Shelf>(
+    shelf: &S,
+    alloc: Global,
+    out: &mut String,
+    pair: Pair<'_>,
+) -> Result<(), Fault> {
+    put_modes(out, pair)?;
+    put_renamed(out, pair)?;
+    if are_equal(pair.left, pair.right) {
+        return Ok(());
+    }
+    match (pair.left.kind(), pair.right.kind()) {
+        (Kind::File, Kind::File) => put_differences(shelf, alloc, out, pair),
+        (Kind::Link, Kind::Link) => put_targets(shelf, alloc, out, "symbolic link ", pair),
+        (Kind::Submodule, Kind::Submodule) => put_targets(shelf, alloc, out, "submodule ", pair),
+        _ => Ok(()),
+    }
+}
+
+/// What is printed of a pair, without its name.
+fn pair_text<S: Shelf>(shelf: &S, alloc: Global, pair: Pair<'_>) -> Result<String, Fault> {
+    let mut out = String::new(alloc);
+    match (pair.left.kind(), pair.right.kind()) {
+        (Kind::None, _) => put_new(shelf, alloc, &mut out, pair)?,
+        (_, Kind::None) => put_alone(&mut out, "deleted file", pair.left)?,
+        _ => put_changed(shelf, alloc, &mut out, pair)?,
+    }
+    if out.is_empty() {
+        out.push_str("same\n")?;
+    }
+    Ok(out)
+}
+
+/// What is printed of what git asks for. A side that cannot be read or is rejected is reported there.
+pub(crate) fn git_text<S: Shelf>(
+    shelf: &S,
+    alloc: Global,
+    asked: GitAsked<'_>,
+) -> Result<String, Fault> {
+    let mut out = String::new(alloc);
+    match asked {
+        GitAsked::Unmerged(path) => {
+            out.push_str("diff ")?;
+            put_shown(&mut out, path)?;
+            out.push_str("\nnot merged\n")?;
+        }
+        GitAsked::Changed(pair) => {
+            put_name(&mut out, pair)?;
+            out.push_str(&pair_text(shelf, alloc, pair)?)?;
+        }
+    }
+    Ok(out)
+}
+
+/// Writes what is told and flushes. Where whoever reads it has gone, as `head` and a pager do, nothing is left to be told.
+pub(crate) fn put_page<W: Write>(out: &mut W, text: &[u8]) -> Result<(), Fault> {
+    let written = match out.write_all(text) {
+        Ok(()) => out.flush(),
+        Err(error) => Err(error),
+    };
+    match written {
+        Ok(()) => Ok(()),
+        Err(error) if error.kind() == ErrorKind::BrokenPipe => Ok(()),
+        Err(_) => Err(Fault::WriteFault),
+    }
+}

@@ -1,0 +1,81 @@
+-- The lines of the differences that were found.
+use Rattle.std.proofs.Common.{◌≡◌, ℕ, zero, suc, ◌+◌, ◌<◌, ◌≤◌, true, false, cond, List, [], ◌∷◌, ◌++◌, length, take, drop, get_or, refl, sym, ◌∙◌, ap, subst, add-one, drop-cons}
+use Rattle.std.proofs.Math.ListN.{drop_of_length-le}
+use Rattle.std.proofs.lemmas.List.{append_assoc, append-nil}
+use Rattle.yaml_diff.specs.declared.difference.Difference.{Difference}
+use Rattle.review_args.specs.declared.words.Diff.{Diff}
+use Rattle.review_text.specs.declared.both.Both.{Both}
+use Rattle.review_lines.specs.Lines.{line_text, lines_text, more_text}
+use Rattle.review_lines.specs.declared.lines.Line.{Line}
+use Rattle.yaml_diff.specs.declared.difference.Found.{Found}
+use Rattle.std.proofs.lemmas.List.{take_more, take_all}
+use Rattle.yaml_graph.specs.declared.graph.Graph.{Graph}
+use Rattle.review_patterns.specs.declared.pattern.Pattern.{Pattern}
+use Rattle.review_ignore.specs.Ignored.{Keeps}
+use Rattle.review_lines.specs.Compared.{TellsOne, TellsEach, TellsMoves, TellsFound, TellsAsked}
+
+-- one difference and its line more
+pub tells_more : (both : Both) (asked : Diff) (ds : List Difference) (ls : List Line) (d : Difference) (l : Line) → TellsEach both asked ds ls → TellsOne both asked d l → TellsEach both asked (ds ++ (d ∷ [])) (ls ++ (l ∷ []))
+tells_more both asked [] [] d l h k = (k, tt)
+tells_more both asked [] (m ∷ ls) d l h k = absurd h
+tells_more both asked (e ∷ ds) [] d l h k = absurd h
+tells_more both asked (e ∷ ds) (m ∷ ls) d l h k = (h.0, tells_more both asked ds ls d l h.1 k)
+
+pub tells_next : (both : Both) (asked : Diff) (ds : List Difference) (ls new : List Line) (i : ℕ) (d e : Difference) (l : Line) → i < length ds → e ≡ get_or ds i d → TellsEach both asked (take i ds) ls → TellsOne both asked e l → new ≡ ls ++ (l ∷ []) → TellsEach both asked (take (i + 1) ds) new
+tells_next both asked ds ls new i d e l m q h k p =
+    subst (λ z. TellsEach both asked z new) (sym (take_more ds i d m)) (subst (TellsEach both asked (take i ds ++ (get_or ds i d ∷ []))) (sym p) (tells_more both asked (take i ds) ls (get_or ds i d) l h (subst (λ z. TellsOne both asked z l) q k)))
+
+pub tells_whole : (both : Both) (asked : Diff) (ds : List Difference) (ls : List Line) (i : ℕ) → length ds ≤ i → TellsEach both asked (take i ds) ls → TellsEach both asked ds ls
+tells_whole both asked ds ls i m h = subst (λ z. TellsEach both asked z ls) (take_all i ds m) h
+
+drop_next : {X : Type 0} (xs : List X) (i : ℕ) (d : X) → i < length xs → drop i xs ≡ get_or xs i d ∷ drop (i + 1) xs
+drop_next xs i d l = rw add-one (drop-cons xs i d l)
+
+-- one line more is written
+pub lines_next : (f : Diff) (ls : List Line) (i : ℕ) (d : Line) (o a whole : List ℕ) → i < length ls → o ++ lines_text f (drop i ls) ≡ whole → a ≡ o ++ line_text f (get_or ls i d) → a ++ lines_text f (drop (i + 1) ls) ≡ whole
+lines_next f ls i d o a whole l h e =
+    let r = lines_text f (drop (i + 1) ls) in
+    ap (λ z. z ++ r) e ∙ append_assoc o (line_text f (get_or ls i d)) r ∙ ap (λ z. o ++ lines_text f z) (sym (drop_next ls i d l)) ∙ h
+
+pub lines_all : (f : Diff) (ls : List Line) (i : ℕ) (o whole : List ℕ) → length ls ≤ i → o ++ lines_text f (drop i ls) ≡ whole → o ≡ whole
+lines_all f ls i o whole l h = sym (append-nil o) ∙ ap (λ z. o ++ lines_text f z) (sym (drop_of_length-le ls l)) ∙ h
+
+module _ (both : Both) (asked : Diff) (f : Found) (ls ms : List Line) (o a c : List ℕ) (each : TellsEach both asked f.list.items ls) (moves : TellsMoves both asked f ms) (empty : o ≡ []) (put : a ≡ o ++ lines_text asked ls) (more : c ≡ a ++ lines_text asked ms) where
+  all_put : c ≡ lines_text asked ls ++ lines_text asked ms
+  all_put = more ∙ ap (λ z. z ++ lines_text asked ms) (put ∙ ap (λ z. z ++ lines_text asked ls) empty)
+
+  -- the lines of a whole list
+  pub found_whole : f.whole ≡ true → TellsFound both asked f c
+  found_whole w = record {
+    lines = ls;
+    each = each;
+    move_lines = ms;
+    moves = moves;
+    is = all_put ∙ sym (append-nil (lines_text asked ls ++ lines_text asked ms)) ∙ ap (λ z. (lines_text asked ls ++ lines_text asked ms) ++ cond z [] (more_text asked.form)) (sym w);
+  }
+
+  -- and of one that is cut
+  pub found_cut : (b : List ℕ) → f.whole ≡ false → b ≡ c ++ more_text asked.form → TellsFound both asked f b
+  found_cut b w h = record {
+    lines = ls;
+    each = each;
+    move_lines = ms;
+    moves = moves;
+    is = h ∙ ap (λ z. z ++ more_text asked.form) all_put ∙ ap (λ z. (lines_text asked ls ++ lines_text asked ms) ++ cond z [] (more_text asked.form)) (sym w);
+  }
+
+-- ---- as many lines as are asked for
+
+pub asked_none : (n : ℕ) (both : Both) (asked : Diff) (f : Found) (text : List ℕ) → n ≡ 0 → text ≡ [] → TellsAsked n both asked f text
+asked_none n both asked f text e h = subst (λ z. TellsAsked z both asked f text) (sym e) h
+
+pub asked_some : (n : ℕ) (both : Both) (asked : Diff) (f : Found) (text : List ℕ) → (n ≡ 0 → ⊥) → TellsFound both asked f text → TellsAsked n both asked f text
+asked_some zero both asked f text l h = absurd (l refl)
+asked_some (suc n) both asked f text l h = h
+
+-- ---- differences that are left out
+
+-- without patterns none is
+pub keeps-all : (g : Graph) (ps : List Pattern) (room : ℕ) (found kept : Found) → ps ≡ [] → Keeps g ps room found kept → kept ≡ found
+keeps-all g [] room found kept e h = h
+keeps-all g (p ∷ ps) room found kept e h = absurd (cc)

@@ -1,0 +1,147 @@
+-- What is told of two streams as text.
+use Rattle.std.specs.Prelude.{◌≡◌, ◌⊎◌, ◌==◌, ◌&&◌, ◌||◌, ℕ, zero, suc, Bool, false, not, cond, nat_le, nat_lt, take, drop, map, length, List, [], ◌∷◌, ◌++◌, Option, Some, None, codes, string_bytes}
+use Rattle.yaml_definitions.specs.model.Tree.{scalar}
+use Rattle.yaml_scalar.specs.Spelling.{quoted_bytes}
+use Rattle.yaml_graph.specs.GraphView.{roots_of, tree}
+use Rattle.yaml_graph.specs.declared.node.NodeId.{NodeId}
+use Rattle.yaml_graph.specs.declared.graph.Graph.{Graph}
+use Rattle.yaml_diff.specs.Lines.{way_of, line_of}
+use Rattle.yaml_diff.specs.Moves.{moved_line}
+use Rattle.yaml_diff.specs.Found.{FindsItems, moves_of}
+use Rattle.yaml_diff.specs.declared.difference.Difference.{Difference}
+use Rattle.yaml_diff.specs.declared.difference.Found.{Found}
+use Rattle.yaml_script.specs.Script.{IsScript}
+use Rattle.yaml_script.specs.Printed.{script_text}
+use Rattle.yaml_script.specs.declared.script.Edit.{Edit}
+use Rattle.review_args.specs.declared.words.Diff.{Diff}
+use Rattle.review_patterns.specs.declared.pattern.Pattern.{Pattern}
+use Rattle.review_ignore.specs.Ignored.{Keeps}
+use Rattle.review_text.specs.Shown.{front, shown}
+use Rattle.review_text.specs.NodeText.{text_of}
+use Rattle.review_text.specs.PathText.{path_text}
+use Rattle.review_text.specs.declared.both.Both.{Both}
+use Rattle.review_lines.specs.Lines.{Text, lines_text, more_text}
+use Rattle.review_lines.specs.declared.lines.Changes.{Changes}
+use Rattle.review_lines.specs.declared.lines.Line.{Line}
+
+-- how many bytes of a node are shown
+abbrev pub room_of : Bool → ℕ
+room_of whole = cond whole 65536 60
+
+-- how many differences are looked for: one at least, without which no list would tell whether there is a difference
+abbrev pub room_for : ℕ → ℕ
+room_for zero = 1
+room_for (suc lines) = suc lines
+
+-- The same, and at least a million where some are left out.
+abbrev pub search_room : List Pattern → ℕ → ℕ
+search_room ps room = cond ((length ps == 0) || nat_lt 1000000 room) room 1000000
+
+-- paths tell the number of the document, unless each side has one document
+abbrev pub is_numbered : Both → Bool
+is_numbered both = not ((both.documents == 1) && (length (roots_of both.graph) == 2))
+
+-- ---- the two nodes
+
+-- what is shown of a node, where there is one
+abbrev pub ShowsNode : Graph → ℕ → Option NodeId → Text → Type 0
+ShowsNode g room None None = Unit {0}
+ShowsNode g room (Some i) (Some t) = string_bytes t ≡ shown room (text_of (tree g i.0))
+ShowsNode g room _ _ = ⊥
+
+-- the node is a scalar of this tag and content
+abbrev pub IsScalar : Graph → Option NodeId → List ℕ → List ℕ → Type 0
+IsScalar g None tag content = ⊥
+IsScalar g (Some i) tag content = tree g i.0 ≡ scalar tag content
+
+-- a content from a byte on, as far as there is room, with `...` for what is left out
+abbrev pub part_text : ℕ → ℕ → List ℕ → List ℕ
+part_text room start content =
+    cond (start == 0) [] (codes "...") ++ (quoted_bytes (front room (drop start content)) ++ cond (nat_le (length (drop start content)) room) [] (codes "..."))
+
+abbrev pub IsText : List ℕ → Text → Type 0
+IsText bytes None = ⊥
+IsText bytes (Some t) = string_bytes t ≡ bytes
+
+abbrev pub SameTexts : Text → Text → Type 0
+SameTexts (Some left) (Some right) = string_bytes left ≡ string_bytes right
+SameTexts _ _ = ⊥
+
+-- Of two scalars of one tag, a part of either content, from one byte on. What is left out before it is the same on both sides.
+pub record ShowsParts (g : Graph) (room : ℕ) (d : Difference) (left right : Text) : Type 0 where
+  pub tag : List ℕ
+  pub one : List ℕ
+  pub other : List ℕ
+  pub is_left : IsScalar g d.left tag one
+  pub is_right : IsScalar g d.right tag other
+  pub start : ℕ
+  pub before : take start one ≡ take start other
+  pub left_text : IsText (part_text room start one) left
+  pub right_text : IsText (part_text room start other) right
+
+-- the texts of two nodes are equal as far as there is room
+abbrev pub SameFronts : Graph → ℕ → Option NodeId → Option NodeId → Type 0
+SameFronts g room (Some i) (Some j) = shown room (text_of (tree g i.0)) ≡ shown room (text_of (tree g j.0))
+SameFronts g room _ _ = ⊥
+
+-- What is shown of the two nodes, of which parts may be shown only if their texts are equal as far as there is room.
+abbrev pub ShowsBoth : Graph → ℕ → Difference → Text → Text → Type 0
+ShowsBoth g room d left right = (ShowsNode g room d.left left × ShowsNode g room d.right right) ⊎ (SameFronts g room d.left d.right × ShowsParts g room d left right)
+
+-- Of two scalars of one tag, an edit script from the left content to the right one is printed, with so many lines before and behind each change.
+pub record ShowsScript (g : Graph) (context : ℕ) (color : Bool) (d : Difference) (text : List ℕ) : Type 0 where
+  pub tag : List ℕ
+  pub one : List ℕ
+  pub other : List ℕ
+  pub is_left : IsScalar g d.left tag one
+  pub is_right : IsScalar g d.right tag other
+  pub edits : List Edit
+  pub script : IsScript one other edits
+  pub is : text ≡ script_text context color edits
+
+-- such a script, if one is printed
+abbrev pub ShowsChanges : Graph → ℕ → Bool → Difference → Option Changes → Type 0
+ShowsChanges g context color d None = Unit {0}
+ShowsChanges g context color d (Some c) = ShowsScript g context color d (string_bytes c.text)
+
+-- ---- lines
+
+-- the line has the difference's path, and what is shown of its nodes
+pub record TellsOne (both : Both) (asked : Diff) (d : Difference) (l : Line) : Type 0 where
+  pub path : string_bytes l.path ≡ path_text (is_numbered both) (way_of both.graph d.path.items)
+  pub nodes : ShowsBoth both.graph (room_of asked.whole) d l.left l.right
+  pub changes : ShowsChanges both.graph asked.context asked.color d l.changes
+
+-- a line for each difference, in order
+abbrev pub TellsEach : Both → Diff → List Difference → List Line → Type 0
+TellsEach both asked [] [] = Unit {0}
+TellsEach both asked (d ∷ ds) (l ∷ ls) = TellsOne both asked d l × TellsEach both asked ds ls
+TellsEach both asked _ _ = ⊥
+
+-- a line for each pair of items that moved, in order: with the path of the items and no texts
+pub record TellsMoves (both : Both) (asked : Diff) (f : Found) (lines : List Line) : Type 0 where
+  pub moves : List Difference
+  pub are : map line_of moves ≡ map moved_line (moves_of f)
+  pub each : TellsEach both asked moves lines
+
+-- The text is the lines of the differences that were found, and behind them those of the moves, and tells if there are more.
+pub record TellsFound (both : Both) (asked : Diff) (f : Found) (text : List ℕ) : Type 0 where
+  pub lines : List Line
+  pub each : TellsEach both asked f.list.items lines
+  pub move_lines : List Line
+  pub moves : TellsMoves both asked f move_lines
+  pub is : text ≡ (lines_text asked lines ++ lines_text asked move_lines) ++ cond f.whole [] (more_text asked.form)
+
+-- No line is written where none is asked for, whether or not there are differences.
+abbrev pub TellsAsked : ℕ → Both → Diff → Found → List ℕ → Type 0
+TellsAsked zero both asked f text = text ≡ []
+TellsAsked (suc lines) both asked f text = TellsFound both asked f text
+
+-- The text is the lines of the differences of two streams, of as many as were asked for, but for those that are at or below a path that one of the patterns matches; and whether there are none. Of the numbers of differences, in place of lines, nothing is said.
+pub record TellsStreams (both : Both) (asked : Diff) (ignored : List Pattern) (none : Bool) (text : List ℕ) : Type 0 where
+  pub found : Found
+  pub finds : FindsItems both.graph (take both.documents (roots_of both.graph)) (drop both.documents (roots_of both.graph)) (search_room ignored (room_for asked.lines)) found
+  pub kept : Found
+  pub keeps : Keeps both.graph ignored (room_for asked.lines) found kept
+  pub is_none : none ≡ ((kept.whole && (length kept.list.items == 0)) && (length kept.moves.items == 0))
+  pub tells : asked.stat ≡ false → TellsAsked asked.lines both asked kept text

@@ -1,0 +1,95 @@
+-- The lines of a comparison.
+use Rattle.std.specs.Prelude.{ℕ, Bool, cond, List, [], ◌∷◌, ◌++◌, Option, Some, None, option_map, unwrap_or, String, codes, string_bytes}
+use Rattle.std.specs.declared.alloc.Global.{Global}
+use Rattle.std.specs.Fmt.{decimal}
+use Rattle.serde_json.specs.Data.{Data, string, object, member, no_members}
+use Rattle.serde_json.specs.Written.{compact_text}
+use Rattle.yaml_place.specs.declared.place.Place.{Place}
+use Rattle.review_args.specs.declared.words.Form.{Form}
+use Rattle.review_args.specs.declared.words.Form.TheVariants as form
+use Rattle.review_args.specs.declared.words.Diff.{Diff}
+use Rattle.review_text.specs.Hidden.{visible}
+use Rattle.review_text.specs.Objects.{text_data, place_data}
+use Rattle.review_lines.specs.declared.lines.Changes.{Changes}
+use Rattle.review_lines.specs.declared.lines.Line.{Line}
+
+abbrev pub Text : Type 0
+Text = Option (String Global)
+
+-- ---- columns
+
+-- what is told of the two sides: other things, of one of them nothing, or of both nothing, where a pair of items moved
+abbrev pub by_sides : {X : Type 0} → X → X → X → X → Text → Text → X
+by_sides both left right none (Some t) (Some u) = both
+by_sides both left right none (Some t) None = left
+by_sides both left right none None (Some u) = right
+by_sides both left right none None None = none
+
+abbrev pub sign : Line → List ℕ
+sign l = by_sides (codes "~") (codes "-") (codes "+") (codes ">") l.left l.right
+
+abbrev pub text_or_none : Text → List ℕ
+text_or_none t = unwrap_or (option_map string_bytes t) []
+
+abbrev pub place_text : Option Place → List ℕ
+place_text None = []
+place_text (Some p) = decimal p.line ++ (codes ":" ++ decimal p.column)
+
+abbrev pub column : List ℕ → List ℕ
+column text = codes "\t" ++ text
+
+-- what the sides have: both texts or, of strings whose changed lines are printed below, how many lines there are and which are changed
+abbrev pub values : Option Changes → Line → List ℕ
+values None l = column (visible (text_or_none l.left)) ++ column (visible (text_or_none l.right))
+values (Some c) l = column (visible (string_bytes c.summary))
+
+abbrev pub below : Option Changes → List ℕ
+below None = []
+below (Some c) = visible (string_bytes c.text)
+
+abbrev pub places_text : Bool → Line → List ℕ
+places_text places l = cond places (column (place_text l.left_place) ++ column (place_text l.right_place)) []
+
+-- what turns the colour of a terminal on: red for what the left side has alone, green for the right one, blue for what moved, and yellow
+abbrev pub color_text : Line → List ℕ
+color_text l = by_sides (27 ∷ codes "[33m") (27 ∷ codes "[31m") (27 ∷ codes "[32m") (27 ∷ codes "[34m") l.left l.right
+
+-- and what turns it off
+abbrev pub plain_text : List ℕ
+plain_text = 27 ∷ codes "[0m"
+
+-- Sign, path, what the sides have, parted by tabs, and behind these the places if they are told; below them the changed lines of strings. A character that a terminal would not show is written as its escape.
+abbrev pub columns : Bool → Bool → Line → List ℕ
+columns places color l =
+    cond color (color_text l) [] ++ (sign l ++ (column (visible (string_bytes l.path)) ++ (values l.changes l
+    ++ (places_text places l ++ (cond color plain_text [] ++ (codes "\n" ++ below l.changes))))))
+
+-- ---- JSON
+
+abbrev pub kind : Line → List ℕ
+kind l = by_sides (codes "changed") (codes "left") (codes "right") (codes "moved") l.left l.right
+
+-- an object with the members in the order of their names
+abbrev pub line_data : Line → Data
+line_data l =
+    object (member (codes "kind") (string (kind l)) (member (codes "left") (text_data (option_map string_bytes l.left)) (member (codes "left_place") (place_data l.left_place)
+    (member (codes "path") (string (string_bytes l.path)) (member (codes "right") (text_data (option_map string_bytes l.right)) (member (codes "right_place") (place_data l.right_place) no_members))))))
+
+-- ---- a line in each form
+
+abbrev pub form_text : Form → Bool → Bool → Line → List ℕ
+form_text form.Line places color l = columns places color l
+form_text form.Json places color l = compact_text (line_data l) ++ codes "\n"
+
+abbrev pub line_text : Diff → Line → List ℕ
+line_text asked l = form_text asked.form asked.places asked.color l
+
+-- what stands behind lines that are not all
+abbrev pub more_text : Form → List ℕ
+more_text form.Line = codes "...\n"
+more_text form.Json = codes "{\"kind\":\"more\"}\n"
+
+-- one line after another
+abbrev pub lines_text : Diff → List Line → List ℕ
+lines_text asked [] = []
+lines_text asked (l ∷ ls) = line_text asked l ++ lines_text asked ls

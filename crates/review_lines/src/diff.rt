@@ -1,0 +1,422 @@
+//! Where two streams differ, as lines.
+ghost use Rattle.std.specs.Prelude.{◌≡◌, ◌↔◌, ◌<◌, ◌≤◌, ◌&&◌, ◌==◌, ◌++◌, true, false, not, length, map, take, drop, [], string_bytes, OnOk, IfOk, IfErr};
+ghost use Rattle.yaml_definitions.specs.model.Same.{Alike};
+ghost use Rattle.yaml_graph.specs.GraphView.{roots_of, tree};
+ghost use Rattle.yaml_rank.specs.RanksView.{RanksAre};
+ghost use Rattle.yaml_diff.specs.Found.{FindsItems};
+ghost use Rattle.review_lines.specs.Lines.{lines_text};
+ghost use Rattle.review_lines.specs.Compared.{room_of, room_for, search_room, is_numbered, ShowsNode, ShowsBoth, TellsOne, TellsEach, TellsMoves, TellsFound, TellsAsked, TellsStreams};
+
+use crate::lines::{Line, put_more};
+use crate::stat::stat_text;
+use crate::strings::{Budget, changed_lines, differing_parts};
+use review_args::Diff;
+use review_ignore::kept;
+use review_patterns::Pattern;
+use review_places::finder::{Finder, Hand, Stream};
+use review_places::layout::lay_out_from;
+use review_places::places::{places, unmarked};
+use review_places::trace::Traced;
+use review_text::both::Both;
+use review_text::path::path_text;
+use review_text::text::{CUT, WHOLE, node_text};
+use std::alloc::Global;
+use yaml_diff::{Difference, Found, as_differences, stream_differences};
+use yaml_graph::node::NodeId;
+use yaml_place::Place;
+use yaml_text::fault::Fault;
+
+/// The differences and moves of two streams, at most so many.
+fn list_of(alloc: Global, both: &Both<'_>, room: usize) -> Result<Found, Fault>
+    requires ranked { RanksAre both.now.graph both.now.ranks }
+    ensures ok { IfOk result (FindsItems both.now.graph (take both.now.documents (roots_of both.now.graph)) (drop both.now.documents (roots_of both.now.graph)) room) }
+    ensures err { IfErr result (λ fault. fault ≡ Fault.OutOfMemory) }
+{
+    let (lefts, rights) = both.sides();
+    stream_differences(alloc, &both.graph, &both.ranks, lefts, rights, room)
+}
+
+/// The text of a node, if there is one.
+fn shown(
+    alloc: Global,
+    both: &Both<'_>,
+    id: Option<NodeId>,
+    room: usize,
+) -> Result<Option<String>, Fault>
+    requires ranked { RanksAre both.now.graph both.now.ranks }
+    ensures { IfOk result (ShowsNode both.now.graph room id) }
+{
+    match id {
+        Some(id) => Ok(Some(node_text(alloc, both, id, room)?)),
+        None => Ok(None),
+    }
+}
+
+/// What is shown of two nodes.
+#[derive(Drop)]
+struct Texts {
+    left: Option<String>,
+    right: Option<String>,
+}
+
+impl Texts {
+    ghost use Rattle.std.specs.Prelude.{◌≡◌, true};
+    ghost use Rattle.review_lines.specs.Compared.{SameTexts};
+
+    /// Whether both sides show the same.
+    fn is_one(&self) -> bool
+        ensures { (result ≡ true) → SameTexts self.now.left self.now.right }
+    {
+        match (&self.left, &self.right) {
+            (Some(left), Some(right)) => left.as_str() == right.as_str(),
+            _ => false,
+        }
+    }
+}
+
+/// The texts of both nodes as far as there is room.
+fn fronts(
+    alloc: Global,
+    both: &Both<'_>,
+    difference: &Difference,
+    room: usize,
+) -> Result<Texts, Fault>
+    requires ranked { RanksAre both.now.graph both.now.ranks }
+    ensures left { IfOk result (λ s. ShowsNode both.now.graph room difference.now.left s.left) }
+    ensures right { IfOk result (λ s. ShowsNode both.now.graph room difference.now.right s.right) }
+{
+    Ok(Texts {
+        left: shown(alloc, both, difference.left, room)?,
+        right: shown(alloc, both, difference.right, room)?,
+    })
+}
+
+/// What is shown of both nodes: their texts as far as there is room or, where these are the same, the parts where they differ.
+#[tactic(auto, using(crate::proofs::StringLaws::both_shown, crate::proofs::StringLaws::parts_shown))]
+fn shown_both(
+    alloc: Global,
+    both: &Both<'_>,
+    difference: &Difference,
+    room: usize,
+    budget: &mut Budget,
+) -> Result<Texts, Fault>
+    requires ranked { RanksAre both.now.graph both.now.ranks }
+    ensures { IfOk result (λ s. ShowsBoth both.now.graph room difference.now s.left s.right) }
+{
+    let texts = fronts(alloc, both, difference, room)?;
+    if !texts.is_one() {
+        return Ok(texts);
+    }
+    match differing_parts(alloc, both, difference, room, budget)? {
+        Some((left, right)) => Ok(Texts {
+            left: Some(left),
+            right: Some(right),
+        }),
+        None => Ok(texts),
+    }
+}
+
+/// The places of the nodes of each difference, where they are told.
+#[derive(Drop)]
+struct Places {
+    left: Vec<Option<Place>>,
+    right: Vec<Option<Place>>,
+}
+
+/// Whether paths tell the number of the document: unless each side has one document.
+fn is_numbered(both: &Both<'_>) -> bool
+    ensures { result ≡ is_numbered both.now }
+{
+    !(both.documents == 1 && both.graph.roots().len() == 2)
+}
+
+/// The line of a difference, with these places of its nodes.
+#[tactic(auto, using(crate::proofs::StringLaws::one_told))]
+fn line_of(
+    alloc: Global,
+    both: &Both<'_>,
+    difference: &Difference,
+    asked: &Diff<'_>,
+    places: (Option<Place>, Option<Place>),
+    budget: &mut Budget,
+) -> Result<Line, Fault>
+    requires ranked { RanksAre both.now.graph both.now.ranks }
+    ensures { IfOk result (TellsOne both.now asked.now difference.now) }
+{
+    let path = path_text(alloc, both, &difference.path, is_numbered(both))?;
+    let nodes = shown_both(alloc, both, difference, room_of(asked.whole), budget)?;
+    let lines = changed_lines(alloc, both, difference, asked, budget)?;
+    Ok(Line {
+        path,
+        left: nodes.left,
+        right: nodes.right,
+        left_place: places.0,
+        right_place: places.1,
+        changes: lines,
+    })
+}
+
+/// The place at a number, if one is told.
+fn place_at(places: &[Option<Place>], number: usize) -> Option<Place> {
+    match places.get(number) {
+        Some(place) => *place,
+        None => None,
+    }
+}
+
+/// The lines of differences.
+fn lines_of(
+    alloc: Global,
+    both: &Both<'_>,
+    list: &[Difference],
+    asked: &Diff<'_>,
+    places: &Places,
+) -> Result<Vec<Line>, Fault>
+    requires ranked { RanksAre both.now.graph both.now.ranks }
+    ensures { IfOk result (λ lines. TellsEach both.now asked.now list.now lines.items) }
+{
+    let mut lines = Vec::new(alloc);
+    let mut budget = Budget::new();
+    for (number, difference) in list.iter().enumerate() {
+        let at = (
+            place_at(&places.left, number),
+            place_at(&places.right, number),
+        );
+        lines.push(line_of(alloc, both, difference, asked, at, &mut budget)?)?;
+    }
+    Ok(lines)
+}
+
+/// One of two streams.
+fn stream_of<'g>(both: &'g Both<'_>, hand: Hand) -> Stream<'g> {
+    let (lefts, rights) = both.sides();
+    match hand {
+        Hand::Left => Stream { hand, roots: lefts },
+        Hand::Right => Stream {
+            hand,
+            roots: rights,
+        },
+    }
+}
+
+/// Whether there is a node on this side: of a difference, or of a pair of items that moved, which is told with no nodes.
+fn has_node(difference: &Difference, hand: Hand) -> bool {
+    match hand {
+        Hand::Left => difference.left.is_some() || difference.right.is_none(),
+        Hand::Right => difference.right.is_some() || difference.left.is_none(),
+    }
+}
+
+/// The places of one side's nodes, each with the number of its line, which rise.
+fn side_places(
+    alloc: Global,
+    both: &Both<'_>,
+    list: &[Difference],
+    hand: Hand,
+    side: Traced<'_>,
+) -> Result<Vec<(usize, Place)>, Fault> {
+    let layout = lay_out_from(alloc, side.trace, side.first, side.end)?;
+    let mut finder = Finder::new(alloc, both, stream_of(both, hand), layout);
+    let mut offsets = Vec::new(alloc);
+    for (number, difference) in list.iter().enumerate() {
+        if !has_node(difference, hand) {
+            continue;
+        }
+        if let Some(offset) = finder.offset(alloc, &difference.path)? {
+            offsets.push((offset, number))?;
+        }
+    }
+    places(alloc, unmarked(side.bytes), offsets)
+}
+
+/// The places of one side by the numbers of their lines, of which there are so many.
+fn spread(
+    alloc: Global,
+    places: &[(usize, Place)],
+    len: usize,
+) -> Result<Vec<Option<Place>>, Fault> {
+    let mut list = vec![in alloc; None; len]?;
+    for (number, place) in places {
+        if let Some(slot) = list.get_mut(*number) {
+            *slot = Some(*place);
+        }
+    }
+    Ok(list)
+}
+
+/// The places of both sides' nodes; none where they are not asked for.
+fn find_places(
+    alloc: Global,
+    both: &Both<'_>,
+    list: &[Difference],
+    sides: Option<(Traced<'_>, Traced<'_>)>,
+) -> Result<Places, Fault> {
+    match sides {
+        Some((left, right)) => {
+            let lefts = side_places(alloc, both, list, Hand::Left, left)?;
+            let rights = side_places(alloc, both, list, Hand::Right, right)?;
+            Ok(Places {
+                left: spread(alloc, &lefts, list.len())?,
+                right: spread(alloc, &rights, list.len())?,
+            })
+        }
+        None => Ok(Places {
+            left: Vec::new(alloc),
+            right: Vec::new(alloc),
+        }),
+    }
+}
+
+/// Lines as text.
+fn put_each(alloc: Global, text: &mut String, lines: &[Line], asked: &Diff<'_>) -> Result<(), Fault>
+    ensures { OnOk result (string_bytes text.new ≡ string_bytes text.old ++ lines_text asked.now lines.now) }
+{
+    for line in lines {
+        line.put(alloc, text, asked)?;
+    }
+    Ok(())
+}
+
+/// How many bytes of a node are shown.
+fn room_of(whole: bool) -> usize
+    ensures { result ≡ room_of whole }
+{
+    if whole { WHOLE } else { CUT }
+}
+
+/// The lines of pairs of items that moved.
+fn lines_of_moves(
+    alloc: Global,
+    both: &Both<'_>,
+    asked: &Diff<'_>,
+    sides: Option<(Traced<'_>, Traced<'_>)>,
+    found: &Found,
+) -> Result<Vec<Line>, Fault>
+    requires ranked { RanksAre both.now.graph both.now.ranks }
+    ensures { IfOk result (λ lines. TellsMoves both.now asked.now found.now lines.items) }
+{
+    let list = as_differences(alloc, &found.moves)?;
+    let sides = if list.is_empty() { None } else { sides };
+    let places = find_places(alloc, both, &list, sides)?;
+    lines_of(alloc, both, &list, asked, &places)
+}
+
+/// The lines of listed differences and moves as text.
+fn text_of(
+    alloc: Global,
+    both: &Both<'_>,
+    asked: &Diff<'_>,
+    sides: Option<(Traced<'_>, Traced<'_>)>,
+    found: &Found,
+) -> Result<String, Fault>
+    requires ranked { RanksAre both.now.graph both.now.ranks }
+    ensures { IfOk result (λ text. TellsFound both.now asked.now found.now (string_bytes text)) }
+{
+    let traced = sides;
+    let sides = if found.list.is_empty() { None } else { sides };
+    let places = find_places(alloc, both, &found.list, sides)?;
+    let lines = lines_of(alloc, both, &found.list, asked, &places)?;
+    let moves = lines_of_moves(alloc, both, asked, traced, found)?;
+    let mut text = String::new(alloc);
+    put_each(alloc, &mut text, &lines, asked)?;
+    put_each(alloc, &mut text, &moves, asked)?;
+    if found.whole {
+        return Ok(text);
+    }
+    put_more(&mut text, asked.form)?;
+    Ok(text)
+}
+
+/// The same, and no text where no line is asked for.
+#[tactic(auto, using(crate::proofs::CompareLaws::asked_none, crate::proofs::CompareLaws::asked_some))]
+fn asked_text(
+    alloc: Global,
+    both: &Both<'_>,
+    asked: &Diff<'_>,
+    sides: Option<(Traced<'_>, Traced<'_>)>,
+    found: &Found,
+) -> Result<String, Fault>
+    requires ranked { RanksAre both.now.graph both.now.ranks }
+    ensures { IfOk result (λ text. TellsAsked asked.now.lines both.now asked.now found.now (string_bytes text)) }
+{
+    if asked.lines == 0 {
+        return Ok(String::new(alloc));
+    }
+    text_of(alloc, both, asked, sides, found)
+}
+
+/// The same, or how many differences of each kind there are.
+fn told_text(
+    alloc: Global,
+    both: &Both<'_>,
+    asked: &Diff<'_>,
+    sides: Option<(Traced<'_>, Traced<'_>)>,
+    found: &Found,
+) -> Result<String, Fault>
+    requires ranked { RanksAre both.now.graph both.now.ranks }
+    ensures { IfOk result (λ text. asked.now.stat ≡ false → TellsAsked asked.now.lines both.now asked.now found.now (string_bytes text)) }
+{
+    if asked.stat {
+        return stat_text(alloc, asked, found);
+    }
+    asked_text(alloc, both, asked, sides, found)
+}
+
+/// How many differences are looked at where some are left out, at least.
+const SEARCHED: usize = 1_000_000;
+
+/// Room for so many lines or, where some differences are left out, for as many as are looked at.
+fn search_room(ignored: &[Pattern<'_>], room: usize) -> usize
+    ensures some { 0 < room → 0 < result }
+    ensures asked { result ≡ search_room ignored.now room }
+{
+    if ignored.is_empty() || SEARCHED < room {
+        room
+    } else {
+        SEARCHED
+    }
+}
+
+/// Whether all differences and moves are listed, and there is none.
+fn lists_none(found: &Found) -> bool
+    ensures { result ≡ ((found.now.whole && (length found.now.list.items == 0)) && (length found.now.moves.items == 0)) }
+{
+    found.whole && found.list.len() == 0 && found.moves.len() == 0
+}
+
+/// Room for so many lines, and for one at least, without which no list would tell whether there is a difference.
+fn room_for(lines: usize) -> usize
+    ensures some { 0 < result }
+    ensures asked { result ≡ room_for lines }
+{
+    if lines == 0 { 1 } else { lines }
+}
+
+/// What a comparison tells: its lines, and whether no difference is told.
+#[derive(Drop)]
+pub struct Compared {
+    pub text: String,
+    pub same: bool,
+}
+
+/// The lines of the differences of two streams, whose graph this is, but for those that are at or below a path that one of the patterns
+/// matches, and whether there are none. Without patterns this is so if the streams have equally many documents, pairwise the same.
+/// Places are told where both sides are given with their traces.
+pub fn compare(
+    alloc: Global,
+    both: &Both<'_>,
+    asked: &Diff<'_>,
+    ignored: &[Pattern<'_>],
+    sides: Option<(Traced<'_>, Traced<'_>)>,
+) -> Result<Compared, Fault>
+    requires ranked { RanksAre both.now.graph both.now.ranks }
+    ensures text { IfOk result (λ told. TellsStreams both.now asked.now ignored.now told.same (string_bytes told.text)) }
+    ensures same { IfOk result (λ told. ignored.now ≡ [] → ((told.same ≡ true) ↔ Alike (map (λ i. tree both.now.graph i.0) (take both.now.documents (roots_of both.now.graph))) (map (λ i. tree both.now.graph i.0) (drop both.now.documents (roots_of both.now.graph))))) }
+{
+    let room = room_for(asked.lines);
+    let found = list_of(alloc, both, search_room(ignored, room))?;
+    let kept = kept(alloc, both, ignored, found, room)?;
+    let same = lists_none(&kept);
+    let text = told_text(alloc, both, asked, sides, &kept)?;
+    Ok(Compared { text, same })
+}

@@ -1,0 +1,200 @@
+//! The lines of a comparison.
+ghost use Rattle.std.specs.Prelude.{◌≡◌, ◌++◌, cond, unwrap_or, option_map, [], string_bytes, OnOk};
+ghost use Rattle.review_text.specs.Hidden.{visible};
+ghost use Rattle.review_lines.specs.Lines.{column, place_text, more_text};
+
+use review_args::{Diff, Form};
+use review_text::json::{Said, put_object, text_of};
+use review_text::put_visible;
+use std::alloc::Global;
+use yaml_place::Place;
+use yaml_text::fault::Fault;
+
+/// The changed lines of two strings.
+#[derive(Drop)]
+pub struct Changes {
+    /// How many lines there are, how many are changed, and where.
+    pub summary: String,
+    /// The changed lines, each behind a tab and its sign.
+    pub text: String,
+}
+
+/// One difference, or one pair of items that moved, as it is told.
+#[derive(Drop)]
+pub struct Line {
+    pub path: String,
+    /// The texts of the two nodes, where there are nodes; none of both where a pair of items moved.
+    pub left: Option<String>,
+    pub right: Option<String>,
+    /// The places of the two nodes, where they are told.
+    pub left_place: Option<Place>,
+    pub right_place: Option<Place>,
+    /// The changed lines, where both nodes are strings and one of them has a line feed.
+    pub changes: Option<Changes>,
+}
+
+/// What stands behind lines that are not all.
+const MORE: &str = "...\n";
+
+/// What turns the colour of a terminal off.
+const PLAIN: &str = "\u{1b}[0m";
+
+impl Line {
+    ghost use Rattle.std.specs.Prelude.{◌≡◌, ◌++◌, [], cond, codes, string_bytes, OnOk};
+    ghost use Rattle.serde_json.specs.Written.{compact_text};
+    ghost use Rattle.review_lines.specs.Lines.{sign, kind, color_text, plain_text, values, below, places_text, columns, line_data, line_text};
+
+    /// What the two sides have at the path: other things, or one of them nothing. Where both have no text, a pair of items moved.
+    fn sign(&self) -> &'static str
+        ensures { result.now ≡ sign self.now }
+    {
+        match (self.left.is_some(), self.right.is_some()) {
+            (true, true) => "~",
+            (true, false) => "-",
+            (false, true) => "+",
+            (false, false) => ">",
+        }
+    }
+
+    fn kind(&self) -> &'static str
+        ensures { result.now ≡ kind self.now }
+    {
+        match (self.left.is_some(), self.right.is_some()) {
+            (true, true) => "changed",
+            (true, false) => "left",
+            (false, true) => "right",
+            (false, false) => "moved",
+        }
+    }
+
+    /// What turns a colour on: yellow, red, green or blue.
+    fn color(&self) -> &'static str
+        ensures { result.now ≡ color_text self.now }
+    {
+        match (self.left.is_some(), self.right.is_some()) {
+            (true, true) => "\u{1b}[33m",
+            (true, false) => "\u{1b}[31m",
+            (false, true) => "\u{1b}[32m",
+            (false, false) => "\u{1b}[34m",
+        }
+    }
+
+    /// Both texts or, of strings whose changed lines are printed below, what is said of these.
+    fn put_values(&self, out: &mut String) -> Result<(), Fault>
+        ensures { OnOk result (string_bytes out.new ≡ string_bytes out.old ++ values self.now.changes self.now) }
+    {
+        match &self.changes {
+            Some(changes) => put_column(out, Some(changes.summary.as_str())),
+            None => {
+                put_column(out, text_of(&self.left))?;
+                put_column(out, text_of(&self.right))
+            }
+        }
+    }
+
+    /// The places' columns, if they are told.
+    fn put_places(&self, out: &mut String, places: bool) -> Result<(), Fault>
+        ensures { OnOk result (string_bytes out.new ≡ string_bytes out.old ++ places_text places self.now) }
+    {
+        if places {
+            put_place(out, self.left_place)?;
+            put_place(out, self.right_place)?;
+        }
+        Ok(())
+    }
+
+    /// The changed lines, where they are printed.
+    fn put_below(&self, out: &mut String) -> Result<(), Fault>
+        ensures { OnOk result (string_bytes out.new ≡ string_bytes out.old ++ below self.now.changes) }
+    {
+        match &self.changes {
+            Some(changes) => put_visible(out, &changes.text),
+            None => Ok(()),
+        }
+    }
+
+    /// Columns parted by tabs: sign, path, what the sides have, and behind these the places if they are told; and the lines below.
+    fn put_columns(&self, out: &mut String, places: bool, color: bool) -> Result<(), Fault>
+        ensures { OnOk result (string_bytes out.new ≡ string_bytes out.old ++ columns places color self.now) }
+    {
+        put_if(out, color, self.color())?;
+        out.push_str(self.sign())?;
+        put_column(out, Some(self.path.as_str()))?;
+        self.put_values(out)?;
+        self.put_places(out, places)?;
+        put_if(out, color, PLAIN)?;
+        out.push('\n')?;
+        self.put_below(out)?;
+        Ok(())
+    }
+
+    /// One JSON object.
+    fn put_json(&self, alloc: Global, out: &mut String) -> Result<(), Fault>
+        ensures { OnOk result (string_bytes out.new ≡ string_bytes out.old ++ (compact_text (line_data self.now) ++ codes "\n")) }
+    {
+        let members = [
+            ("kind", Said::Text(Some(self.kind()))),
+            ("path", Said::Text(Some(self.path.as_str()))),
+            ("left", Said::Text(text_of(&self.left))),
+            ("right", Said::Text(text_of(&self.right))),
+            ("left_place", Said::Place(self.left_place)),
+            ("right_place", Said::Place(self.right_place)),
+        ];
+        put_object(alloc, out, &members)
+    }
+
+    /// Writes the line in the form that is asked for.
+    pub fn put(&self, alloc: Global, out: &mut String, asked: &Diff<'_>) -> Result<(), Fault>
+        ensures { OnOk result (string_bytes out.new ≡ string_bytes out.old ++ line_text asked.now self.now) }
+    {
+        match asked.form {
+            Form::Line => self.put_columns(out, asked.places, asked.color),
+            Form::Json => self.put_json(alloc, out),
+        }
+    }
+}
+
+/// Tells that there are more lines.
+pub fn put_more(out: &mut String, form: Form) -> Result<(), Fault>
+    ensures { OnOk result (string_bytes out.new ≡ string_bytes out.old ++ more_text form) }
+{
+    match form {
+        Form::Line => out.push_str(MORE)?,
+        Form::Json => out.push_str("{\"kind\":\"more\"}\n")?,
+    }
+    Ok(())
+}
+
+/// A text, if it is asked for.
+fn put_if(out: &mut String, is_asked: bool, text: &str) -> Result<(), Fault>
+    ensures { OnOk result (string_bytes out.new ≡ string_bytes out.old ++ cond is_asked text.now []) }
+{
+    if is_asked {
+        out.push_str(text)?;
+    }
+    Ok(())
+}
+
+/// A column behind another: the text, if there is one, with escapes for the characters that a terminal would not show.
+fn put_column(out: &mut String, text: Option<&str>) -> Result<(), Fault>
+    ensures { OnOk result (string_bytes out.new ≡ string_bytes out.old ++ column (visible (unwrap_or (option_map (λ told. told.now) text.entry) []))) }
+{
+    out.push('\t')?;
+    if let Some(text) = text {
+        put_visible(out, text)?;
+    }
+    Ok(())
+}
+
+/// A column with a place, if there is one.
+fn put_place(out: &mut String, place: Option<Place>) -> Result<(), Fault>
+    ensures { OnOk result (string_bytes out.new ≡ string_bytes out.old ++ column (place_text place)) }
+{
+    out.push('\t')?;
+    if let Some(place) = place {
+        let line = place.line;
+        let column = place.column;
+        write!(out, "{line}:{column}")?;
+    }
+    Ok(())
+}

@@ -1,0 +1,6 @@
+use Rattle.yaml_sink.specs.SinkModel.{start_of}
+use Rattle.review_places.proofs.TraceLaws.{if_ok, traced_put}
+use Rattle.review_places.proofs.trace.TraceKeeper.begin.Goals as goal
+
+pub returns-clause-ok : goal.returns-clause-ok
+returns-clause-ok c = if_ok c.put.result c.put.ensures.ok (λ x g. traced_put c.args.self.now c.put.new.self (start_of c.args._collection c.args._flow) g)

@@ -1,0 +1,136 @@
+//! Paths of events, where no graph is made.
+use review_text::text::{put_all, put_scalar_key};
+use std::alloc::Global;
+use yaml_core::scalar::resolve;
+use yaml_text::event::{Event, EventTag, Style};
+use yaml_text::fault::Fault;
+
+/// The step of a key that is no scalar.
+const UNTOLD: &str = "[?]";
+
+/// A collection that is open.
+#[derive(Clone, Copy)]
+pub struct Frame {
+    /// The number of its event.
+    pub event: usize,
+    is_mapping: bool,
+    /// How many parts began in it.
+    parts: usize,
+    /// The event of the last part that began.
+    last: usize,
+    /// The event of the key before that, where the last part is a value.
+    key: usize,
+}
+
+/// The collections that are open at an event, and the number of its document.
+#[derive(Drop)]
+pub struct Trail {
+    document: usize,
+    frames: Vec<Frame>,
+}
+
+impl Trail {
+    /// No document yet.
+    pub fn new(alloc: Global) -> Trail {
+        Trail {
+            document: 0,
+            frames: Vec::new(alloc),
+        }
+    }
+
+    /// A node begins at the event of this number.
+    fn begin(&mut self, at: usize) {
+        if let Some(frame) = self.frames.last_mut() {
+            frame.key = frame.last;
+            frame.last = at;
+            frame.parts = frame.parts.saturating_add(1);
+        }
+    }
+
+    fn open(&mut self, at: usize, is_mapping: bool) -> Result<(), Fault> {
+        self.begin(at);
+        self.frames.push(Frame {
+            event: at,
+            is_mapping,
+            parts: 0,
+            last: at,
+            key: at,
+        })?;
+        Ok(())
+    }
+
+    /// Takes the event of this number.
+    pub fn take(&mut self, at: usize, event: &Event<'_>) -> Result<(), Fault> {
+        match event {
+            Event::SequenceStart { .. } => self.open(at, false)?,
+            Event::MappingStart { .. } => self.open(at, true)?,
+            Event::Scalar { .. } | Event::Alias { .. } => self.begin(at),
+            Event::SequenceEnd | Event::MappingEnd => {
+                self.frames.pop();
+            }
+            Event::DocumentEnd { .. } => self.document = self.document.saturating_add(1),
+            Event::StreamStart | Event::StreamEnd | Event::DocumentStart { .. } => {}
+        }
+        Ok(())
+    }
+
+    /// Whether the node that began last is a key.
+    pub fn is_at_key(&self) -> bool {
+        for frame in self.frames.iter().rev() {
+            // A collection without parts is the node itself.
+            if frame.parts > 0 {
+                return frame.is_mapping && frame.parts % 2 == 1;
+            }
+        }
+        false
+    }
+
+    /// The path of the node that began last. That of a key is the path of its value, and a key that is no scalar is shown as `[?]`.
+    pub fn path(&self, alloc: Global, events: &[Event<'_>]) -> Result<String, Fault> {
+        let number = self.document;
+        let mut out = format!(in alloc; "{number}")?;
+        for frame in &self.frames {
+            if frame.parts == 0 {
+                continue;
+            }
+            if frame.is_mapping {
+                let is_key = frame.parts % 2 == 1;
+                let key = if is_key { frame.last } else { frame.key };
+                put_key(alloc, &mut out, events.get(key))?;
+            } else {
+                let place = frame.parts.saturating_sub(1);
+                write!(out, "[{place}]")?;
+            }
+        }
+        Ok(out)
+    }
+}
+
+/// The step to the value of the key that this event begins.
+fn put_key(alloc: Global, out: &mut String, event: Option<&Event<'_>>) -> Result<(), Fault> {
+    match event {
+        Some(
+            Event::Scalar {
+                tag,
+                style,
+                text,
+                ..
+            },
+        ) => put_scalar_step(alloc, out, tag, *style, text.as_str()),
+        Some(Event::Alias { name }) => put_all(out, &["[*", name.as_str(), "]"]),
+        _ => Ok(out.push_str(UNTOLD)?),
+    }
+}
+
+fn put_scalar_step(
+    alloc: Global,
+    out: &mut String,
+    tag: &EventTag<'_>,
+    style: Style,
+    text: &str,
+) -> Result<(), Fault> {
+    match resolve(alloc, tag, style, text) {
+        Ok(scalar) => put_scalar_key(alloc, out, scalar.tag.as_str(), scalar.content.as_str()),
+        Err(_) => Ok(out.push_str(UNTOLD)?),
+    }
+}

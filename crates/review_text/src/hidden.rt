@@ -1,0 +1,100 @@
+//! Texts in which a terminal shows each character.
+ghost use Rattle.std.specs.Prelude.{◌≡◌, ◌<◌, ◌++◌, string_bytes, OnOk};
+ghost use Rattle.std.specs.Str.{encode_utf8_all};
+ghost use Rattle.yaml_definitions.specs.canonical.CharText.{hex_digit};
+ghost use Rattle.review_text.specs.Hidden.{is_hidden_low, is_hidden_high, is_hidden, two_digits, escape_text, visible_char, visible};
+
+use yaml_text::fault::Fault;
+
+/// Whether a character below U+3000 is hidden.
+#[tactic(auto, unfolding(crate::specs::Hidden::is_hidden_low))]
+fn is_hidden_low(c: char) -> bool
+    ensures { result ≡ is_hidden_low c }
+{
+    matches!(
+        c,
+        '\u{AD}' | '\u{34F}' | '\u{61C}' | '\u{115F}'..='\u{1160}' | '\u{17B4}'..='\u{17B5}' | '\u{180B}'..='\u{180F}'
+            | '\u{200B}'..='\u{200F}' | '\u{2028}'..='\u{202E}' | '\u{2060}'..='\u{206F}'
+    )
+}
+
+/// Whether a character from U+3000 on is hidden.
+#[tactic(auto, unfolding(crate::specs::Hidden::is_hidden_high))]
+fn is_hidden_high(c: char) -> bool
+    ensures { result ≡ is_hidden_high c }
+{
+    matches!(
+        c,
+        '\u{3164}' | '\u{FEFF}' | '\u{FFA0}' | '\u{FE00}'..='\u{FE0F}' | '\u{FFF0}'..='\u{FFFB}' | '\u{1BCA0}'..='\u{1BCA3}'
+            | '\u{1D173}'..='\u{1D17A}' | '\u{E0000}'..='\u{E0FFF}'
+    )
+}
+
+/// Whether a terminal shows nothing for a character, or the character turns or hides the text around it.
+fn is_hidden(c: char) -> bool
+    ensures { result ≡ is_hidden c }
+{
+    is_hidden_low(c) || is_hidden_high(c)
+}
+
+/// A digit of base 16, in upper case.
+fn hex_digit(digit: u32) -> char
+    requires { digit < 16 }
+    ensures { result ≡ hex_digit digit }
+{
+    if digit < 10 {
+        char::from(b'0' + digit as u8)
+    } else {
+        char::from(b'A' + (digit as u8 - 10))
+    }
+}
+
+/// Writes the two digits of a byte.
+fn put_digits(out: &mut String, byte: u32) -> Result<(), Fault>
+    requires { byte < 256 }
+    ensures { OnOk result (string_bytes out.new ≡ string_bytes out.old ++ encode_utf8_all (two_digits byte)) }
+{
+    out.push(hex_digit(byte / 16))?;
+    out.push(hex_digit(byte % 16))?;
+    Ok(())
+}
+
+/// Writes the escape of a character by its number.
+fn put_escape(out: &mut String, code: u32) -> Result<(), Fault>
+    requires { code < 1114112 }
+    ensures { OnOk result (string_bytes out.new ≡ string_bytes out.old ++ encode_utf8_all (escape_text code)) }
+{
+    if code < 65_536 {
+        out.push_str("\\u")?;
+        put_digits(out, code / 256)?;
+        put_digits(out, code % 256)
+    } else {
+        out.push_str("\\U00")?;
+        put_digits(out, code / 65_536)?;
+        put_digits(out, code / 256 % 256)?;
+        put_digits(out, code % 256)
+    }
+}
+
+/// Writes a character, or its escape if it is hidden.
+fn put_char(out: &mut String, c: char) -> Result<(), Fault>
+    ensures { OnOk result (string_bytes out.new ≡ string_bytes out.old ++ encode_utf8_all (visible_char c)) }
+{
+    if is_hidden(c) {
+        put_escape(out, u32::from(c))
+    } else {
+        out.push(c)?;
+        Ok(())
+    }
+}
+
+/// Writes a text with the escape of each hidden character (YAML 1.2.2, 5.7). In the text of a node these stand between double quotes
+/// alone, where the escape is read as the character.
+pub fn put_visible(out: &mut String, text: &str) -> Result<(), Fault>
+    ensures { OnOk result (string_bytes out.new ≡ string_bytes out.old ++ visible text.now) }
+{
+    'chars: for c in text.chars() {
+        put_char(out, c)?;
+    }
+    Ok(())
+}

@@ -1,0 +1,16 @@
+//! The texts that `yamlreview` prints: nodes, paths, source lines, words for warnings.
+#![tactic(auto)]
+
+pub mod both;
+pub mod fronts;
+pub mod hidden;
+pub mod json;
+pub mod path;
+pub mod tag_words;
+pub mod text;
+mod timed;
+pub mod yaml11;
+
+pub use both::Both;
+pub use fronts::put_shown;
+pub use hidden::put_visible;

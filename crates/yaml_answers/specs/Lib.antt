@@ -1,4 +1,0 @@
-pub mod Gathering
-pub mod Rooms
-pub mod Unread
-pub mod Writers

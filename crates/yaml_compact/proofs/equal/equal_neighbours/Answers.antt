@@ -1,8 +1,0 @@
-use Rattle.std.proofs.Common.{arith}
-use Rattle.yaml_levels.proofs.PlaceLaws.{first-equal}
-use Rattle.yaml_compact.proofs.equal.equal_neighbours.Goals as goal
-
-pub returns : goal.returns
-returns c = λ numbers is.
-    let i = c.loop-at.invariant in
-    first-equal numbers c.args.order.now is c.loop-at.at c.loop-at.best (omega (arith, c.loop-at-test.false)) i.2 (λ k h z. let m = i.1 in omega arith)

@@ -1,6 +1,0 @@
-use Rattle.std.proofs.Common.{◌<◌, ◌≤◌, max, length}
-use Rattle.yaml_levels.proofs.PlaceLaws.{SoFar}
-use Rattle.yaml_compact.proofs.equal.equal_neighbours.Given as goal
-
-abbrev pub invariant-loop-at : goal.invariant-loop-at
-invariant-loop-at l = (0 < l.at) × (l.at ≤ max 1 (length l.order)) × SoFar l.order l.at l.best

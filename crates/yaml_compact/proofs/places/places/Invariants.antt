@@ -1,6 +1,0 @@
-use Rattle.std.proofs.Common.{take}
-use Rattle.yaml_compact.specs.TagPlaces.{PlacesAmong}
-use Rattle.yaml_compact.proofs.places.places.Given as goal
-
-abbrev pub invariant-loop-number : goal.invariant-loop-number
-invariant-loop-number l = PlacesAmong l.ordered.items (take l.number l.tags) l.places.items

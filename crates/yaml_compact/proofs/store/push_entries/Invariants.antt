@@ -1,6 +1,0 @@
-use Rattle.std.proofs.Common.{◌≡◌, ◌*◌, ◌++◌, take}
-use Rattle.yaml_nodes.specs.ComposerSteps.{paired}
-use Rattle.yaml_compact.proofs.store.push_entries.Given as goal
-
-abbrev pub invariant-loop-place : goal.invariant-loop-place
-invariant-loop-place l = l.entries.items ≡ l.fn.entries.items ++ paired (take (2 * l.place) l.parts)

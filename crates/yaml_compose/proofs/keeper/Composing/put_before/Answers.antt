@@ -1,9 +1,0 @@
-use Rattle.std.proofs.Common.{refl, sym, ◌∙◌}
-use Rattle.yaml_compose.proofs.KeeperLaws.{inserts, inserts-ended}
-use Rattle.yaml_compose.proofs.keeper.Composing.put_before.Goals as goal
-
-pub returns-then-is_none : goal.returns-then-is_none
-returns-then-is_none c = inserts-ended c.args.self.now _ c.args.start c.args.flow c.if-self.false c.if-is_none.ensures.yes refl c.in-Some.ensures.1 c.in_ok-precede.ensures
-
-pub returns : goal.returns
-returns c = inserts c.args.self.now _ c.args.start c.args.flow c.if-self.false (sym c.saturating_sub.ensures ∙ c.if-saturating_sub-ne1.false) c.in-Some.ensures.1 refl c.in_ok-precede-2.ensures

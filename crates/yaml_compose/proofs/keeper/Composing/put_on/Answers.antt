@@ -1,6 +1,0 @@
-use Rattle.yaml_sink.specs.PropertyRules.{props_of}
-use Rattle.yaml_compose.proofs.KeeperLaws.{dresses-none}
-use Rattle.yaml_compose.proofs.keeper.Composing.put_on.Goals as goal
-
-pub returns-then-start-self-clause-ok : goal.returns-then-start-self-clause-ok
-returns-then-start-self-clause-ok c = dresses-none c.args.self.now c.args.start (props_of c.args.properties.now) c.if-start-self.true

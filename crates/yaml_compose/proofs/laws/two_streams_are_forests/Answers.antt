@@ -1,5 +1,0 @@
-use Rattle.yaml_compose.proofs.ReachedLaws.{two-streams-are-forests}
-use Rattle.yaml_compose.proofs.laws.two_streams_are_forests.Goals as goal
-
-pub returns : goal.returns
-returns c = two-streams-are-forests

@@ -1,7 +1,0 @@
-use Rattle.std.proofs.Common.{◌∷◌, ap}
-use Rattle.yaml_content.specs.State.{meaning}
-use Rattle.yaml_content.proofs.form.State.step.Goals as goal
-
-pub returns-in-Other : goal.returns-in-Other
-unfolding meaning
-returns-in-Other c = λ rest. ap (λ s. meaning s (c.args.byte ∷ rest)) c.in-Other.is

@@ -1,7 +1,0 @@
-use Rattle.std.proofs.Common.{◌≡◌, drop}
-use Rattle.yaml_content.specs.Form.{form_of}
-use Rattle.yaml_content.specs.State.{meaning}
-use Rattle.yaml_content.proofs.form.judge.Given as goal
-
-abbrev pub invariant-loop-byte : goal.invariant-loop-byte
-invariant-loop-byte l = meaning l.state (drop l.byte-index l.bytes) ≡ form_of l.bytes

@@ -1,3 +1,0 @@
-mod LineLaws
-mod SlotLaws
-mod StartLaws

@@ -1,2 +1,0 @@
-pub mod LinesHeld
-pub mod Slots

@@ -1,0 +1,6 @@
+use Rattle.std.proofs.Common.{◌≡◌, take}
+use Rattle.yaml_rank.proofs.PlaceLaws.{placed}
+use Rattle.yaml_rank.proofs.order.in_order.Given as goal
+
+abbrev pub invariant-loop-place : goal.invariant-loop-place
+invariant-loop-place l = l.order.items ≡ placed 0 (take l.place l.values)

@@ -1,4 +1,0 @@
-pub mod FileLaws
-mod EventLaws
-mod PageLaws
-mod LineLaws

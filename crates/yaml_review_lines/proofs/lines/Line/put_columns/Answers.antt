@@ -1,9 +1,0 @@
-use Rattle.std.specs.Char.{encode_utf8}
-use Rattle.yaml_review_lines.proofs.LineLaws.{eight_put}
-use Rattle.yaml_review_lines.proofs.lines.Line.put_columns.Goals as goal
-
-pub returns : goal.returns
-unfolding encode_utf8
-returns c =
-    eight_put _ _ _ _ _ _ _ _ _ _ _ _ _ _ _ _ _ (rw c.color.ensures at c.in_ok-put_if.ensures) (rw c.sign.ensures at c.in_ok-push_str.ensures.bytes) (rw c.as_str.ensures.value at c.in_ok-put_column.ensures) c.in_ok-put_values.ensures
-    c.in_ok-put_places.ensures c.in_ok-put_if-2.ensures c.in_ok-push.ensures.bytes c.in_ok-put_below.ensures

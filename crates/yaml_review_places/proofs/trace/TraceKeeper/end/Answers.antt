@@ -1,6 +1,0 @@
-use Rattle.yaml_sink.specs.SinkModel.{end_of}
-use Rattle.yaml_review_places.proofs.TraceLaws.{if_ok, traced_put}
-use Rattle.yaml_review_places.proofs.trace.TraceKeeper.end.Goals as goal
-
-pub returns-clause-ok : goal.returns-clause-ok
-returns-clause-ok c = if_ok c.put.result c.put.ensures.ok (λ x g. traced_put c.args.self.now c.put.new.self (end_of c.args._collection) g)

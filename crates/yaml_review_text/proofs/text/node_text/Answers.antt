@@ -1,7 +1,0 @@
-use Rattle.std.proofs.Common.{◌∙◌}
-use Rattle.std.proofs.lemmas.Result.{IfOk-weaker}
-use Rattle.yaml_review_text.proofs.ShownLaws.{shown_filled}
-use Rattle.yaml_review_text.proofs.text.node_text.Goals as goal
-
-pub returns : goal.returns
-returns c = IfOk-weaker c.cut.result _ _ (λ s e. e ∙ shown_filled c.args.room _ _ _ c.new-text.ensures.bytes c.in_ok-put_node.ensures) c.cut.ensures

@@ -1,8 +1,0 @@
-//! The arguments of the program `yamlreview`.
-#![tactic(auto)]
-
-pub mod order;
-pub mod words;
-
-pub use order::in_order;
-pub use words::{Asked, Diff, Form, Format, Report, Show, Sum, read_words};

@@ -1,0 +1,6 @@
+pub mod Growing
+pub mod Parts
+pub mod StoreLaws
+mod TagParts
+mod ContentLaws
+mod GraphLaws

@@ -1,0 +1,14 @@
+use Rattle.std.proofs.Common.{refl}
+use Rattle.yaml_definitions.specs.model.Serial.{stream_events}
+use Rattle.yaml_store_composer.proofs.KeeperLaws.{all-composed, goes-on, settles}
+use Rattle.yaml_store_composer.proofs.keeper.Composing.documents.Goals as goal
+
+pub returns-clause-count : goal.returns-clause-count
+returns-clause-count c = λ ds h.
+    let w = goes-on _ _ _ _ c.go_on.new.self c.in_ok-compose.ensures.composes c.in_ok-go_on.ensures in
+    c.in_ok-documents.ensures.count ds (all-composed c.args.self.now (stream_events ds) c.go_on.new.self h c.if-self.false w)
+
+pub returns-clause-keeps : goal.returns-clause-keeps
+returns-clause-keeps c =
+    let w = goes-on _ _ _ _ c.go_on.new.self c.in_ok-compose.ensures.composes c.in_ok-go_on.ensures in
+    settles c.args.self.now _ c.if-self.false w c.in_ok-compose.ensures.none refl

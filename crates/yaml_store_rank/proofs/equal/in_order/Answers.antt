@@ -1,0 +1,16 @@
+use Rattle.std.proofs.Common.{subst, get_or, [], ◌∷◌, ◌++◌, ◌∙◌, ap, refl}
+use Rattle.std.specs.List.Sorted.{IsPermutation}
+use Rattle.std.proofs.lemmas.List.{take_all}
+use Rattle.yaml_rank.proofs.PlaceLaws.{placed, placed-more, in-order}
+use Rattle.yaml_store_rank.proofs.equal.in_order.Goals as goal
+
+pub loop-place-preserved : goal.loop-place-preserved
+loop-place-preserved c =
+    let ns = c.args.numbers.now in
+    let k = c.loop-place.place in
+    placed-more ns k (get_or ns k 0) c.push.new.self.items c.loop-place-test.true refl (c.in_ok-push.ensures.items ∙ ap (λ z. z ++ ((get_or ns k 0, k) ∷ [])) c.loop-place.invariant)
+
+pub returns : goal.returns
+returns c =
+    in-order c.args.numbers.now c.sort_unstable.new.self.items
+    (subst (λ z. IsPermutation z c.sort_unstable.new.self.items) (c.loop-place.invariant ∙ ap (placed 0) (take_all c.loop-place.place c.args.numbers.now c.loop-place-test.false)) c.sort_unstable.ensures.permutation) c.sort_unstable.ensures.sorted

@@ -1,0 +1,6 @@
+use Rattle.yaml_rank.specs.LevelsModel.{LevelsBy}
+use Rattle.yaml_store.specs.StoreModel.{height_at}
+use Rattle.yaml_store_rank.proofs.levels.levels.Given as goal
+
+abbrev pub invariant-loop-number : goal.invariant-loop-number
+invariant-loop-number l = LevelsBy (height_at l.nodes) l.number l.levels.items

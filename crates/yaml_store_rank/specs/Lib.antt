@@ -1,0 +1,11 @@
+pub mod NumberKeys
+pub mod KeyModel
+pub mod SlotModel
+pub mod PartsModel
+pub mod LevelModel
+pub mod Ranking
+pub mod TagPlaces
+pub mod StoreRanks
+pub mod Refused
+pub mod RanksView
+pub mod Walked

@@ -1,0 +1,7 @@
+//! Laws of ranks. The function has an empty body, and its contract is a law.
+ghost use Rattle.yaml_store_rank.specs.RanksView.{RanksAreAView};
+
+/// The ranks of a store are themselves nodes, each after its parts: their trees are arranged, and rise.
+pub fn ranks_are_a_view()
+    ensures { RanksAreAView }
+{}
