@@ -15,7 +15,7 @@ use Rattle.yaml_canon.specs.Claims.{AllOf}
 use Rattle.yaml_canon.specs.Comparing.{Compares}
 use Rattle.yaml_canon.proofs.ClaimLaws.{all_roots, means_alone}
 use Rattle.review_text.specs.declared.both.Both.{Both}
-use Rattle.review_command.specs.Sides.{BothAre}
+use Rattle.review_compare.specs.Sides.{BothAre}
 
 -- ---- two lists in one
 
