@@ -398,8 +398,8 @@ OTHER = (
     + "".join(
         f"uint32_t yamlcanon_{name}(void) {{ return 0; }}\n"
         for name in (
-            *("canonical_within", "events_within", "json_within", "same_within", "sha256_within", "show_within", "values_within"),
-            *("message", "position", "release"),
+            *("canonical_within", "diff_within", "events_within", "json_within", "same_within", "sha256_within", "show_within"),
+            *("values_within", "message", "position", "release"),
         )
     )
 )
