@@ -4,6 +4,7 @@ r"""The canonical text of YAML 1.2 streams, and whether two streams mean the sam
     canonical_file(path) -> bytes     the canonical text of a file
     sha256(data) -> bytes             the SHA-256 of the canonical text: what means the same has the same
     same(left, right) -> bool         whether two streams mean the same
+    diff(left, right) -> list         where they differ
     show(data) -> bytes               readable YAML that means the same
     to_json(data) -> bytes            the documents as JSON, a line each
     load(data) -> list                the values of the documents; load_one(data) that of the only one
@@ -34,6 +35,7 @@ from ctypes import byref, c_size_t
 from decimal import Decimal
 from typing import Any, Callable, Iterator, List, Optional, Union
 
+from yamlcanon.differences import Difference, differences_in, lines_of
 from yamlcanon.library import DONE, FORM, REFUSED, SHORT, Fault
 from yamlcanon.library import file as _library_file  # noqa: F401, for yamlcanon.table
 from yamlcanon.library import lib as _lib
@@ -43,6 +45,7 @@ from yamlcanon.stack import elsewhere, thread as _thread
 from yamlcanon.values import Tagged, TooManyNodes, Unhashable, limit_for, records_of, values_in
 
 __all__ = [
+    "Difference",
     "FORM",
     "Kind",
     "NoJson",
@@ -54,6 +57,7 @@ __all__ = [
     "budget",
     "canonical",
     "canonical_file",
+    "diff",
     "events",
     "iter_events",
     "library_release",
@@ -241,6 +245,29 @@ def same(left: Data, right: Data, *, memory: Optional[int] = None) -> bool:
     """
     left, right = _bytes(left), _bytes(right)
     return bool(_here(max(len(left), len(right)), _same_here, left, right, _memory(memory)))
+
+
+def diff(left: Data, right: Data, *, lines: int = 1000, memory: Optional[int] = None) -> List[Difference]:
+    """Where two streams differ, as `yamlreview diff --format=json` prints it; an empty list if they mean the same.
+
+    lines: how many differences are told at most. If there are more, a Difference of kind 'more' is behind them.
+
+    >>> for one in diff("replicas: 0x3\\nports: [80]\\n", "{replicas: 5, ports: [80, 443]}"):
+    ...     print(one.kind, one.path, one.left, one.right, one.left_place, one.right_place)
+    right .ports[1] None !!int "443" None (1, 26)
+    changed .replicas !!int "3" !!int "5" (1, 11) (1, 12)
+    >>> diff("a: 3", "{a: 0x3}")
+    []
+    >>> diff("[a, b, c]", "[]", lines=1)[1:]
+    [Difference(kind='more', path='', left=None, right=None, left_place=None, right_place=None)]
+    """
+    if not 0 <= lines <= _MOST:
+        raise ValueError(f"yamlcanon: lines is a number from 0 to {_MOST}, not {lines}")
+    left, right = _bytes(left), _bytes(right)
+    text, fault = _here(max(len(left), len(right)), lines_of, left, right, lines, _memory(memory))
+    if text is None:
+        raise _raised(fault, left, right)
+    return differences_in(text)
 
 
 def sha256(data: Data, *, memory: Optional[int] = None) -> bytes:

@@ -86,6 +86,11 @@ def _load() -> Tuple[ctypes.CDLL, str]:
         call.argtypes = [c_void_p, c_size_t, c_void_p, c_size_t, POINTER(c_size_t), POINTER(Fault), c_size_t]
     own.yamlcanon_same_within.restype = c_uint32
     own.yamlcanon_same_within.argtypes = [c_void_p, c_size_t, c_void_p, c_size_t, POINTER(Fault), c_size_t]
+    own.yamlcanon_diff_within.restype = c_uint32
+    own.yamlcanon_diff_within.argtypes = [
+        *(c_void_p, c_size_t, c_void_p, c_size_t, c_size_t),
+        *(c_void_p, c_size_t, POINTER(c_size_t), POINTER(Fault), c_size_t),
+    ]
     own.yamlcanon_sha256_within.restype = c_uint32
     own.yamlcanon_sha256_within.argtypes = [c_void_p, c_size_t, c_void_p, POINTER(Fault), c_size_t]
     own.yamlcanon_values_within.restype = c_uint32

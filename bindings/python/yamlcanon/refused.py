@@ -47,7 +47,7 @@ class Refused(ValueError):
         name            the error's name, as 'EqualKeys'
         place           a byte offset for 2 to 11, an event for 12 to 17, a document for 18, a node for 19; else 0
         first, second   the two entries of EqualKeys; else 0
-        side            'left' or 'right' if the call was `same`, else None
+        side            'left' or 'right' if the call was `same` or `diff`, else None
         line, column    of the byte offset, from 1; None if `place` is not a byte offset, or no call has raised this
 
     Two are equal if they have the same number, name, place, entries and side. It can be pickled, so a pool of processes hands it on.
