@@ -18,11 +18,11 @@ _ROOM = 4096
 class Difference:
     """Where two streams differ, as a line of `yamlreview diff --format=json` tells it.
 
-        kind                      'changed'; 'left' or 'right' for what that side has alone; 'moved' for an item of a sequence that has
-                                  another place among the others; 'more', behind all others, if there are more than were asked for
-        path                      where it is: '.spec.replicas', '[1]'. The number of the document comes first unless each side has one
-        left, right               the canonical text of what each side has there, cut behind 60 bytes; None where it has nothing
-        left_place, right_place   its line and its column there, from 1; None where there is none
+    kind                      'changed'; 'left' or 'right' for what that side has alone; 'moved' for an item of a sequence that has
+                              another place among the others; 'more', behind all others, if there are more than were asked for
+    path                      where it is: '.spec.replicas', '[1]'. The number of the document comes first unless each side has one
+    left, right               the canonical text of what each side has there, cut behind 60 bytes; None where it has nothing
+    left_place, right_place   its line and its column there, from 1; None where there is none
     """
 
     __module__ = "yamlcanon"
@@ -42,9 +42,7 @@ def _difference(line: bytes) -> Difference:
     told = json.loads(line)
     if told["kind"] == "more":
         return Difference("more")
-    return Difference(
-        told["kind"], told["path"], told["left"], told["right"], _place(told["left_place"]), _place(told["right_place"])
-    )
+    return Difference(told["kind"], told["path"], told["left"], told["right"], _place(told["left_place"]), _place(told["right_place"]))
 
 
 def differences_in(text: bytes) -> List[Difference]:
