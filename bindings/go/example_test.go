@@ -86,10 +86,10 @@ func ExampleDiff() {
 	for _, one := range told {
 		fmt.Println(one.Kind, one.Path, one.RightPlace.Line, one.RightPlace.Column)
 	}
-	fmt.Println(*told[1].Left, *told[1].Right, err)
+	fmt.Println(*told[0].Left, *told[0].Right, err)
 	// Output:
-	// right .ports[1] 1 26
 	// changed .replicas 1 12
+	// right .ports[1] 1 27
 	// !!int "3" !!int "5" <nil>
 }
 

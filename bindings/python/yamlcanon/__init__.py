@@ -254,8 +254,8 @@ def diff(left: Data, right: Data, *, lines: int = 1000, memory: Optional[int] = 
 
     >>> for one in diff("replicas: 0x3\\nports: [80]\\n", "{replicas: 5, ports: [80, 443]}"):
     ...     print(one.kind, one.path, one.left, one.right, one.left_place, one.right_place)
-    right .ports[1] None !!int "443" None (1, 26)
     changed .replicas !!int "3" !!int "5" (1, 11) (1, 12)
+    right .ports[1] None !!int "443" None (1, 27)
     >>> diff("a: 3", "{a: 0x3}")
     []
     >>> diff("[a, b, c]", "[]", lines=1)[1:]
