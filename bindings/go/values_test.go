@@ -28,11 +28,11 @@ func TestEachKind(t *testing.T) {
 
 func TestNoValuePassesThroughAFloat(t *testing.T) {
 	digits := "123456789012345678901234567890.1234567890123456789"
-	for input, want := range map[string]Float{digits: "1.234567890123456789012345678901234567890123456789e+29", "1e1000000": "1.0e+1000000"} {
+	for _, input := range []string{digits, "1e1000000", "-1.5E-300"} {
 		got, err := LoadOne([]byte(input))
 		told, is := got.(Float)
 		if same, _ := Same([]byte(input), []byte(told)); err != nil || !is || !same {
-			t.Errorf("%v and not %v, %v", got, want, err)
+			t.Errorf("%v and not %v, %v", got, input, err)
 		}
 	}
 	for float, want := range map[Float]float64{"1.5": 1.5, ".inf": math.Inf(1), "-.inf": math.Inf(-1), "1.0e-400": 0} {
