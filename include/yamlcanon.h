@@ -1,7 +1,7 @@
 /* yamlcanon.h: the canonical text of YAML 1.2 streams, and whether two streams mean the same.
  *
  * tools/library builds libyamlcanon.a, libyamlcanon.so.1 and yamlcanon.pc. What a call answers is proved against its
- * contract in crates/yaml_c/src/calls.rt and show.rt, which say which text, which answer and which refusal. Not proved are the
+ * contract in crates/yaml_c/src (calls.rt, show.rt, diff.rt, values.rt), which say which text, which answer and which refusal. Not proved are the
  * bound of memory and yamlcanon_release; nothing checks this header against the contracts, nor what a caller passes.
  *
  * A caller owes, for the time of the call:
@@ -45,7 +45,7 @@ extern "C" {
 /* What a call answers, as the program yamlcanon does by its exit status. */
 enum {
     YAMLCANON_DONE = 0,      /* done; of two streams: the same */
-    YAMLCANON_DIFFERENT = 1, /* the two streams differ */
+    YAMLCANON_DIFFERENT = 1, /* the two streams differ, and yamlcanon_diff gives a text */
     YAMLCANON_REFUSED = 2,   /* an input is refused, and *fault tells why */
     YAMLCANON_SHORT = 3,     /* out has less room than the text, whose length is in *len */
     YAMLCANON_NO_JSON = 4,   /* yamlcanon_json alone: JSON cannot express the stream */
@@ -121,6 +121,14 @@ uint32_t yamlcanon_json(const uint8_t *input, size_t n, uint8_t *out, size_t cap
 /* Whether two streams mean the same: DONE, DIFFERENT, or REFUSED, and then *fault tells why, and else is as it was. */
 uint32_t yamlcanon_same(const uint8_t *left, size_t left_n, const uint8_t *right, size_t right_n,
                         yamlcanon_fault *fault);
+
+/* Puts where two streams differ at the start of out, and the length into *len, as yamlreview diff --format=json prints it: a
+ * JSON object on a line for each difference and for each item that moved, at most so many lines, and behind them
+ * {"kind":"more"} if there are more. With lines 0 there is no text.
+ * DONE: they mean the same, and *len is 0. DIFFERENT: they don't, and the text is out[0 .. *len]. With both out is as it was
+ * behind the text, and so is *fault. SHORT and REFUSED: as yamlcanon_canonical; a fault is one of yamlcanon_same. */
+uint32_t yamlcanon_diff(const uint8_t *left, size_t left_n, const uint8_t *right, size_t right_n, size_t lines,
+                        uint8_t *out, size_t cap, size_t *len, yamlcanon_fault *fault);
 
 /* Puts the SHA-256 of the canonical text into out, as yamlreview sum prints it in hexadecimal digits: DONE, or REFUSED
  * as yamlcanon_canonical, and then out is as it was. The text is held in memory meanwhile. */
@@ -215,6 +223,8 @@ uint32_t yamlcanon_json_within(const uint8_t *input, size_t n, uint8_t *out, siz
                                yamlcanon_fault *fault, size_t memory);
 uint32_t yamlcanon_same_within(const uint8_t *left, size_t left_n, const uint8_t *right, size_t right_n,
                                yamlcanon_fault *fault, size_t memory);
+uint32_t yamlcanon_diff_within(const uint8_t *left, size_t left_n, const uint8_t *right, size_t right_n, size_t lines,
+                               uint8_t *out, size_t cap, size_t *len, yamlcanon_fault *fault, size_t memory);
 uint32_t yamlcanon_sha256_within(const uint8_t *input, size_t n, uint8_t out[32], yamlcanon_fault *fault,
                                  size_t memory);
 uint32_t yamlcanon_values_within(const uint8_t *input, size_t n, const yamlcanon_rooms *rooms,

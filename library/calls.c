@@ -8,6 +8,8 @@ uint32_t yaml_c_events(const uint8_t *input, size_t n, uint8_t *out, size_t cap,
 uint32_t yaml_c_show(const uint8_t *input, size_t n, uint8_t *out, size_t cap, size_t *len, yamlcanon_fault *fault);
 uint32_t yaml_c_json(const uint8_t *input, size_t n, uint8_t *out, size_t cap, size_t *len, yamlcanon_fault *fault);
 uint32_t yaml_c_same(const uint8_t *left, size_t left_n, const uint8_t *right, size_t right_n, yamlcanon_fault *fault);
+uint32_t yaml_c_diff(const uint8_t *left, size_t left_n, const uint8_t *right, size_t right_n, size_t lines, uint8_t *out, size_t cap,
+                     size_t *len, yamlcanon_fault *fault);
 uint32_t yaml_c_sha256(const uint8_t *input, size_t n, uint8_t *out, yamlcanon_fault *fault);
 uint32_t yaml_c_message(const yamlcanon_fault *fault, uint8_t *out, size_t cap, size_t *len);
 uint32_t yaml_c_position(const uint8_t *input, size_t n, const yamlcanon_fault *fault, size_t *line, size_t *column);
@@ -52,6 +54,12 @@ uint32_t yamlcanon_json(const uint8_t *input, size_t n, uint8_t *out, size_t cap
 uint32_t yamlcanon_same(const uint8_t *left, size_t left_n, const uint8_t *right, size_t right_n, yamlcanon_fault *fault)
 {
     return yaml_c_same(bytes(left, left_n), left_n, bytes(right, right_n), right_n, fault);
+}
+
+uint32_t yamlcanon_diff(const uint8_t *left, size_t left_n, const uint8_t *right, size_t right_n, size_t lines, uint8_t *out, size_t cap,
+                        size_t *len, yamlcanon_fault *fault)
+{
+    return yaml_c_diff(bytes(left, left_n), left_n, bytes(right, right_n), right_n, lines, room(out, cap), cap, len, fault);
 }
 
 uint32_t yamlcanon_sha256(const uint8_t *input, size_t n, uint8_t out[32], yamlcanon_fault *fault)
@@ -110,6 +118,15 @@ uint32_t yamlcanon_same_within(const uint8_t *left, size_t left_n, const uint8_t
 {
     size_t before = yaml_c_bound(memory);
     uint32_t status = yamlcanon_same(left, left_n, right, right_n, fault);
+    yaml_c_unbound(before);
+    return status;
+}
+
+uint32_t yamlcanon_diff_within(const uint8_t *left, size_t left_n, const uint8_t *right, size_t right_n, size_t lines, uint8_t *out,
+                               size_t cap, size_t *len, yamlcanon_fault *fault, size_t memory)
+{
+    size_t before = yaml_c_bound(memory);
+    uint32_t status = yamlcanon_diff(left, left_n, right, right_n, lines, out, cap, len, fault);
     yaml_c_unbound(before);
     return status;
 }

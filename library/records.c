@@ -1,6 +1,6 @@
 /* records < NAMES > RECORDS: what the library answers on each file named on standard input, a name a line. Two builds of the library agree
- * where their records are the same bytes: of each file all four texts and `same` of it with itself, with the file before, and with its own
- * canonical text. */
+ * where their records are the same bytes: of each file all four texts, `same` of it with itself, with the file before, and with its own
+ * canonical text, and the differences from the file before. */
 #include "yamlcanon.h"
 #include <inttypes.h>
 #include <stdio.h>
@@ -69,6 +69,18 @@ static void same(struct bytes left, struct bytes right)
     put("same", yamlcanon_same(left.at, left.n, right.at, right.n, &fault), &fault);
 }
 
+static void differences(struct bytes left, struct bytes right)
+{
+    yamlcanon_fault fault = {0};
+    size_t len = 0;
+    uint32_t status = yamlcanon_diff(left.at, left.n, right.at, right.n, 1000, NULL, 0, &len, &fault);
+    struct bytes out = {had(calloc(len + 1, 1)), len};
+    if (status == YAMLCANON_SHORT) status = yamlcanon_diff(left.at, left.n, right.at, right.n, 1000, out.at, out.n, &len, &fault);
+    put("diff", status, &fault);
+    fwrite(out.at, 1, out.n, stdout);
+    free(out.at);
+}
+
 int main(void)
 {
     char name[4096];
@@ -84,6 +96,7 @@ int main(void)
         same(in, in);
         same(in, before);
         same(canonical, in);
+        differences(in, before);
         free(before.at);
         free(canonical.at);
         free(events.at);

@@ -110,6 +110,27 @@ static uint32_t digest(const uint8_t *input, size_t n, uint8_t *out, size_t cap,
     return status;
 }
 
+/* The differences of a file from one with another letter at its end, as a text, and a fault of either as one of the file. The copy is no
+ * request that a test refuses. */
+static uint32_t differences(const uint8_t *input, size_t n, uint8_t *out, size_t cap, size_t *len, yamlcanon_fault *fault)
+{
+    uint8_t *other = calloc(n + 1, 1);
+    size_t at = n;
+    if (n) memcpy(other, input, n);
+    while (at && (other[at - 1] < 'a' || other[at - 1] > 'y')) at--;
+    if (at) other[at - 1]++;
+    uint32_t status = yamlcanon_diff(input, n, other, n, 1000, out, cap, len, fault);
+    free(other);
+    if (status == YAMLCANON_REFUSED) fault->side = 0;
+    return status == YAMLCANON_DIFFERENT ? YAMLCANON_DONE : status;
+}
+
+/* Lines of JSON. */
+static void in_lines(const struct file *file, const struct answer *text)
+{
+    if (text->room[0] != '{' || text->room[text->len - 1] != '\n') wrong(file, "differences without a start or an end");
+}
+
 static void its_own(const struct file *file, const struct answer *text)
 {
     struct file written = {"", text->room, text->len};
@@ -220,6 +241,11 @@ static void nulls(void)
     if (yamlcanon_json_within((const uint8_t *)"a", 1, NULL, 0, &len, &fault, 0) != YAMLCANON_SHORT || len != 4) wrong(&null, "json_within");
     if (yamlcanon_same(NULL, 0, NULL, 0, &fault)) wrong(&null, "same");
     if (yamlcanon_same_within((const uint8_t *)"a", 1, NULL, 0, &fault, 0) != YAMLCANON_DIFFERENT) wrong(&null, "same_within");
+    if (yamlcanon_diff(NULL, 0, NULL, 0, 1000, NULL, 0, &len, &fault) || len) wrong(&null, "diff");
+    if (yamlcanon_diff_within((const uint8_t *)"a", 1, NULL, 0, 0, NULL, 0, &len, &fault, 0) != YAMLCANON_DIFFERENT || len)
+        wrong(&null, "diff_within");
+    if (yamlcanon_diff_within((const uint8_t *)"a", 1, NULL, 0, 1, NULL, 0, &len, &fault, 0) != YAMLCANON_SHORT || !len)
+        wrong(&null, "diff_within without room");
     if (yamlcanon_sha256(NULL, 0, digest, &fault) || memcmp(digest, of_nothing, sizeof of_nothing)) wrong(&null, "sha256");
     if (yamlcanon_sha256_within(NULL, 0, digest, &fault, 0)) wrong(&null, "sha256_within");
     for (size_t i = 0; i < sizeof fault; i++)
@@ -260,6 +286,7 @@ static void rooms(text_call *call, const struct file *file)
         if (call == yamlcanon_canonical) its_own(file, &other);
         if (call == yamlcanon_show) shown(file, &other);
         if (call == yamlcanon_json) in_json(file, &other);
+        if (call == differences) in_lines(file, &other);
         free(less.room);
         free(more.room);
     } else if (none.status == YAMLCANON_REFUSED) {
@@ -273,7 +300,7 @@ static void rooms(text_call *call, const struct file *file)
     free(other.room);
 }
 
-static text_call *const calls[] = {yamlcanon_canonical, yamlcanon_events, yamlcanon_show, yamlcanon_json, digest};
+static text_call *const calls[] = {yamlcanon_canonical, yamlcanon_events, yamlcanon_show, yamlcanon_json, differences, digest};
 #define CALLS (sizeof calls / sizeof *calls)
 
 /* All inputs, under this bound of memory for the thread. */
@@ -405,6 +432,8 @@ static void shown_within(const struct file *file)
     a.status = yamlcanon_show_within(file->at, file->n, own.room, cap, &a.len, &a.fault, peak);
     if (a.status != own.status || yamlcanon_peak() != peak) wrong(file, "readable text refused within its peak");
     if (yamlcanon_json_within(file->at, file->n, own.room, cap, &a.len, &a.fault, 1) != YAMLCANON_REFUSED) wrong(file, "JSON within 1 byte");
+    a.status = yamlcanon_diff_within(file->at, file->n, NULL, 0, 1, own.room, cap, &a.len, &a.fault, 1);
+    if (a.status != YAMLCANON_REFUSED) wrong(file, "differences within 1 byte");
     a.status = yamlcanon_show(file->at, file->n, own.room, cap, &a.len, &a.fault);
     if (own.status == YAMLCANON_DONE && a.status != YAMLCANON_REFUSED) wrong(file, "the bound of the thread is lost by show");
     yamlcanon_budget(0);

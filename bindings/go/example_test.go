@@ -81,6 +81,40 @@ func ExampleToJSON() {
 	// true JSON cannot express this stream
 }
 
+func ExampleDiff() {
+	told, err := yamlcanon.Diff([]byte("replicas: 0x3\nports: [80]\n"), []byte("{replicas: 5, ports: [80, 443]}"), 1000)
+	for _, one := range told {
+		fmt.Println(one.Kind, one.Path, one.RightPlace.Line, one.RightPlace.Column)
+	}
+	fmt.Println(*told[0].Left, *told[0].Right, err)
+	// Output:
+	// changed .replicas 1 12
+	// right .ports[1] 1 27
+	// !!int "3" !!int "5" <nil>
+}
+
+func ExampleLoad() {
+	values, err := yamlcanon.Load([]byte("{b: 0x10, a: [~, 1.50]}\n--- !color red\n"))
+	fmt.Println(values, err)
+	config := values[0].(map[string]any)
+	fmt.Println(config["b"].(int64)+1, config["a"].([]any)[1].(yamlcanon.Float))
+	// Output:
+	// [map[a:[<nil> 1.5] b:16] {!color red}] <nil>
+	// 17 1.5
+}
+
+func ExampleLoadOne() {
+	value, err := yamlcanon.LoadOne([]byte("{80: web, 443: tls}"))
+	for _, entry := range value.(yamlcanon.Map) {
+		fmt.Println(entry.Key, entry.Value)
+	}
+	fmt.Println(err)
+	// Output:
+	// 443 tls
+	// 80 web
+	// <nil>
+}
+
 func ExampleRefused() {
 	_, err := yamlcanon.Canonical([]byte("{1: a, 0x1: b}"))
 	var fault *yamlcanon.Refused

@@ -35,13 +35,14 @@ static int has_stack_for(size_t n)
     return lowest <= here && here < end && here - lowest >= BASE + LEVEL * (n < LEVELS ? n : LEVELS);
 }
 
-enum { SAME = YC_JSON + 1, SHA256 };
+enum { SAME = YC_JSON + 1, SHA256, DIFF, VALUES };
 
 struct work {
     int which;
     const uint8_t *left, *right;
-    size_t left_n, right_n, cap, memory;
+    size_t left_n, right_n, lines, cap, memory;
     uint8_t *out;
+    yamlcanon_rooms rooms;
     yc_answer answer;
 };
 
@@ -64,6 +65,12 @@ static void *call(void *at)
         break;
     case SAME:
         a->status = yamlcanon_same_within(w->left, w->left_n, w->right, w->right_n, &a->fault, w->memory);
+        break;
+    case DIFF:
+        a->status = yamlcanon_diff_within(w->left, w->left_n, w->right, w->right_n, w->lines, w->out, w->cap, &a->len, &a->fault, w->memory);
+        break;
+    case VALUES:
+        a->status = yamlcanon_values_within(w->left, w->left_n, &w->rooms, &a->lengths, &a->fault, w->memory);
         break;
     default:
         a->status = yamlcanon_sha256_within(w->left, w->left_n, w->out, &a->fault, w->memory);
@@ -100,6 +107,24 @@ yc_answer yc_same(const uint8_t *left, size_t left_n, const uint8_t *right, size
 {
     struct work w = {.which = SAME, .left = left, .left_n = left_n, .right = right, .right_n = right_n, .memory = memory};
     return made(&w, left_n > right_n ? left_n : right_n);
+}
+
+yc_answer yc_diff(const uint8_t *left, size_t left_n, const uint8_t *right, size_t right_n, size_t lines, uint8_t *out, size_t cap,
+                  size_t memory)
+{
+    struct work w = {.which = DIFF, .left = left, .left_n = left_n, .right = right, .right_n = right_n, .memory = memory};
+    w.lines = lines;
+    w.out = out;
+    w.cap = cap;
+    return made(&w, left_n > right_n ? left_n : right_n);
+}
+
+yc_answer yc_values(const uint8_t *input, size_t n, yamlcanon_value *values, size_t values_cap, uint32_t *parts, size_t parts_cap,
+                    uint8_t *texts, size_t texts_cap, size_t memory)
+{
+    struct work w = {.which = VALUES, .left = input, .left_n = n, .memory = memory};
+    w.rooms = (yamlcanon_rooms){values, values_cap, parts, parts_cap, texts, texts_cap};
+    return made(&w, n);
 }
 
 yc_answer yc_sha256(const uint8_t *input, size_t n, uint8_t *out, size_t memory)

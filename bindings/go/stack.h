@@ -10,12 +10,18 @@ enum { YC_CANONICAL, YC_EVENTS, YC_SHOW, YC_JSON };
 typedef struct {
     uint32_t status;
     size_t len;
+    yamlcanon_lengths lengths;
     yamlcanon_fault fault;
 } yc_answer;
 
 /* memory: as yamlcanon_budget takes it. */
 yc_answer yc_text(int which, const uint8_t *input, size_t n, uint8_t *out, size_t cap, size_t memory);
 yc_answer yc_same(const uint8_t *left, size_t left_n, const uint8_t *right, size_t right_n, size_t memory);
+yc_answer yc_diff(const uint8_t *left, size_t left_n, const uint8_t *right, size_t right_n, size_t lines, uint8_t *out, size_t cap,
+                  size_t memory);
+/* The rooms one by one, since Go hands C no pointer to pointers of its own. */
+yc_answer yc_values(const uint8_t *input, size_t n, yamlcanon_value *values, size_t values_cap, uint32_t *parts, size_t parts_cap,
+                    uint8_t *texts, size_t texts_cap, size_t memory);
 yc_answer yc_sha256(const uint8_t *input, size_t n, uint8_t *out, size_t memory);
 
 /* The message of a fault, and its position: of its fields those that are passed are read. */

@@ -29,11 +29,14 @@ func Version() int { return int(C.yamlcanon_version()) }
 // Release is the release of the library that is linked.
 func Release() string { return C.GoString(C.yamlcanon_release()) }
 
-// Limits has the calls under a limit. The zero value has none.
+// Limits has the calls under limits. The zero value has none but that of Load.
 type Limits struct {
 	// Memory is what a call may hold at once, in bytes, with 16 more for each block that it asks for. The answer is not counted. A
 	// call that needs more gives OutOfMemory.
 	Memory uintptr
+	// Nodes is how many nodes the values of Load may have together; 0 is 1,000,000 and two more for each byte of the input, which no
+	// input without aliases reaches.
+	Nodes uint64
 }
 
 // Canonical gives the canonical text of a stream. It is UTF-8, and empty for a stream without documents. Every error is a *Refused.

@@ -47,7 +47,7 @@ class Refused(ValueError):
         name            the error's name, as 'EqualKeys'
         place           a byte offset for 2 to 11, an event for 12 to 17, a document for 18, a node for 19; else 0
         first, second   the two entries of EqualKeys; else 0
-        side            'left' or 'right' if the call was `same`, else None
+        side            'left' or 'right' if the call was `same` or `diff`, else None
         line, column    of the byte offset, from 1; None if `place` is not a byte offset, or no call has raised this
 
     Two are equal if they have the same number, name, place, entries and side. It can be pickled, so a pool of processes hands it on.
@@ -61,7 +61,15 @@ class Refused(ValueError):
 
     __module__ = "yamlcanon"
 
-    def __init__(self, number: int, name: str, place: int = 0, first: int = 0, second: int = 0, side: Optional[str] = None) -> None:
+    def __init__(
+        self,
+        number: int,
+        name: str,
+        place: int = 0,
+        first: int = 0,
+        second: int = 0,
+        side: Optional[str] = None,
+    ) -> None:
         super().__init__(number, name, place, first, second, side)
         self.number, self.name, self.place = number, name, place
         self.first, self.second, self.side = first, second, side
@@ -88,5 +96,8 @@ class Refused(ValueError):
         return hash(self.args)
 
     def __str__(self) -> str:
-        told = message_of(self.number, self.place, self.first, self.second) or f"{self.number} {self.name}"
+        told = (
+            message_of(self.number, self.place, self.first, self.second)
+            or f"{self.number} {self.name}"
+        )
         return f"{self.side}: {told}" if self.side else told

@@ -15,6 +15,8 @@
 use std::ffi::{c_char, CStr};
 use std::{error, fmt, thread};
 
+mod differences;
+pub use differences::diff;
 mod json;
 pub use json::JsonError;
 mod values;

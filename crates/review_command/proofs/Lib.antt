@@ -1,2 +1,1 @@
 mod ReportLaws
-mod SideLaws

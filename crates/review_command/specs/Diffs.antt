@@ -5,16 +5,8 @@ use Rattle.yaml_canon.specs.Comparing.{Compares}
 use Rattle.yaml_text.specs.Writers.{Printed}
 use Rattle.review_patterns.specs.declared.pattern.Pattern.{Pattern}
 use Rattle.review_args.specs.declared.words.Diff.{Diff}
-use Rattle.review_text.specs.declared.both.Both.{Both}
-use Rattle.review_lines.specs.Compared.{TellsStreams}
+use Rattle.review_compare.specs.Compared.{DiffLines}
 use Rattle.review_command.specs.Named.{AreNamed}
-use Rattle.review_command.specs.Sides.{BothAre}
-
--- The text is the lines of the differences of two streams of these bytes, of as many as are asked for, but for those that are at or below a path that one of the patterns matches; and whether there are none.
-pub record DiffLines (left right : List ℕ) (asked : Diff) (ignored : List Pattern) (none : Bool) (text : List ℕ) : Type 0 where
-  pub both : Both
-  pub are : BothAre left right both
-  pub tells : TellsStreams both asked ignored none text
 
 -- The two files of these names are accepted, the lines of their differences were written and nothing else. The status is 0 if no difference is left, and else 1; without patterns it is 0 if their streams are the same, and else 1.
 pub record DiffTells {W : Type 0} (holds : List ℕ → Option (List ℕ)) (rest : Option (List ℕ)) (contents : W → Option (List ℕ)) (asked : Diff) (ignored : List Pattern) (old new : Counted W) (status : ℕ) : Type 0 where

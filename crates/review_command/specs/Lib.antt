@@ -2,5 +2,4 @@ pub mod Diffs
 pub mod Named
 pub mod Reports
 pub mod Runs
-pub mod Sides
 pub mod Statuses

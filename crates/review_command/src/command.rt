@@ -1,7 +1,6 @@
 //! The commands.
 ghost use Rattle.review_command.specs.Runs.{AsksSum, SumRuns, Does};
 
-use crate::both::fault_of;
 use crate::diff::{NoDiff, diff};
 use crate::folders::{are_folders, folders};
 use crate::git::{git_asked, git_text, put_page};
@@ -14,6 +13,7 @@ use crate::telling::{
 use crate::unread::Unread;
 use clap::Error;
 use review_args::{Asked, Sum, in_order, read_words};
+use review_compare::fault_of;
 use review_text::put_shown;
 use std::alloc::Global;
 use std::io::{Read, Write};

@@ -3,11 +3,11 @@ ghost use Rattle.std.specs.Prelude.{◌≡◌, ◌<◌, ◌-◌, ◌^◌, cond, 
 ghost use Rattle.yaml_text.specs.CountedModel.{faults_of};
 ghost use Rattle.review_command.specs.Diffs.{DiffTells};
 
-use crate::both::compare_sides;
 use crate::files::{NotBoth, read_both};
 use crate::rejected::{Named, put_not_compared, put_rejections};
 use crate::unread::Unread;
 use review_args::Diff;
+use review_compare::compare_sides;
 use review_patterns::Pattern;
 use std::alloc::Global;
 use std::io::{Read, Write};

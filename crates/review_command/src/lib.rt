@@ -2,7 +2,6 @@
 #![tactic(auto)]
 
 pub mod arguments;
-mod both;
 pub mod command;
 pub mod diff;
 mod files;

@@ -1,8 +1,8 @@
 //! Files that are not read, or are rejected.
-use crate::both::fault_of;
 use crate::telling::{put_fault_line, put_unread};
 use crate::unread::{Unread, fault_status};
 use review_args::Form;
+use review_compare::fault_of;
 use review_lines::put_fault;
 use std::alloc::Global;
 use yaml_canon::Side;

@@ -4,11 +4,11 @@ ghost use Rattle.yaml_text.specs.CountedModel.{faults_of};
 ghost use Rattle.review_lines.specs.FaultLines.{TellsFault};
 ghost use Rattle.review_command.specs.Reports.{Adds, TellsBytes, HasText, HasNoText, TellsFile, CutsFile, TellsFiles};
 
-use crate::both::fault_of;
 use crate::files::read_named;
 use crate::telling::{tell_bare, tell_unread};
 use crate::unread::{Unread, greater};
 use review_args::{Form, Report};
+use review_compare::fault_of;
 use review_lines::{put_fault, put_warnings};
 use std::alloc::Global;
 use std::io::{Read, Write};

@@ -7,3 +7,4 @@ pub mod Positions
 pub mod Digests
 pub mod Shown
 pub mod Values
+pub mod Diffs

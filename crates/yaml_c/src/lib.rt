@@ -6,6 +6,7 @@
 #![tactic(auto)]
 
 mod calls;
+mod diff;
 mod digest;
 mod fault;
 mod name;
@@ -20,6 +21,7 @@ pub use calls::{
     yaml_c_canonical, yaml_c_events, yaml_c_message, yaml_c_position, yaml_c_same, yaml_c_sha256,
     yamlcanon_form, yamlcanon_version,
 };
+pub use diff::yaml_c_diff;
 pub use fault::YamlcanonFault;
 pub use show::{yaml_c_json, yaml_c_show};
 pub use values::{Lengths, yaml_c_values};

@@ -34,6 +34,16 @@ pub fn put(text: &[u8], out: &mut [u8]) -> bool
     true
 }
 
+/// Puts a text into a caller's buffer if that is large enough, and reports its length.
+pub fn put_text(text: &[u8], out: &mut [u8], len: &mut usize) -> u32
+    ensures status { (result ≡ 0) ⊎ (result ≡ 3) }
+    ensures given { result ≡ 0 → IsGiven text.now out.old out.new len.new }
+    ensures short { result ≡ 3 → IsShort text.now out.old out.new len.new }
+{
+    *len = text.len();
+    if put(text, out) { DONE } else { SHORT }
+}
+
 /// Puts the message of a fault, which a null byte ends, into a caller's buffer.
 pub fn put_message(fault: Fault, out: &mut [u8], len: &mut usize) -> u32
     ensures status { (result ≡ 0) ⊎ (result ≡ 3) }

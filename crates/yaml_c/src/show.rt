@@ -1,28 +1,17 @@
 //! The readable texts of a stream, for programs in other languages.
-ghost use Rattle.std.specs.Prelude.{◌≡◌, ◌⊎◌, List, length};
+ghost use Rattle.std.specs.Prelude.{◌≡◌, ◌⊎◌, List};
 ghost use Rattle.yaml_definitions.specs.model.Tree.{Tree};
 ghost use Rattle.yaml_definitions.specs.model.Proper.{Admitted};
 ghost use Rattle.yaml_definitions.specs.model.Means.{Means};
-ghost use Rattle.yaml_c.specs.Room.{IsGiven, IsShort};
 ghost use Rattle.yaml_c.specs.Shown.{GivesShown, ShortShown, RefusesShown, IsLengthOrMemoryNumber};
 ghost use Rattle.yaml_c.specs.Shown.{GivesJson, ShortJson, WritesNothing};
 
 use crate::fault::{YamlcanonFault, refuse};
-use crate::room::put;
-use crate::status::{DONE, NO_JSON, SHORT, UNLIKE};
+use crate::room::put_text;
+use crate::status::{NO_JSON, UNLIKE};
 use std::alloc::Global;
 use yaml_canon::Side;
 use yaml_shown::{Unshown, show, show_json};
-
-/// Puts a text into a caller's buffer if that is large enough, and reports its length.
-fn put_text(text: &[u8], out: &mut [u8], len: &mut usize) -> u32
-    ensures status { (result ≡ 0) ⊎ (result ≡ 3) }
-    ensures given { result ≡ 0 → IsGiven text.now out.old out.new len.new }
-    ensures short { result ≡ 3 → IsShort text.now out.old out.new len.new }
-{
-    *len = text.len();
-    if put(text, out) { DONE } else { SHORT }
-}
 
 /// Puts the stream that these bytes are, as readable YAML that means the same, at the start of `out`, and its length into `len`.
 ///

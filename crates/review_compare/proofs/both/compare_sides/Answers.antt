@@ -1,5 +1,5 @@
-use Rattle.review_command.proofs.SideLaws.{compares}
-use Rattle.review_command.proofs.both.compare_sides.Goals as goal
+use Rattle.review_compare.proofs.SideLaws.{compares}
+use Rattle.review_compare.proofs.both.compare_sides.Goals as goal
 
 pub returns-in-Ok-clause-same : goal.returns-in-Ok-clause-same
 returns-in-Ok-clause-same c e =

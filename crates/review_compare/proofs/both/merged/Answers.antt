@@ -1,5 +1,5 @@
-use Rattle.review_command.proofs.SideLaws.{middle-within}
-use Rattle.review_command.proofs.both.merged.Goals as goal
+use Rattle.review_compare.proofs.SideLaws.{middle-within}
+use Rattle.review_compare.proofs.both.merged.Goals as goal
 
 pub invariant_of-result : goal.invariant_of-result
 invariant_of-result c =

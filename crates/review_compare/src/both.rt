@@ -8,8 +8,8 @@ ghost use Rattle.yaml_canon.specs.Accepting.{IsMemory};
 ghost use Rattle.yaml_canon.specs.Claims.{IsCanonicalText, CanonicalRefuses};
 ghost use Rattle.yaml_canon.specs.FaultPlaces.{TellsPlace};
 ghost use Rattle.yaml_canon.specs.Comparing.{Compares};
-ghost use Rattle.review_command.specs.Diffs.{DiffLines};
-ghost use Rattle.review_command.specs.Sides.{BothAre};
+ghost use Rattle.review_compare.specs.Compared.{DiffLines};
+ghost use Rattle.review_compare.specs.Sides.{BothAre};
 
 use review_args::Diff;
 use review_lines::{Compared, compare};
@@ -23,7 +23,7 @@ use yaml_rank::rank;
 use yaml_text::fault::Fault;
 
 /// The fault of a file that is rejected: that which `canonical` answers. The length of the canonical text is found, and no text made.
-pub(crate) fn fault_of(alloc: Global, bytes: &[u8]) -> Option<Fault>
+pub fn fault_of(alloc: Global, bytes: &[u8]) -> Option<Fault>
     ensures accepted { IfNone result ((text : List ℕ) × IsCanonicalText bytes.now text) }
     ensures rejected { IfSome result (CanonicalRefuses bytes.now) }
     ensures placed { IfSome result (TellsPlace bytes.now) }
@@ -101,7 +101,7 @@ fn traced_both<'t>(
 
 /// The lines of the differences of two streams, but for those that are at or below a path that one of the patterns matches, and whether
 /// there are none: without patterns this is so if the streams are the same. A fault names the side.
-pub(crate) fn compare_sides(
+pub fn compare_sides(
     alloc: Global,
     asked: &Diff<'_>,
     ignored: &[Pattern<'_>],

@@ -1,0 +1,2 @@
+mod SideLaws
+mod JsonLaws

@@ -1,0 +1,125 @@
+//! Two streams, and the lines of their differences as JSON, or why there are none.
+use review_compare::{Compared, diff_json};
+use std::process::Abort;
+use std::test::Fail;
+use yaml_canon::Side;
+use yaml_text::fault::Fault;
+
+/// Two streams, how many lines are asked for, and what is told of them.
+struct Row {
+    left: &'static str,
+    right: &'static str,
+    lines: usize,
+    told: &'static str,
+}
+
+/// Whether the streams are the same, and the lines; the side and the fault where there are none.
+fn shown<T: Abort + AllocGlobal>(
+    rt: &T,
+    told: Result<Compared, (Side, Fault)>,
+) -> Result<String, Fail> {
+    match told {
+        Ok(told) => {
+            let text = told.text.as_str();
+            let same = told.same;
+            Ok(format!(in rt.alloc(); "{same}\n{text}")?)
+        }
+        Err((Side::Left, fault)) => Ok(format!(in rt.alloc(); "left: {fault}")?),
+        Err((Side::Right, fault)) => Ok(format!(in rt.alloc(); "right: {fault}")?),
+    }
+}
+
+static ROWS: [Row; 12] = [
+    // two streams that mean the same have no line
+    Row {
+        left: "a: 0x3",
+        right: "{a: 3}",
+        lines: 1000,
+        told: "true\n",
+    },
+    Row {
+        left: "",
+        right: "# no document",
+        lines: 0,
+        told: "true\n",
+    },
+    // what is changed, what the left side has alone, and what the right one has
+    Row {
+        left: "a: 1\nb: [x]\n",
+        right: "a: 2\nc: ~\nb: []\n",
+        lines: 1000,
+        told: "false\n{\"kind\":\"changed\",\"left\":\"!!int \\\"1\\\"\",\"left_place\":{\"column\":4,\"line\":1},\"path\":\".a\",\"right\":\"!!int \\\"2\\\"\",\"right_place\":{\"column\":4,\"line\":1}}\n{\"kind\":\"left\",\"left\":\"\\\"x\\\"\",\"left_place\":{\"column\":5,\"line\":2},\"path\":\".b[0]\",\"right\":null,\"right_place\":null}\n{\"kind\":\"right\",\"left\":null,\"left_place\":null,\"path\":\".c\",\"right\":\"!!null \\\"null\\\"\",\"right_place\":{\"column\":4,\"line\":2}}\n",
+    },
+    // fewer lines than there are differences, as many, and none
+    Row {
+        left: "a: 1\nb: [x]\n",
+        right: "a: 2\nc: ~\nb: []\n",
+        lines: 1,
+        told: "false\n{\"kind\":\"changed\",\"left\":\"!!int \\\"1\\\"\",\"left_place\":{\"column\":4,\"line\":1},\"path\":\".a\",\"right\":\"!!int \\\"2\\\"\",\"right_place\":{\"column\":4,\"line\":1}}\n{\"kind\":\"more\"}\n",
+    },
+    Row {
+        left: "a: 1",
+        right: "a: 2",
+        lines: 1,
+        told: "false\n{\"kind\":\"changed\",\"left\":\"!!int \\\"1\\\"\",\"left_place\":{\"column\":4,\"line\":1},\"path\":\".a\",\"right\":\"!!int \\\"2\\\"\",\"right_place\":{\"column\":4,\"line\":1}}\n",
+    },
+    Row {
+        left: "a: 1",
+        right: "a: 2",
+        lines: 0,
+        told: "false\n",
+    },
+    // an empty node
+    Row {
+        left: "a:\nb: 1\n",
+        right: "a: 2\nb: 1\n",
+        lines: 1000,
+        told: "false\n{\"kind\":\"changed\",\"left\":\"!!null \\\"null\\\"\",\"left_place\":{\"column\":3,\"line\":1},\"path\":\".a\",\"right\":\"!!int \\\"2\\\"\",\"right_place\":{\"column\":4,\"line\":1}}\n",
+    },
+    // rejections: the left side is judged first, and equal keys behind all others
+    Row {
+        left: "a:\tb",
+        right: "[",
+        lines: 1000,
+        told: "left: 5 Tab at byte 2",
+    },
+    Row {
+        left: "a: b",
+        right: "a:\tb",
+        lines: 1000,
+        told: "right: 5 Tab at byte 2",
+    },
+    Row {
+        left: "{1: a, 0x1: b}",
+        right: "[",
+        lines: 1000,
+        told: "right: 4 Syntax at byte 1",
+    },
+    Row {
+        left: "a: b",
+        right: "- a\n- {1: a, 0x1: b}",
+        lines: 1000,
+        told: "right: 19 EqualKeys in node 5, entries 0 and 1",
+    },
+    Row {
+        left: "{1: a, 0x1: b}",
+        right: "{1: a, 0x1: b}",
+        lines: 0,
+        told: "left: 19 EqualKeys in node 4, entries 0 and 1",
+    },
+];
+
+#[test]
+fn streams_have_their_differences(rt: HostRuntime) -> Result<(), Fail> {
+    for row in &ROWS {
+        let told = diff_json(
+            rt.alloc(),
+            row.left.as_bytes(),
+            row.right.as_bytes(),
+            row.lines,
+        );
+        let found = shown(&rt, told)?;
+        assert_eq!(rt; found.as_str(), row.told, "{:?} {:?}", row.left, row.right);
+    }
+    Ok(())
+}

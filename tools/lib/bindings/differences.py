@@ -1,0 +1,71 @@
+"""differences.py: the differences that the library tells, held against what `yamlreview diff --format=json` prints.
+
+The pairs: each vector with the next one and with a changed one of itself, and so of made streams. The bytes are the same, the library says
+DIFFERENT where the program ends with 1, and it rejects a pair where the program ends with 2. Each pair is tried with a few lines, too.
+"""
+import concurrent.futures
+import os
+import random
+import subprocess
+
+from lib.form.lines import vectors
+from lib.form.made import stream
+from lib.paths import TOP
+from .base import changed, say, wrong
+
+MADE, SEED, LINES = 500, 2, (1000, 2)
+REVIEW = TOP + "/crates/yaml_review/out/yaml_review"
+
+
+def pairs():
+    """Two streams each."""
+    chance, inputs = random.Random(SEED), [vector.input for vector in vectors()]
+    for group in (inputs, [stream(seed) for seed in range(MADE)]):
+        yield from zip(group, group[1:] + group[:1])
+        yield from ((data, changed(data, chance)) for data in group if len(data) < 100_000)
+
+
+def own(left, right, lines):
+    """The status of the library and its text."""
+    import yamlcanon  # pylint: disable=import-outside-toplevel
+    from yamlcanon.differences import lines_of  # pylint: disable=import-outside-toplevel
+
+    text, _ = lines_of(left, right, lines, 0)
+    status = 2 if text is None else int(not yamlcanon.same(left, right))
+    return status, text or b""
+
+
+def its(room, number, left, right):
+    """The files of a pair, and the answers of the program for so many lines each."""
+    names = ["%s/%d.%s" % (room, number, side) for side in ("left", "right")]
+    for name, data in zip(names, (left, right)):
+        with open(name, "wb") as file:
+            file.write(data)
+    for lines in LINES:
+        done = subprocess.run([REVIEW, "diff", "--format=json", "--lines=%d" % lines, *names], capture_output=True, check=False)
+        yield lines, (done.returncode, done.stdout)
+    for name in names:
+        os.remove(name)
+
+
+def beside(room, number, left, right):
+    """Where the library tells otherwise of a pair than the program."""
+    for lines, wanted in its(room, number, left, right):
+        found = own(left, right, lines)
+        if found != wanted:
+            yield "differences of %.200r and %.200r: %.300r, and yamlreview %.300r" % (left, right, found, wanted)
+
+
+def try_differences(folder, room):
+    """The library in a folder over all pairs, if yamlreview is built."""
+    if not os.access(REVIEW, os.X_OK):
+        say("differences are left out, since yamlreview is not built")
+        return
+    os.environ["YAMLCANON_LIBRARY"] = folder + "/libyamlcanon.so.1"
+    os.mkdir(room)
+    rows = list(pairs())
+    with concurrent.futures.ThreadPoolExecutor(4) as pool:
+        for found in pool.map(lambda number: list(beside(room, number, *rows[number])), range(len(rows))):
+            for line in found:
+                wrong(line)
+    say("the differences of %d pairs are those of yamlreview" % len(rows))
