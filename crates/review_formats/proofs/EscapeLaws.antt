@@ -34,6 +34,9 @@ escaped_low Markdown c h = grind (arith, nat_tests, h)
 escaped_low Message c h = grind (arith, nat_tests, h)
 escaped_low Property c h = grind (arith, nat_tests, h)
 
+pub markup_low : (e : Escape) (c : ℕ) → is_markup e c ≡ true → c < 128
+markup_low e c h = escaped_low e c (ap (λ z. z || is_of_escape e c) h)
+
 either_not : (a b : Bool) → (a || b) ≡ false → a ≡ false
 either_not true b h = h
 either_not false b h = refl

@@ -1,1 +1,2 @@
 mod EscapeLaws
+mod PieceLaws

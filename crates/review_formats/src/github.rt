@@ -45,7 +45,10 @@ fn put_place(out: &mut String, place: Option<Place>) -> Result<(), Fault> {
 fn put_finding(out: &mut String, finding: &Finding) -> Result<(), Fault> {
     put_pieces(
         out,
-        &[Piece::Raw(command_of(finding.level)), property(&finding.file)],
+        &[
+            Piece::Raw(command_of(finding.level)),
+            property(&finding.file),
+        ],
     )?;
     put_place(out, finding.place)?;
     put_pieces(

@@ -211,7 +211,11 @@ fn put_finding(out: &mut String, number: usize, finding: &Finding) -> Result<(),
         Some(sides) => {
             put_pieces(
                 out,
-                &[Piece::Raw("<p>"), text(&finding.message), Piece::Raw("</p>\n")],
+                &[
+                    Piece::Raw("<p>"),
+                    text(&finding.message),
+                    Piece::Raw("</p>\n"),
+                ],
             )?;
             put_sides(out, sides)?;
         }

@@ -97,7 +97,14 @@ fn put_line(
             ],
         )?;
     }
-    put_pieces(out, &[Piece::Raw("<code>"), text(front(line)), Piece::Raw("</code>")])?;
+    put_pieces(
+        out,
+        &[
+            Piece::Raw("<code>"),
+            text(front(line)),
+            Piece::Raw("</code>"),
+        ],
+    )?;
     if mark > 0 {
         out.push_str("</a>")?;
     }

@@ -57,7 +57,12 @@ fn location(
         put(&mut physical, alloc, "region", region(alloc, place)?)?;
     }
     let mut location = Map::new(alloc);
-    put(&mut location, alloc, "physicalLocation", Value::Object(physical))?;
+    put(
+        &mut location,
+        alloc,
+        "physicalLocation",
+        Value::Object(physical),
+    )?;
     if let Some(path) = path {
         let logical = json!(in alloc; [{"fullyQualifiedName": (path.as_str())}])?;
         put(&mut location, alloc, "logicalLocations", logical)?;
@@ -107,9 +112,24 @@ fn rules_of(alloc: Global, list: &[Finding]) -> Result<Vec<Value>, Fault> {
 /// The program, with the rules of the results.
 fn tool_of(alloc: Global, list: &[Finding]) -> Result<Value, Fault> {
     let mut driver = Map::new(alloc);
-    put(&mut driver, alloc, "name", Value::try_from_str(alloc, "yamlreview")?)?;
-    put(&mut driver, alloc, "version", Value::try_from_str(alloc, VERSION)?)?;
-    put(&mut driver, alloc, "rules", Value::Array(rules_of(alloc, list)?))?;
+    put(
+        &mut driver,
+        alloc,
+        "name",
+        Value::try_from_str(alloc, "yamlreview")?,
+    )?;
+    put(
+        &mut driver,
+        alloc,
+        "version",
+        Value::try_from_str(alloc, VERSION)?,
+    )?;
+    put(
+        &mut driver,
+        alloc,
+        "rules",
+        Value::Array(rules_of(alloc, list)?),
+    )?;
     let mut tool = Map::new(alloc);
     put(&mut tool, alloc, "driver", Value::Object(driver))?;
     Ok(Value::Object(tool))
@@ -123,13 +143,28 @@ pub fn sarif_text(alloc: Global, found: &Findings) -> Result<String, Fault> {
     }
     let mut run = Map::new(alloc);
     put(&mut run, alloc, "tool", tool_of(alloc, &found.list)?)?;
-    put(&mut run, alloc, "columnKind", Value::try_from_str(alloc, "unicodeCodePoints")?)?;
+    put(
+        &mut run,
+        alloc,
+        "columnKind",
+        Value::try_from_str(alloc, "unicodeCodePoints")?,
+    )?;
     put(&mut run, alloc, "results", Value::Array(results))?;
     let mut runs = Vec::new(alloc);
     runs.push(Value::Object(run))?;
     let mut log = Map::new(alloc);
-    put(&mut log, alloc, "$schema", Value::try_from_str(alloc, SCHEMA)?)?;
-    put(&mut log, alloc, "version", Value::try_from_str(alloc, "2.1.0")?)?;
+    put(
+        &mut log,
+        alloc,
+        "$schema",
+        Value::try_from_str(alloc, SCHEMA)?,
+    )?;
+    put(
+        &mut log,
+        alloc,
+        "version",
+        Value::try_from_str(alloc, "2.1.0")?,
+    )?;
     put(&mut log, alloc, "runs", Value::Array(runs))?;
     let mut text = Value::Object(log).to_string(alloc)?;
     text.push('\n')?;
