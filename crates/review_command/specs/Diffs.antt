@@ -7,6 +7,8 @@ use Rattle.review_patterns.specs.declared.pattern.Pattern.{Pattern}
 use Rattle.review_args.specs.declared.words.Diff.{Diff}
 use Rattle.review_text.specs.declared.both.Both.{Both}
 use Rattle.review_lines.specs.Compared.{TellsStreams}
+use Rattle.review_lines.specs.Listed.{ListsStreams}
+use Rattle.review_lines.specs.declared.listed.Listed.{Listed}
 use Rattle.review_command.specs.Named.{AreNamed}
 use Rattle.review_command.specs.Sides.{BothAre}
 
@@ -26,4 +28,22 @@ pub record DiffTells {W : Type 0} (holds : List ℕ → Option (List ℕ)) (rest
   pub told : status ≡ cond answer 0 1
   pub text : List ℕ
   pub lines : DiffLines first second asked ignored answer text
+  pub printed : Printed contents old new text
+
+-- The list is the differences of two streams of these bytes, as `DiffLines` has them as text.
+pub record DiffLists (left right : List ℕ) (asked : Diff) (ignored : List Pattern) (listed : Listed) : Type 0 where
+  pub both : Both
+  pub are : BothAre left right both
+  pub lists : ListsStreams both asked ignored listed
+
+-- The same of a page: the two files of these names are accepted, their differences were listed, and some text was written. The status is that of `DiffTells`.
+pub record DiffShows {W : Type 0} (holds : List ℕ → Option (List ℕ)) (rest : Option (List ℕ)) (contents : W → Option (List ℕ)) (asked : Diff) (ignored : List Pattern) (old new : Counted W) (status : ℕ) : Type 0 where
+  pub first : List ℕ
+  pub second : List ℕ
+  pub named : AreNamed holds rest asked.left.now asked.right.now first second
+  pub listed : Listed
+  pub lists : DiffLists first second asked ignored listed
+  pub compares : ignored ≡ [] → Compares first second listed.same
+  pub told : status ≡ cond listed.same 0 1
+  pub text : List ℕ
   pub printed : Printed contents old new text
