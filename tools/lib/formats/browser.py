@@ -49,10 +49,20 @@ def browser_faults(program, text, width=360):
             file.write(text)
         with open(f"{room}/probe.html", "w", encoding="utf-8") as file:
             file.write(f'<!DOCTYPE html><iframe src="page.html" style="width:{width}px;height:800px;border:0"></iframe>{PROBE}')
-        ran = started(program, room, "--allow-file-access-from-files", "--virtual-time-budget=3000", "--dump-dom", f"file://{room}/probe.html")
+        ran = started(
+            program, room, "--allow-file-access-from-files", "--virtual-time-budget=3000", "--dump-dom", f"file://{room}/probe.html"
+        )
         faults = seen_faults(ran.stdout, width)
         log = f"{room}/network.json"
-        ran = started(program, room, "--enable-logging=stderr", f"--log-net-log={log}", "--virtual-time-budget=3000", "--dump-dom", f"file://{room}/page.html")
+        ran = started(
+            program,
+            room,
+            "--enable-logging=stderr",
+            f"--log-net-log={log}",
+            "--virtual-time-budget=3000",
+            "--dump-dom",
+            f"file://{room}/page.html",
+        )
         faults += [f"the console has {line}" for line in ran.stderr.split("\n") if "CONSOLE" in line]
         if os.path.exists(log):
             faults += [f"the page asks for {one}" for one in requests(log) if "google" not in one]

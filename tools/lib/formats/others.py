@@ -4,9 +4,7 @@ import re
 import urllib.parse
 
 LEVELS = {"error", "warning", "note"}
-COMMAND = re.compile(
-    r"::(error|warning|notice) file=([^,:\r\n]+)(?:,line=([1-9][0-9]*),col=([1-9][0-9]*))?,title=[^,:\r\n]+::([^\r\n]*)"
-)
+COMMAND = re.compile(r"::(error|warning|notice) file=([^,:\r\n]+)(?:,line=([1-9][0-9]*),col=([1-9][0-9]*))?,title=[^,:\r\n]+::([^\r\n]*)")
 REFERENCE = re.compile(r"&#x([0-9A-F]{2});")
 # What a table has of its own, outside of escaped texts.
 MARKUP = re.compile(

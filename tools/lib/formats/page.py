@@ -2,9 +2,7 @@
 import html.parser
 
 # The elements that `yamlreview` writes, and those of them that have no end.
-ELEMENTS = set(
-    "html head meta title style body header h1 h2 h3 p code nav ol li a span main section div pre strong".split()
-)
+ELEMENTS = set("html head meta title style body header h1 h2 h3 p code nav ol li a span main section div pre strong".split())
 EMPTY = {"meta"}
 ATTRIBUTES = set("lang charset name content http-equiv aria-label class href id value title".split())
 
