@@ -57,7 +57,13 @@ class Formats(unittest.TestCase):
     def test_commands(self):
         self.assertEqual(github_faults(COMMAND, 1, ["a,.yaml"]), [])
         self.assertEqual(github_faults("", 0, []), [])
-        for text in (COMMAND + "::error::x\n", COMMAND.replace("%0A", "\n"), COMMAND.replace("%2C", ","), COMMAND[:-1], COMMAND.replace("notice", "set-env")):
+        for text in (
+            COMMAND + "::error::x\n",
+            COMMAND.replace("%0A", "\n"),
+            COMMAND.replace("%2C", ","),
+            COMMAND[:-1],
+            COMMAND.replace("notice", "set-env"),
+        ):
             with self.subTest(text):
                 self.assertNotEqual(github_faults(text, 1, ["a,.yaml"]), [])
 
