@@ -156,12 +156,10 @@ fn file_list<S: Shelf, R: Read, E: Write>(
 }
 
 /// Adds what is found in a file to a list.
-fn add(list: &mut Vec<Finding>, more: Vec<Finding>) -> Result<(), Fault>
+fn add(list: &mut Vec<Finding>, mut more: Vec<Finding>) -> Result<(), Fault>
     ensures { OnOk result (list.new.items ≡ list.old.items ++ more.items) }
 {
-    for finding in more {
-        list.push(finding)?;
-    }
+    list.append(&mut more)?;
     Ok(())
 }
 

@@ -1,6 +1,6 @@
 //! Commands of GitHub's workflows.
 use crate::escape::Escape;
-use crate::finding::{Finding, Findings, Level};
+use crate::finding::{Finding, Findings, Level, text_of};
 use crate::piece::{Piece, put_pieces};
 use std::alloc::Global;
 use yaml_place::Place;
@@ -59,7 +59,7 @@ fn put_finding(out: &mut String, finding: &Finding) -> Result<(), Fault> {
             Piece::Raw("::"),
         ],
     )?;
-    if let Some(path) = &finding.path {
+    if let Some(path) = text_of(&finding.path) {
         put_pieces(out, &[message(path), Piece::Raw(": ")])?;
     }
     put_pieces(out, &[message(&finding.message), Piece::Raw("\n")])

@@ -6,14 +6,6 @@ use std::alloc::Global;
 use yaml_place::Place;
 use yaml_text::fault::Fault;
 
-/// What of a file's name is escaped in a URI.
-const ESCAPED: AsciiSet = NON_ALPHANUMERIC
-    .remove(b'/')
-    .remove(b'-')
-    .remove(b'.')
-    .remove(b'_')
-    .remove(b'~');
-
 const SCHEMA: &str = "https://json.schemastore.org/sarif-2.1.0.json";
 
 /// The version of the program.
@@ -28,10 +20,20 @@ fn level_word(level: Level) -> &'static str {
     }
 }
 
+/// What of a file's name is escaped in a URI.
+fn escaped() -> AsciiSet {
+    NON_ALPHANUMERIC
+        .remove(b'/')
+        .remove(b'-')
+        .remove(b'.')
+        .remove(b'_')
+        .remove(b'~')
+}
+
 /// The URI of a file, relative to where the program runs.
 fn uri_of(alloc: Global, name: &str) -> Result<String, Fault> {
     let mut uri = String::new(alloc);
-    utf8_percent_encode(name, ESCAPED).append_to(&mut uri)?;
+    utf8_percent_encode(name, escaped()).append_to(&mut uri)?;
     Ok(uri)
 }
 
