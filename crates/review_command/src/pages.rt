@@ -204,7 +204,7 @@ fn put_page<W: Write, E: Write>(
 }
 
 /// What a command found, of which all is listed.
-fn findings(kind: Kind<'_>, list: Vec<Finding>) -> Findings {
+fn as_found(kind: Kind<'_>, list: Vec<Finding>) -> Findings {
     Findings {
         command: match kind {
             Kind::Faults => "faults",
@@ -232,7 +232,7 @@ pub(crate) fn pages<S: Shelf, R: Read, W: Write, E: Write>(
     let (kind, page) = told;
     match files_list(shelf, alloc, kind, &asked.files, input, err) {
         Ok((list, status)) => {
-            let text = page_text(alloc, page, &findings(kind, list), None);
+            let text = page_text(alloc, page, &as_found(kind, list), None);
             put_page(text, status, out, err)
         }
         Err(fault) => tell_bare(fault, err),

@@ -96,7 +96,7 @@ fn put_changes(out: &mut String, finding: &Finding) -> Result<(), Fault> {
     out.push_str("\n<details><summary>")?;
     put_code(out, text_of(&finding.path).unwrap_or("."))?;
     out.push_str("</summary>\n\n<pre>\n")?;
-    for line in changes.split('\n') {
+    for line in changes.strip_suffix('\n').unwrap_or(changes).split('\n') {
         put_pieces(
             out,
             &[

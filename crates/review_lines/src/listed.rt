@@ -28,7 +28,7 @@ pub struct Listed {
 }
 
 /// The lines of differences that were found, with their places where both sides are given with their traces.
-fn listed(
+fn lines_listed(
     alloc: Global,
     both: &Both<'_>,
     asked: &Diff<'_>,
@@ -68,5 +68,5 @@ pub fn list_differences(
     let room = room_for(asked.lines);
     let found = list_of(alloc, both, search_room(ignored, room))?;
     let kept = kept(alloc, both, ignored, found, room)?;
-    listed(alloc, both, asked, sides, &kept)
+    lines_listed(alloc, both, asked, sides, &kept)
 }
