@@ -169,19 +169,18 @@ fn put_changes(out: &mut String, changes: &str) -> Result<(), Fault> {
 
 /// Writes what both sides have.
 fn put_sides(out: &mut String, sides: &Sides) -> Result<(), Fault> {
-    if let Some(changes) = &sides.changes {
-        out.push_str("<p>")?;
+    put_pieces(out, &[Piece::Raw("<p>"), Piece::Raw(sides.sign.says())])?;
+    if sides.changes.is_some() || sides.sign == Sign::Moved {
+        out.push_str(": left")?;
         put_place(out, "l", sides.left_place)?;
+        out.push_str(", right")?;
         put_place(out, "r", sides.right_place)?;
-        out.push_str("</p>")?;
+    }
+    out.push_str("</p>\n")?;
+    if let Some(changes) = &sides.changes {
         return put_changes(out, changes);
     }
     if sides.sign == Sign::Moved {
-        out.push_str("<p>")?;
-        put_place(out, "l", sides.left_place)?;
-        out.push_str(" →")?;
-        put_place(out, "r", sides.right_place)?;
-        out.push_str("</p>\n")?;
         return Ok(());
     }
     out.push_str("<div class=\"both\">\n")?;
@@ -208,17 +207,7 @@ fn put_finding(out: &mut String, number: usize, finding: &Finding) -> Result<(),
     put_name(out, finding)?;
     out.push_str("</a></h2>\n")?;
     match &finding.sides {
-        Some(sides) => {
-            put_pieces(
-                out,
-                &[
-                    Piece::Raw("<p>"),
-                    text(&finding.message),
-                    Piece::Raw("</p>\n"),
-                ],
-            )?;
-            put_sides(out, sides)?;
-        }
+        Some(sides) => put_sides(out, sides)?,
         None => put_said(out, finding)?,
     }
     out.push_str("</section>\n")?;

@@ -26,8 +26,8 @@ fn put_code(out: &mut String, code: &str) -> Result<(), Fault> {
 
 /// Writes a cell with code, if there is any.
 fn put_cell(out: &mut String, code: Option<&str>) -> Result<(), Fault> {
-    out.push_str(" ")?;
     if let Some(code) = code {
+        out.push_str(" ")?;
         put_code(out, code)?;
     }
     out.push_str(" |")?;

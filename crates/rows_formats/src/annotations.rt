@@ -33,7 +33,7 @@ static ROWS: [Row; 7] = [
         left: b"",
         right: b"a: 1\na: 2\n",
         status: 2,
-        out: "::error file=<b>`|%2C%3A%25,line=2,col=1,title=yamlreview EqualKeys::.: the same key as in entry 0\n",
+        out: "::error file=<b>`|%2C%3A%25,line=2,col=1,title=yamlreview EqualKeys::0.a: the keys of a mapping differ, each from each\n",
     },
     Row {
         name: "a content with the signs of a command",
