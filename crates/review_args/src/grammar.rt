@@ -26,6 +26,10 @@ enum Takes {
     OneOf(&'static str, &'static [&'static str; 2]),
     /// The same, of which the default depends on other arguments.
     Most,
+    /// The form of what is found, of which the first one is taken if none is given.
+    Form,
+    /// Words of a file, one with each use.
+    Spelled,
     /// A list of files, in place of files.
     Names,
     /// A list of digests, in place of files and of a list of them.
@@ -97,8 +101,18 @@ const DIFF: [Row; 11] = [
 
 const FAULTS: [Row; 2] = [FILES, FORM];
 
-const WARN: [Row; 3] = [
+const WARN: [Row; 5] = [
     FILES,
+    Row {
+        id: "strict",
+        takes: Takes::Flag,
+        help: "End with status 1 if there is a warning",
+    },
+    Row {
+        id: "allow",
+        takes: Takes::Spelled,
+        help: "Do not warn of the plain scalar WORD, as `on`; repeatable",
+    },
     Row {
         id: "lines",
         takes: Takes::Lines,
@@ -107,8 +121,13 @@ const WARN: [Row; 3] = [
     FORM,
 ];
 
-const SHOW: [Row; 3] = [
+const SHOW: [Row; 4] = [
     FILES,
+    Row {
+        id: "check",
+        takes: Takes::Flag,
+        help: "Write nothing but the name of each file that is not as `show` writes it, with status 1",
+    },
     Row {
         id: "format",
         takes: Takes::OneOf("FORMAT", &FORMATS),
@@ -149,11 +168,11 @@ const FILES: Row = Row {
 
 const FORM: Row = Row {
     id: "format",
-    takes: Takes::OneOf("FORM", &FORMS),
-    help: "Lines of text, or one JSON object a line",
+    takes: Takes::Form,
+    help: "Lines of text, one JSON object a line, a page, a table, SARIF 2.1.0, or GitHub's annotations",
 };
 
-const FORMS: [&str; 2] = ["line", "json"];
+const FORMS: [&str; 6] = ["line", "json", "html", "markdown", "sarif", "github"];
 
 const FORMATS: [&str; 2] = ["yaml", "json"];
 
@@ -194,6 +213,17 @@ fn arg_of<'a>(alloc: Global, row: &Row) -> Result<Arg<'a>, AllocError> {
             arg.long(row.id)
                 .value_name("PATH")
                 .action(ArgAction::Append),
+        ),
+        Takes::Spelled => Ok(
+            arg.long(row.id)
+                .value_name("WORD")
+                .action(ArgAction::Append),
+        ),
+        Takes::Form => Ok(
+            arg.long(row.id)
+                .value_name("FORM")
+                .value_parser(FORMS.as_slice())
+                .default_value(FORMS[0]),
         ),
         Takes::OneOf(name, words) => Ok(
             arg.long(row.id)
@@ -237,12 +267,14 @@ const FAULTS_STATUSES: &str = "Exit status (of several files the greatest):
   3  the words, a file or a stream cannot be used";
 
 const WARN_STATUSES: &str = "Exit status (of several files the greatest):
-  0  no file is rejected, whether or not there are warnings
+  0  no file is rejected, and with --strict there is no warning
+  1  with --strict: there is a warning
   2  a file is rejected
   3  the words, a file or a stream cannot be used";
 
 const SHOW_STATUSES: &str = "Exit status (of several files the greatest):
-  0  each file is shown; with --textconv also if one is rejected
+  0  each file is shown, or with --check as `show` writes it; with --textconv also if one is rejected
+  1  with --check: a file is not as `show` writes it
   2  a file is rejected, or JSON cannot express it
   3  the words, a file or a stream cannot be used";
 

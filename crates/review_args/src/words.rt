@@ -25,6 +25,19 @@ pub enum Form {
     Json,
 }
 
+/// In which form all that is found is written as a whole.
+#[derive(Clone, Copy, Debug, PartialEq, Eq)]
+pub enum Page {
+    /// One page, which asks for nothing else.
+    Html,
+    /// A table.
+    Markdown,
+    /// SARIF 2.1.0.
+    Sarif,
+    /// A command of GitHub's workflows for each place.
+    Github,
+}
+
 /// Where two files differ.
 #[derive(Clone, Copy)]
 pub struct Diff<'a> {
@@ -54,6 +67,17 @@ pub struct Report<'a> {
     pub form: Form,
 }
 
+/// Which warnings are told, and what they mean for the status.
+#[derive(Drop)]
+pub struct Warn<'a> {
+    /// The greatest number of lines a file.
+    pub lines: usize,
+    /// Whether a file with a warning has the status 1.
+    pub is_strict: bool,
+    /// Plain words that are not warned of.
+    pub allowed: Vec<&'a str>,
+}
+
 /// How `show` writes a stream.
 #[derive(Clone, Copy, Debug, PartialEq, Eq)]
 pub enum Format {
@@ -70,6 +94,8 @@ pub struct Show<'a> {
     pub format: Format,
     /// Whether a rejected file is written as it is.
     pub textconv: bool,
+    /// Whether files are compared with what would be written, and nothing is.
+    pub is_check: bool,
 }
 
 /// Digests of files.
@@ -87,9 +113,11 @@ pub struct Sum<'a> {
 pub enum Asked<'a> {
     /// With the paths whose differences are left out.
     Diff(Diff<'a>, Vec<Pattern<'a>>),
+    DiffPage(Page, Diff<'a>, Vec<Pattern<'a>>),
     Faults(Report<'a>),
-    /// With the greatest number of lines a file.
-    Warn(Report<'a>, usize),
+    FaultsPage(Page, Report<'a>),
+    Warn(Report<'a>, Warn<'a>),
+    WarnPage(Page, Report<'a>, Warn<'a>),
     Show(Show<'a>),
     Sum(Sum<'a>),
     /// What `GIT_EXTERNAL_DIFF` passes.
@@ -100,6 +128,17 @@ fn form_of(matches: &ArgMatches<'_>) -> Form {
     match matches.get_str("format") {
         Some("json") => Form::Json,
         _ => Form::Line,
+    }
+}
+
+/// The form in which all that is found is written as a whole, if one is asked for.
+fn page_of(matches: &ArgMatches<'_>) -> Option<Page> {
+    match matches.get_str("format") {
+        Some("html") => Some(Page::Html),
+        Some("markdown") => Some(Page::Markdown),
+        Some("sarif") => Some(Page::Sarif),
+        Some("github") => Some(Page::Github),
+        _ => None,
     }
 }
 
@@ -169,6 +208,14 @@ fn report_of<'a>(alloc: Global, matches: &ArgMatches<'a>) -> Result<Report<'a>, 
     })
 }
 
+fn warn_of<'a>(alloc: Global, matches: &ArgMatches<'a>) -> Result<Warn<'a>, AllocError> {
+    Ok(Warn {
+        lines: lines_of(matches),
+        is_strict: matches.get_flag("strict"),
+        allowed: names(alloc, matches, "allow")?,
+    })
+}
+
 fn diff_of<'a>(matches: &ArgMatches<'a>, is_terminal: bool) -> Diff<'a> {
     Diff {
         left: matches.get_str("A").unwrap_or("-"),
@@ -191,6 +238,7 @@ fn show_of<'a>(alloc: Global, matches: &ArgMatches<'a>) -> Result<Show<'a>, Allo
             _ => Format::Yaml,
         },
         textconv: matches.get_flag("textconv"),
+        is_check: matches.get_flag("check"),
     })
 }
 
@@ -213,6 +261,43 @@ fn ignored_of<'a>(alloc: Global, matches: &ArgMatches<'a>) -> Result<Vec<Pattern
     Ok(list)
 }
 
+/// What is wrong with `--stat` beside the form of a page.
+const NO_STAT: &str = "--stat is for --format=line and --format=json: a page has the numbers itself";
+
+/// What the words of `diff` ask for.
+fn diff_asked<'a>(
+    alloc: Global,
+    inner: &ArgMatches<'a>,
+    is_terminal: bool,
+) -> Result<Asked<'a>, Error> {
+    let ignored = ignored_of(alloc, inner)?;
+    let diff = diff_of(inner, is_terminal);
+    match page_of(inner) {
+        None => Ok(Asked::Diff(diff, ignored)),
+        Some(_) if diff.stat => Err(grammar(alloc)?.error(ErrorKind::ArgumentConflict, NO_STAT)?),
+        Some(page) => Ok(Asked::DiffPage(page, diff, ignored)),
+    }
+}
+
+/// What the words of `faults` ask for.
+fn faults_asked<'a>(alloc: Global, inner: &ArgMatches<'a>) -> Result<Asked<'a>, AllocError> {
+    let report = report_of(alloc, inner)?;
+    match page_of(inner) {
+        None => Ok(Asked::Faults(report)),
+        Some(page) => Ok(Asked::FaultsPage(page, report)),
+    }
+}
+
+/// What the words of `warn` ask for.
+fn warn_asked<'a>(alloc: Global, inner: &ArgMatches<'a>) -> Result<Asked<'a>, AllocError> {
+    let report = report_of(alloc, inner)?;
+    let warn = warn_of(alloc, inner)?;
+    match page_of(inner) {
+        None => Ok(Asked::Warn(report, warn)),
+        Some(page) => Ok(Asked::WarnPage(page, report, warn)),
+    }
+}
+
 /// What the words of this command ask for.
 fn asked_of<'a>(
     alloc: Global,
@@ -221,8 +306,8 @@ fn asked_of<'a>(
     is_terminal: bool,
 ) -> Result<Asked<'a>, Error> {
     match name {
-        "faults" => Ok(Asked::Faults(report_of(alloc, inner)?)),
-        "warn" => Ok(Asked::Warn(report_of(alloc, inner)?, lines_of(inner))),
+        "faults" => Ok(faults_asked(alloc, inner)?),
+        "warn" => Ok(warn_asked(alloc, inner)?),
         "show" => Ok(Asked::Show(show_of(alloc, inner)?)),
         "sum" => Ok(Asked::Sum(Sum {
             files: files_of(alloc, inner)?,
@@ -230,10 +315,7 @@ fn asked_of<'a>(
             check: inner.get_str("check"),
         })),
         "git" => Ok(Asked::Git(names(alloc, inner, "WORD")?)),
-        _ => {
-            let ignored = ignored_of(alloc, inner)?;
-            Ok(Asked::Diff(diff_of(inner, is_terminal), ignored))
-        }
+        _ => diff_asked(alloc, inner, is_terminal),
     }
 }
 

@@ -1,1 +1,2 @@
+mod PageLaws
 mod ReportLaws

@@ -1,5 +1,6 @@
 pub mod Diffs
 pub mod Named
+pub mod Pages
 pub mod Reports
 pub mod Runs
 pub mod Statuses

@@ -1,5 +1,5 @@
 -- What `faults` and `warn` tell of files.
-use Rattle.std.specs.Prelude.{◌≡◌, ◌⊎◌, ℕ, max, List, [], ◌∷◌, Option, codes}
+use Rattle.std.specs.Prelude.{◌≡◌, ◌⊎◌, ◌==◌, ◌&&◌, ℕ, max, not, cond, List, [], ◌∷◌, length, Option, codes}
 use Rattle.yaml_definitions.specs.model.Limits.{text_limit}
 use Rattle.yaml_text.specs.declared.fault.Fault.{Fault}
 use Rattle.yaml_text.specs.declared.fault.Fault.TheVariants.{TooLong, WriteFault}
@@ -9,6 +9,7 @@ use Rattle.yaml_command.specs.Shelves.{FileFails}
 use Rattle.yaml_canon.specs.Claims.{IsCanonicalText, CanonicalRefuses}
 use Rattle.yaml_canon.specs.FaultPlaces.{TellsPlace}
 use Rattle.review_args.specs.declared.words.Form.{Form}
+use Rattle.review_args.specs.declared.words.Warn.{Warn}
 use Rattle.review_lines.specs.FaultLines.{TellsFault}
 use Rattle.review_command.specs.Named.{IsNamed, IsUnread}
 use Rattle.review_command.specs.Statuses.{unread_status}
@@ -19,10 +20,14 @@ use Rattle.review_command.specs.declared.reports.Kind.TheVariants.{Faults, Warni
 
 -- ---- the bytes of a file
 
--- `faults` prints nothing of a file that is accepted; what `warn` prints of it is not said
-abbrev pub Adds : Kind → List ℕ → Type 0
-Adds Faults text = text ≡ []
-Adds (Warnings room) text = Unit {0}
+-- What `warn` prints of a file that is accepted is not said, but that it is nothing where no line is asked for. With `--strict` the status is 1 if there is a line that is or would be printed.
+abbrev pub AddsWarnings : Warn → List ℕ → ℕ → Type 0
+AddsWarnings w text status = (all : List ℕ) × (text ≡ cond (w.lines == 0) [] all) × (status ≡ cond (w.is_strict && not (length all == 0)) 1 0)
+
+-- `faults` prints nothing of it, with the status 0
+abbrev pub Adds : Kind → List ℕ → ℕ → Type 0
+Adds Faults text status = (text ≡ []) × (status ≡ 0)
+Adds (Warnings w) text status = AddsWarnings w.now text status
 
 -- `canonical` answers a text
 abbrev pub IsAccepted : List ℕ → Type 0
@@ -32,9 +37,9 @@ IsAccepted bytes = (text : List ℕ) × IsCanonicalText bytes text
 abbrev pub TellsRefusal : Form → List ℕ → List ℕ → List ℕ → Type 0
 TellsRefusal form name bytes text = (fault : Fault) × CanonicalRefuses bytes fault × TellsPlace bytes fault × TellsFault form name bytes fault text
 
--- The status is 0 for bytes that are accepted, and 2 for others.
+-- The status is 2 for bytes that are not accepted.
 abbrev pub TellsBytes : Kind → Form → List ℕ → List ℕ → List ℕ → ℕ → Type 0
-TellsBytes kind form name bytes text status = (IsAccepted bytes × Adds kind text × (status ≡ 0)) ⊎ (TellsRefusal form name bytes text × (status ≡ 2))
+TellsBytes kind form name bytes text status = (IsAccepted bytes × Adds kind text status) ⊎ (TellsRefusal form name bytes text × (status ≡ 2))
 
 -- why the input is not read: it is not read whole
 abbrev pub InputFails : Option (List ℕ) → Unread → Type 0
@@ -82,7 +87,7 @@ module _ {R : Type 0} (holds : List ℕ → Option (List ℕ)) (remaining : R �
       pub broke : Broken contents out end text
       pub is : fault ≡ WriteFault
 
-    -- The same of files in turn. The status is the greatest of all, or 3 where the output fails. So it is 0 exactly if each file is read and accepted.
+    -- The same of files in turn. The status is the greatest of all, or 3 where the output fails. So it is 0 exactly if each file is read and accepted, and with `--strict` has no warning.
     abbrev pub TellsFiles : Kind → Form → List (List ℕ) → R → R → Counted W → Counted W → ℕ → Type 0
     TellsFiles kind form [] old new out end status = (new ≡ old) × (end ≡ out) × (status ≡ 0)
     TellsFiles kind form (name ∷ names) old new out end status =

@@ -6,9 +6,11 @@ use Rattle.review_args.specs.declared.words.Asked.{Asked}
 use Rattle.review_args.specs.declared.words.Asked.TheVariants as asks
 use Rattle.review_args.specs.declared.words.Report.{Report}
 use Rattle.review_args.specs.declared.words.Sum.{Sum}
+use Rattle.review_args.specs.declared.words.Warn.{Warn}
 use Rattle.yaml_sum.specs.Asks.{SumTells}
 use Rattle.yaml_sum.specs.declared.asked.Asked.{Asked as SumAsked}
 use Rattle.yaml_sum.specs.declared.asked.Asked.TheVariants.{Files, FilesFrom, Check}
+use Rattle.review_command.specs.Pages.{TellsPage}
 use Rattle.review_command.specs.Reports.{TellsFiles}
 use Rattle.review_command.specs.declared.reports.Kind.{Kind}
 use Rattle.review_command.specs.declared.reports.Kind.TheVariants.{Faults, Warnings}
@@ -18,6 +20,11 @@ abbrev pub AsksSum : Sum → SumAsked → Type 0
 AsksSum asked (Check list) = asked.check ≡ Some list
 AsksSum asked (FilesFrom list) = (asked.check ≡ None) × (asked.files_from ≡ Some list)
 AsksSum asked (Files words) = (asked.check ≡ None) × (asked.files_from ≡ None) × (words.now ≡ asked.files.items)
+
+-- which warnings are asked for
+abbrev pub AsksWarnings : Warn → Kind → Type 0
+AsksWarnings warn Faults = ⊥
+AsksWarnings warn (Warnings w) = w.now ≡ warn
 
 module _ {R W E : Type 0} (holds : List ℕ → Option (List ℕ)) (remaining : R → Option (List ℕ)) (contents : W → Option (List ℕ)) (told : E → Option (List ℕ)) where
   -- what is told of files, by some state of the reader and of the writer, no call of which had failed
@@ -29,6 +36,15 @@ module _ {R W E : Type 0} (holds : List ℕ → Option (List ℕ)) (remaining : 
     pub no_write : faults_of old ≡ 0
     pub tells : TellsFiles holds remaining contents kind asked.form (map (λ s. s.now) asked.files.items) input end old new status
 
+  -- the same of a page
+  pub record PagesTell (kind : Kind) (asked : Report) (input : R) (out : W) (status : ℕ) : Type 0 where
+    pub end : R
+    pub old : Counted W
+    pub new : Counted W
+    pub writer : inner_of old ≡ out
+    pub no_write : faults_of old ≡ 0
+    pub tells : TellsPage holds remaining contents kind (map (λ s. s.now) asked.files.items) input end old new status
+
   -- sums are made or checked, or the list's name is not UTF-8
   abbrev pub SumRuns : SumAsked → R → W → E → ℕ → Type 0
   SumRuns asked input out err status = SumTells holds remaining contents told asked input out err status ⊎ (status ≡ 3)
@@ -36,6 +52,8 @@ module _ {R W E : Type 0} (holds : List ℕ → Option (List ℕ)) (remaining : 
   -- What `faults`, `warn` and `sum` do; of the other commands nothing is said here.
   abbrev pub Does : Asked → R → W → E → ℕ → Type 0
   Does (asks.Faults asked) input out err status = ReportsTell Faults asked input out status
-  Does (asks.Warn asked room) input out err status = ReportsTell (Warnings room) asked input out status
+  Does (asks.Warn asked warn) input out err status = (kind : Kind) × AsksWarnings warn kind × ReportsTell kind asked input out status
+  Does (asks.FaultsPage page asked) input out err status = PagesTell Faults asked input out status
+  Does (asks.WarnPage page asked warn) input out err status = (kind : Kind) × AsksWarnings warn kind × PagesTell kind asked input out status
   Does (asks.Sum asked) input out err status = (is : SumAsked) × AsksSum asked is × SumRuns is input out err status
   Does _ input out err status = Unit {0}

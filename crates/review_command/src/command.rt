@@ -1,10 +1,11 @@
 //! The commands.
 ghost use Rattle.review_command.specs.Runs.{AsksSum, SumRuns, Does};
 
-use crate::diff::{NoDiff, diff};
+use crate::diff::{NoDiff, diff, diff_page};
 use crate::folders::{are_folders, folders};
 use crate::git::{git_asked, git_text, put_page};
 use crate::host::Host;
+use crate::pages::pages;
 use crate::reports::{Kind, reports};
 use crate::show::show_files;
 use crate::telling::{
@@ -86,6 +87,27 @@ fn run<S: Shelf, R: Read + Drop, W: Write + Drop, E: Write + Drop>(
             );
             diff_status(answer, &mut err)
         }
+        Asked::DiffPage(page, asked, ignored) => {
+            let answer = diff_page(
+                shelf,
+                alloc,
+                (&asked, page),
+                &ignored,
+                &mut input,
+                &mut Counted::new(&mut out),
+            );
+            diff_status(answer, &mut err)
+        }
+        Asked::FaultsPage(page, asked) => {
+            let mut out = Counted::new(out);
+            let told = (Kind::Faults, page);
+            pages(shelf, alloc, told, &asked, &mut input, &mut out, &mut err)
+        }
+        Asked::WarnPage(page, asked, warn) => {
+            let mut out = Counted::new(out);
+            let told = (Kind::Warnings(&warn), page);
+            pages(shelf, alloc, told, &asked, &mut input, &mut out, &mut err)
+        }
         Asked::Faults(asked) => {
             let mut out = Counted::new(out);
             reports(
@@ -98,12 +120,12 @@ fn run<S: Shelf, R: Read + Drop, W: Write + Drop, E: Write + Drop>(
                 &mut err,
             )
         }
-        Asked::Warn(asked, room) => {
+        Asked::Warn(asked, warn) => {
             let mut out = Counted::new(out);
             reports(
                 shelf,
                 alloc,
-                Kind::Warnings(room),
+                Kind::Warnings(&warn),
                 &asked,
                 &mut input,
                 &mut out,

@@ -1,16 +1,22 @@
 //! The command `diff`.
 ghost use Rattle.std.specs.Prelude.{◌≡◌, ◌<◌, ◌-◌, ◌^◌, cond, IfOk};
 ghost use Rattle.yaml_text.specs.CountedModel.{faults_of};
-ghost use Rattle.review_command.specs.Diffs.{DiffTells};
+ghost use Rattle.review_command.specs.Diffs.{DiffTells, DiffShows};
 
 use crate::files::{NotBoth, read_both};
+use crate::findings::difference_found;
+use crate::pages::page_text;
 use crate::rejected::{Named, put_not_compared, put_rejections};
 use crate::unread::Unread;
-use review_args::Diff;
-use review_compare::compare_sides;
+use review_args::{Diff, Page};
+use review_compare::{compare_sides, list_sides};
+use review_formats::{Findings, Shown};
+use review_lines::Listed;
 use review_patterns::Pattern;
+use review_text::put_visible;
 use std::alloc::Global;
 use std::io::{Read, Write};
+use std::str;
 use yaml_canon::Side;
 use yaml_command::shelf::Shelf;
 use yaml_command::streams::write_out;
@@ -99,4 +105,78 @@ pub fn diff<S: Shelf, R: Read, W: Write>(
     };
     write_out(out, told.text.as_bytes())?;
     Ok(status_of(told.same))
+}
+
+/// What two files have differently, of a list.
+fn findings_of(alloc: Global, asked: &Diff<'_>, listed: &Listed) -> Result<Findings, Fault> {
+    let mut list = Vec::new(alloc);
+    for line in &listed.lines {
+        list.push(difference_found(alloc, asked, line)?)?;
+    }
+    for line in &listed.moves {
+        list.push(difference_found(alloc, asked, line)?)?;
+    }
+    Ok(Findings {
+        command: "diff",
+        names: Some((asked.left.to_string(alloc)?, asked.right.to_string(alloc)?)),
+        list,
+        whole: listed.whole,
+    })
+}
+
+/// A file of which lines are shown, with escapes for the characters that would not be seen.
+fn shown_of(alloc: Global, name: &str, bytes: &[u8]) -> Result<Shown, Fault> {
+    let mut text = String::new(alloc);
+    put_visible(&mut text, str::from_utf8(bytes).unwrap_or(""))?;
+    Ok(Shown {
+        name: name.to_string(alloc)?,
+        text,
+    })
+}
+
+/// What two files have differently as a page; nothing where no line is asked for.
+fn listed_text(
+    alloc: Global,
+    asked: &Diff<'_>,
+    page: Page,
+    listed: &Listed,
+    left: &[u8],
+    right: &[u8],
+) -> Result<String, Fault> {
+    if asked.lines == 0 {
+        return Ok(String::new(alloc));
+    }
+    let found = findings_of(alloc, asked, listed)?;
+    if page != Page::Html {
+        return page_text(alloc, page, &found, None);
+    }
+    let first = shown_of(alloc, asked.left, left)?;
+    let second = shown_of(alloc, asked.right, right)?;
+    page_text(alloc, page, &found, Some((&first, &second)))
+}
+
+/// The same as `diff`, of which the list of differences is written as a page.
+pub fn diff_page<S: Shelf, R: Read, W: Write>(
+    shelf: &S,
+    alloc: Global,
+    told: (&Diff<'_>, Page),
+    ignored: &[Pattern<'_>],
+    input: &mut R,
+    out: &mut Counted<W>,
+) -> Result<u8, NoDiff>
+    requires { faults_of out.old < 2 ^ 64 - 1 }
+    ensures shows { IfOk result (DiffShows (S.holds shelf.now) (R.remaining input.old) W.contents told.entry.0.now ignored.now out.old out.new) }
+{
+    let (asked, page) = told;
+    let (left, right) = match read_both(shelf, alloc, asked.left, asked.right, input) {
+        Ok(both) => both,
+        Err(none) => return Err(not_read(alloc, asked, none)?),
+    };
+    let listed = match list_sides(alloc, asked, ignored, &left, &right) {
+        Ok(listed) => listed,
+        Err(refused) => return Err(not_compared(alloc, asked, left, right, refused)?),
+    };
+    let text = listed_text(alloc, asked, page, &listed, &left, &right)?;
+    write_out(out, text.as_bytes())?;
+    Ok(status_of(listed.same))
 }

@@ -1,4 +1,6 @@
 //! The command `show`.
+ghost use Rattle.std.specs.Prelude.{◌≡◌, cond, bytes_eq, IfOk};
+
 use crate::files::read_named;
 use crate::rejected::put_no_bytes;
 use crate::telling::{put_fault_line, put_line, tell_bare};
@@ -18,6 +20,29 @@ const DONE: u8 = 0;
 
 /// The status of a file that is not shown.
 const REJECTED: u8 = 2;
+
+/// The status of a file that is not as it would be written.
+const UNLIKE: u8 = 1;
+
+/// Writes the name of a file that is not as `show` writes it, and answers the status: 0 if it is.
+fn put_checked<W: Write>(
+    alloc: Global,
+    name: &str,
+    bytes: &[u8],
+    text: &str,
+    out: &mut W,
+) -> Result<u8, Fault>
+    ensures { IfOk result (λ status. status ≡ cond (bytes_eq bytes.now text.now) 0 1) }
+{
+    if bytes == text.as_bytes() {
+        return Ok(DONE);
+    }
+    let mut line = String::new(alloc);
+    put_shown(&mut line, name)?;
+    line.push('\n')?;
+    write_out(&mut Counted::new(out), line.as_bytes())?;
+    Ok(UNLIKE)
+}
 
 /// What is shown of a file.
 fn text_of(alloc: Global, bytes: &[u8], format: Format) -> Result<String, Unshown> {
@@ -102,6 +127,9 @@ fn show_file<S: Shelf, R: Read, W: Write, E: Write>(
     };
     let why = match text_of(alloc, &bytes, asked.format) {
         Ok(text) => {
+            if asked.is_check {
+                return put_checked(alloc, name, &bytes, &text, out);
+            }
             write_out(&mut Counted::new(out), text.as_bytes())?;
             return Ok(DONE);
         }

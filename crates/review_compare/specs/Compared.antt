@@ -1,9 +1,11 @@
--- The lines of the differences of two streams.
+-- The differences of two streams, as lines and as a list.
 use Rattle.std.specs.Prelude.{ℕ, Bool, List}
 use Rattle.review_patterns.specs.declared.pattern.Pattern.{Pattern}
 use Rattle.review_args.specs.declared.words.Diff.{Diff}
 use Rattle.review_text.specs.declared.both.Both.{Both}
 use Rattle.review_lines.specs.Compared.{TellsStreams}
+use Rattle.review_lines.specs.Listed.{ListsStreams}
+use Rattle.review_lines.specs.declared.listed.Listed.{Listed}
 use Rattle.review_compare.specs.Sides.{BothAre}
 
 -- The text is the lines of the differences of two streams of these bytes, of as many as are asked for, but for those that are at or below a path that one of the patterns matches; and whether there are none.
@@ -11,3 +13,9 @@ pub record DiffLines (left right : List ℕ) (asked : Diff) (ignored : List Patt
   pub both : Both
   pub are : BothAre left right both
   pub tells : TellsStreams both asked ignored none text
+
+-- The list is the differences of two streams of these bytes, as `DiffLines` has them as text.
+pub record DiffLists (left right : List ℕ) (asked : Diff) (ignored : List Pattern) (listed : Listed) : Type 0 where
+  pub both : Both
+  pub are : BothAre left right both
+  pub lists : ListsStreams both asked ignored listed

@@ -39,7 +39,10 @@ pub fn fault_of(alloc: Global, bytes: &[u8]) -> Option<Fault>
 /// The nodes of both streams in one graph, equal ones mostly merged, ranked.
 ///
 /// A fault is told of the left side: want of memory, or two equal keys, of which each side alone tells which it has.
-fn merged<'f>(alloc: Global, forests: &'f BothForests<'_>) -> Result<Both<'f>, (Side, Fault)>
+pub(crate) fn merged<'f>(
+    alloc: Global,
+    forests: &'f BothForests<'_>,
+) -> Result<Both<'f>, (Side, Fault)>
     requires { (left right : List ℕ) × HasBoth left right forests.now }
     ensures { (left right : List ℕ) → HasBoth left right forests.now → IfOk result (BothAre left right) }
 {
@@ -60,7 +63,7 @@ fn merged<'f>(alloc: Global, forests: &'f BothForests<'_>) -> Result<Both<'f>, (
 
 /// The nodes of both streams, and where it is asked for, a trace of the events that the left one is read to and then of the right
 /// one's, with how many are the left one's.
-fn forests_of<'l>(
+pub(crate) fn forests_of<'l>(
     alloc: Global,
     left: &'l [u8],
     right: &[u8],
@@ -77,7 +80,7 @@ fn forests_of<'l>(
 }
 
 /// Two streams with their traces, of which one has the events of both, so many of the left one.
-fn traced_both<'t>(
+pub(crate) fn traced_both<'t>(
     left: &'t [u8],
     right: &'t [u8],
     both: &'t Option<(Trace, usize)>,

@@ -3,7 +3,9 @@
 
 mod both;
 mod json;
+mod listing;
 
 pub use both::{compare_sides, fault_of};
 pub use json::diff_json;
+pub use listing::list_sides;
 pub use review_lines::Compared;

@@ -1,6 +1,7 @@
 mod CompareLaws
 mod FaultLaws
 mod LineLaws
+mod ListLaws
 mod SameLaws
 mod SideLaws
 mod StringLaws

@@ -1,3 +1,5 @@
 pub mod Compared
 pub mod FaultLines
 pub mod Lines
+pub mod Listed
+pub mod Spotted

@@ -27,7 +27,7 @@ use yaml_place::Place;
 use yaml_text::fault::Fault;
 
 /// The differences and moves of two streams, at most so many.
-fn list_of(alloc: Global, both: &Both<'_>, room: usize) -> Result<Found, Fault>
+pub(crate) fn list_of(alloc: Global, both: &Both<'_>, room: usize) -> Result<Found, Fault>
     requires ranked { RanksAre both.now.graph both.now.ranks }
     ensures ok { IfOk result (FindsItems both.now.graph (take both.now.documents (roots_of both.now.graph)) (drop both.now.documents (roots_of both.now.graph)) room) }
     ensures err { IfErr result (λ fault. fault ≡ Fault.OutOfMemory) }
@@ -118,7 +118,7 @@ fn shown_both(
 
 /// The places of the nodes of each difference, where they are told.
 #[derive(Drop)]
-struct Places {
+pub(crate) struct Places {
     left: Vec<Option<Place>>,
     right: Vec<Option<Place>>,
 }
@@ -165,7 +165,7 @@ fn place_at(places: &[Option<Place>], number: usize) -> Option<Place> {
 }
 
 /// The lines of differences.
-fn lines_of(
+pub(crate) fn lines_of(
     alloc: Global,
     both: &Both<'_>,
     list: &[Difference],
@@ -245,7 +245,7 @@ fn spread(
 }
 
 /// The places of both sides' nodes; none where they are not asked for.
-fn find_places(
+pub(crate) fn find_places(
     alloc: Global,
     both: &Both<'_>,
     list: &[Difference],
@@ -285,7 +285,7 @@ fn room_of(whole: bool) -> usize
 }
 
 /// The lines of pairs of items that moved.
-fn lines_of_moves(
+pub(crate) fn lines_of_moves(
     alloc: Global,
     both: &Both<'_>,
     asked: &Diff<'_>,
@@ -366,7 +366,7 @@ fn told_text(
 const SEARCHED: usize = 1_000_000;
 
 /// Room for so many lines or, where some differences are left out, for as many as are looked at.
-fn search_room(ignored: &[Pattern<'_>], room: usize) -> usize
+pub(crate) fn search_room(ignored: &[Pattern<'_>], room: usize) -> usize
     ensures some { 0 < room → 0 < result }
     ensures asked { result ≡ search_room ignored.now room }
 {
@@ -378,14 +378,14 @@ fn search_room(ignored: &[Pattern<'_>], room: usize) -> usize
 }
 
 /// Whether all differences and moves are listed, and there is none.
-fn lists_none(found: &Found) -> bool
+pub(crate) fn lists_none(found: &Found) -> bool
     ensures { result ≡ ((found.now.whole && (length found.now.list.items == 0)) && (length found.now.moves.items == 0)) }
 {
     found.whole && found.list.len() == 0 && found.moves.len() == 0
 }
 
 /// Room for so many lines, and for one at least, without which no list would tell whether there is a difference.
-fn room_for(lines: usize) -> usize
+pub(crate) fn room_for(lines: usize) -> usize
     ensures some { 0 < result }
     ensures asked { result ≡ room_for lines }
 {

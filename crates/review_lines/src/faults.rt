@@ -50,17 +50,17 @@ impl Spot {
 
 /// A spot with its lines and columns.
 #[derive(Drop)]
-struct Told {
-    place: Option<Place>,
-    at: usize,
-    path: Option<String>,
-    words: Option<String>,
-    first: Option<Place>,
+pub(crate) struct Told {
+    pub(crate) place: Option<Place>,
+    pub(crate) at: usize,
+    pub(crate) path: Option<String>,
+    pub(crate) words: Option<String>,
+    pub(crate) first: Option<Place>,
 }
 
 impl Told {
     /// What is said of the fault in this text.
-    fn words(&self, alloc: Global, fault: Fault, text: &[u8]) -> Result<String, Fault> {
+    pub(crate) fn words(&self, alloc: Global, fault: Fault, text: &[u8]) -> Result<String, Fault> {
         match &self.words {
             Some(words) => Ok(words.clone()?),
             None => words_of(alloc, fault, text, self.at),
@@ -210,7 +210,12 @@ pub(crate) fn place_of(text: &[u8], at: usize) -> Option<Place>
 }
 
 /// The lines and columns of a fault's spot in the text behind the byte order mark.
-fn find_told(alloc: Global, bytes: &[u8], text: &[u8], fault: Fault) -> Result<Told, Fault>
+pub(crate) fn find_told(
+    alloc: Global,
+    bytes: &[u8],
+    text: &[u8],
+    fault: Fault,
+) -> Result<Told, Fault>
     ensures placed { IfOk result (λ told. IsSpot text.now (mark_len bytes.now) fault (offset_in fault) told.at told.place) }
 {
     let spot = find_spot(alloc, bytes, fault)?;

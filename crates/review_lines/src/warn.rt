@@ -36,8 +36,13 @@ fn plain_text<'e>(event: &'e Event<'_>) -> Option<&'e str> {
     }
 }
 
-/// The scalars of a file that YAML 1.1 reads otherwise, at most so many.
-fn find_warned(alloc: Global, events: &[Event<'_>], room: usize) -> Result<Warned, Fault> {
+/// The scalars of a file that YAML 1.1 reads otherwise and that are none of the allowed words, at most so many.
+fn find_warned(
+    alloc: Global,
+    events: &[Event<'_>],
+    allowed: &[&str],
+    room: usize,
+) -> Result<Warned, Fault> {
     let mut found = Warned {
         list: Vec::new(alloc),
         whole: true,
@@ -48,6 +53,9 @@ fn find_warned(alloc: Global, events: &[Event<'_>], room: usize) -> Result<Warne
         let Some(text) = plain_text(event) else {
             continue;
         };
+        if allowed.iter().any(|word| *word == text) {
+            continue;
+        }
         if let Some(older) = read_older(text, trail.is_at_key()) {
             if found.list.len() >= room {
                 found.whole = false;
@@ -59,27 +67,94 @@ fn find_warned(alloc: Global, events: &[Event<'_>], room: usize) -> Result<Warne
     Ok(found)
 }
 
+/// A scalar that YAML 1.1 reads otherwise.
+#[derive(Drop)]
+pub struct Warning {
+    pub place: Place,
+    pub text: String,
+    /// What YAML 1.1 makes of it.
+    pub words: String,
+}
+
+/// The warnings of a file, and whether these are all.
+#[derive(Drop)]
+pub struct Warnings {
+    pub list: Vec<Warning>,
+    pub whole: bool,
+}
+
+/// The offsets of the scalars that were found, each with its number in the list.
+fn offsets_of(
+    alloc: Global,
+    source: &Chars<'_>,
+    found: &Warned,
+) -> Result<Vec<(usize, usize)>, Fault> {
+    let trace = trace_of(alloc, source)?;
+    let mut offsets = Vec::new(alloc);
+    for (number, (event, _)) in found.list.iter().enumerate() {
+        if let Some(offset) = trace.offset(*event) {
+            offsets.push((offset, number))?;
+        }
+    }
+    Ok(offsets)
+}
+
+/// The warning of a scalar that was found.
+fn warning_of(alloc: Global, text: &str, older: &Older, place: Place) -> Result<Warning, Fault> {
+    Ok(Warning {
+        place,
+        text: text.to_string(alloc)?,
+        words: older.words(alloc, text)?,
+    })
+}
+
+/// What YAML 1.1 reads otherwise in a file that is not refused, but for plain scalars that are one of these words: at most so many.
+pub fn list_warnings(
+    alloc: Global,
+    bytes: &[u8],
+    allowed: &[&str],
+    room: usize,
+) -> Result<Warnings, Fault> {
+    let source = Chars::read(bytes)?;
+    let events = read_events(alloc, &source)?;
+    let found = find_warned(alloc, &events, allowed, room)?;
+    let offsets = offsets_of(alloc, &source, &found)?;
+    let mut list = Vec::new(alloc);
+    for (number, place) in &places(alloc, unmarked(bytes), offsets)? {
+        let Some((event, older)) = found.list.get(*number) else {
+            continue;
+        };
+        if let Some(text) = events.get(*event).and_then(plain_text) {
+            list.push(warning_of(alloc, text, older, *place)?)?;
+        }
+    }
+    Ok(Warnings {
+        list,
+        whole: found.whole,
+    })
+}
+
 /// Writes a warning.
 fn put_warning(
     alloc: Global,
     out: &mut String,
     name: &str,
-    place: Place,
-    text: &str,
-    words: &str,
+    warning: &Warning,
     form: Form,
 ) -> Result<(), Fault> {
     match form {
         Form::Line => {
-            put_head(out, name, Some(place))?;
+            put_head(out, name, Some(warning.place))?;
             out.push_str("warning: ")?;
-            put_shown(out, front(text, CUT))?;
+            put_shown(out, front(&warning.text, CUT))?;
             out.push_str(": ")?;
-            out.push_str(words)?;
+            out.push_str(&warning.words)?;
         }
         Form::Json => {
-            let line = place.line as u64;
-            let column = place.column as u64;
+            let line = warning.place.line as u64;
+            let column = warning.place.column as u64;
+            let text = warning.text.as_str();
+            let words = warning.words.as_str();
             let object = json!(in alloc; {
                 "file": name, "line": line, "column": column, "text": text, "words": words
             })?;
@@ -90,38 +165,18 @@ fn put_warning(
     Ok(())
 }
 
-/// Writes what YAML 1.1 reads otherwise in a file that is not refused, at most so many lines.
+/// Writes the warnings of a file, a line for each.
 pub fn put_warnings(
     alloc: Global,
     out: &mut String,
     name: &str,
-    bytes: &[u8],
+    warnings: &Warnings,
     form: Form,
-    room: usize,
 ) -> Result<(), Fault> {
-    if room == 0 {
-        return Ok(());
+    for warning in &warnings.list {
+        put_warning(alloc, out, name, warning, form)?;
     }
-    let source = Chars::read(bytes)?;
-    let events = read_events(alloc, &source)?;
-    let found = find_warned(alloc, &events, room)?;
-    let trace = trace_of(alloc, &source)?;
-    let mut offsets = Vec::new(alloc);
-    for (number, (event, _)) in found.list.iter().enumerate() {
-        if let Some(offset) = trace.offset(*event) {
-            offsets.push((offset, number))?;
-        }
-    }
-    for (number, place) in &places(alloc, unmarked(bytes), offsets)? {
-        let Some((event, older)) = found.list.get(*number) else {
-            continue;
-        };
-        if let Some(text) = events.get(*event).and_then(plain_text) {
-            let words = older.words(alloc, text)?;
-            put_warning(alloc, out, name, *place, text, &words, form)?;
-        }
-    }
-    if !found.whole {
+    if !warnings.whole {
         put_more(out, form)?;
     }
     Ok(())

@@ -1,4 +1,4 @@
-use Rattle.std.proofs.Common.{sym, subst}
+use Rattle.std.proofs.Common.{refl, sym, subst}
 use Rattle.review_command.specs.Runs.{Does}
 use Rattle.review_command.proofs.command.run.Goals as goal
 
@@ -17,11 +17,43 @@ returns-in-Faults g c =
 pub returns-in-Warn : goal.returns-in-Warn
 returns-in-Warn g c =
     subst (λ z. Does (g.S.Shelf.holds c.args.shelf.now) g.R.Read.remaining g.W.Write.contents g.E.Write.contents z c.args.input c.args.out c.args.err c.reports-in-Warn.result) (sym c.in-Warn.is)
+    ((
+      _,
+      refl,
+      record {
+        end = c.reports-in-Warn.new.input;
+        old = c.new-out-in-Warn.result;
+        new = c.reports-in-Warn.new.out;
+        writer = c.new-out-in-Warn.ensures.inner;
+        no_write = c.new-out-in-Warn.ensures.faults;
+        tells = c.reports-in-Warn.ensures.tells;
+      },
+    ))
+
+pub returns-in-FaultsPage : goal.returns-in-FaultsPage
+returns-in-FaultsPage g c =
+    subst (λ z. Does (g.S.Shelf.holds c.args.shelf.now) g.R.Read.remaining g.W.Write.contents g.E.Write.contents z c.args.input c.args.out c.args.err c.pages.result) (sym c.in-FaultsPage.is)
     (record {
-      end = c.reports-in-Warn.new.input;
-      old = c.new-out-in-Warn.result;
-      new = c.reports-in-Warn.new.out;
-      writer = c.new-out-in-Warn.ensures.inner;
-      no_write = c.new-out-in-Warn.ensures.faults;
-      tells = c.reports-in-Warn.ensures.tells;
+      end = c.pages.new.input;
+      old = c.new-out-in-FaultsPage.result;
+      new = c.pages.new.out;
+      writer = c.new-out-in-FaultsPage.ensures.inner;
+      no_write = c.new-out-in-FaultsPage.ensures.faults;
+      tells = c.pages.ensures;
     })
+
+pub returns-in-WarnPage : goal.returns-in-WarnPage
+returns-in-WarnPage g c =
+    subst (λ z. Does (g.S.Shelf.holds c.args.shelf.now) g.R.Read.remaining g.W.Write.contents g.E.Write.contents z c.args.input c.args.out c.args.err c.pages-in-WarnPage.result) (sym c.in-WarnPage.is)
+    ((
+      _,
+      refl,
+      record {
+        end = c.pages-in-WarnPage.new.input;
+        old = c.new-out-in-WarnPage.result;
+        new = c.pages-in-WarnPage.new.out;
+        writer = c.new-out-in-WarnPage.ensures.inner;
+        no_write = c.new-out-in-WarnPage.ensures.faults;
+        tells = c.pages-in-WarnPage.ensures;
+      },
+    ))

@@ -1,0 +1,33 @@
+//! Where two streams differ, as a list.
+ghost use Rattle.std.specs.Prelude.{◌≡◌, [], IfOk};
+ghost use Rattle.yaml_canon.specs.Comparing.{Compares};
+ghost use Rattle.review_compare.specs.Compared.{DiffLists};
+
+use crate::both::{forests_of, merged, traced_both};
+use review_args::Diff;
+use review_lines::{Listed, list_differences};
+use review_patterns::Pattern;
+use std::alloc::Global;
+use yaml_canon::Side;
+use yaml_text::fault::Fault;
+
+/// The differences of two streams, but for those that are at or below a path that one of the patterns matches, and whether there are
+/// none: without patterns this is so if the streams are the same. A fault names the side.
+pub fn list_sides(
+    alloc: Global,
+    asked: &Diff<'_>,
+    ignored: &[Pattern<'_>],
+    left: &[u8],
+    right: &[u8],
+) -> Result<Listed, (Side, Fault)>
+    ensures same { IfOk result (λ told. ignored.now ≡ [] → Compares left.now right.now told.same) }
+    ensures lists { IfOk result (DiffLists left.now right.now asked.now ignored.now) }
+{
+    let (forests, trace) = forests_of(alloc, left, right, asked.places)?;
+    let both = merged(alloc, &forests)?;
+    let sides = traced_both(left, right, &trace);
+    match list_differences(alloc, &both, asked, ignored, sides) {
+        Ok(told) => Ok(told),
+        Err(fault) => Err((Side::Left, fault)),
+    }
+}

@@ -1,0 +1,2 @@
+mod EscapeLaws
+mod PieceLaws

@@ -1,0 +1,108 @@
+//! What is found in files.
+use yaml_place::Place;
+
+/// How much something that is found matters.
+#[derive(Clone, Copy, Debug, PartialEq, Eq)]
+pub enum Level {
+    /// A file is rejected.
+    Error,
+    /// Other tools read something else.
+    Warning,
+    /// Two files differ.
+    Note,
+}
+
+/// What two sides have at a path.
+#[derive(Clone, Copy, Debug, PartialEq, Eq)]
+pub enum Sign {
+    Changed,
+    Left,
+    Right,
+    Moved,
+}
+
+impl Sign {
+    /// What it is called.
+    pub fn word(self) -> &'static str {
+        match self {
+            Sign::Changed => "changed",
+            Sign::Left => "left",
+            Sign::Right => "right",
+            Sign::Moved => "moved",
+        }
+    }
+
+    /// One character for it.
+    pub fn mark(self) -> &'static str {
+        match self {
+            Sign::Changed => "~",
+            Sign::Left => "-",
+            Sign::Right => "+",
+            Sign::Moved => ">",
+        }
+    }
+
+    /// What it says of the two sides.
+    pub fn says(self) -> &'static str {
+        match self {
+            Sign::Changed => "changed",
+            Sign::Left => "only on the left",
+            Sign::Right => "only on the right",
+            Sign::Moved => "moved",
+        }
+    }
+}
+
+/// What two sides have at a path, as text.
+#[derive(Drop)]
+pub struct Sides {
+    pub sign: Sign,
+    pub left: Option<String>,
+    pub right: Option<String>,
+    pub left_place: Option<Place>,
+    pub right_place: Option<Place>,
+    /// The changed lines of two strings, each behind a tab and its sign.
+    pub changes: Option<String>,
+}
+
+/// What is found at a place of a file.
+#[derive(Drop)]
+pub struct Finding {
+    /// What it is called.
+    pub rule: &'static str,
+    pub level: Level,
+    pub file: String,
+    pub place: Option<Place>,
+    pub path: Option<String>,
+    pub message: String,
+    /// The line of the place.
+    pub line: Option<String>,
+    pub sides: Option<Sides>,
+}
+
+/// A file of which the lines are shown.
+#[derive(Drop)]
+pub struct Shown {
+    pub name: String,
+    pub text: String,
+}
+
+/// What a command found.
+#[derive(Drop)]
+pub struct Findings {
+    /// The command.
+    pub command: &'static str,
+    /// The files that were compared, if two were.
+    pub names: Option<(String, String)>,
+    pub list: Vec<Finding>,
+    /// Whether all that was found is listed.
+    pub whole: bool,
+}
+
+/// The text, if there is one.
+pub(crate) fn text_of(text: &Option<String>) -> Option<&str> {
+    match text {
+        Some(text) => Some(text.as_str()),
+        None => None,
+    }
+}

@@ -1,0 +1,297 @@
+//! One page of HTML.
+use crate::escape::Escape;
+use crate::finding::{Finding, Findings, Level, Shown, Sides, Sign, text_of};
+use crate::lines::put_lines;
+use crate::piece::{Piece, put_pieces};
+use crate::style::{HEAD, STYLE};
+use std::alloc::Global;
+use yaml_place::Place;
+use yaml_text::fault::Fault;
+
+/// A text of a file.
+pub(crate) fn text(text: &str) -> Piece<'_> {
+    Piece::Text(Escape::Html, text)
+}
+
+/// The class of a finding's colour.
+fn class_of(finding: &Finding) -> &'static str {
+    match (&finding.sides, finding.level) {
+        (Some(sides), _) => sides.sign.word(),
+        (None, Level::Error) => "left",
+        (None, _) => "changed",
+    }
+}
+
+/// What a finding begins with.
+fn mark_of(finding: &Finding) -> &'static str {
+    match (&finding.sides, finding.level) {
+        (Some(sides), _) => sides.sign.mark(),
+        (None, Level::Error) => "✗",
+        (None, _) => "!",
+    }
+}
+
+/// Writes what a finding is called by: the path, or the file and the name of the fault.
+fn put_name(out: &mut String, finding: &Finding) -> Result<(), Fault> {
+    put_pieces(
+        out,
+        &[
+            Piece::Raw("<span class=\"mark\">"),
+            Piece::Raw(mark_of(finding)),
+            Piece::Raw("</span> <code>"),
+        ],
+    )?;
+    match (&finding.sides, &finding.path) {
+        (Some(_), Some(path)) => put_pieces(out, &[text(path)])?,
+        _ => {
+            put_pieces(out, &[text(&finding.file)])?;
+            if let Some(place) = finding.place {
+                put_pieces(
+                    out,
+                    &[
+                        Piece::Raw(":"),
+                        Piece::Number(place.line),
+                        Piece::Raw(":"),
+                        Piece::Number(place.column),
+                    ],
+                )?;
+            }
+        }
+    }
+    out.push_str("</code>")?;
+    if finding.sides.is_none() {
+        put_pieces(out, &[Piece::Raw(" "), text(finding.rule)])?;
+    }
+    Ok(())
+}
+
+/// Writes the links to all findings.
+fn put_links(out: &mut String, list: &[Finding]) -> Result<(), Fault> {
+    out.push_str("<nav aria-label=\"All that is found\"><ol>\n")?;
+    for (number, finding) in list.iter().enumerate() {
+        put_pieces(
+            out,
+            &[
+                Piece::Raw("<li class=\""),
+                Piece::Raw(class_of(finding)),
+                Piece::Raw("\"><a href=\"#d"),
+                Piece::Number(number.saturating_add(1)),
+                Piece::Raw("\">"),
+            ],
+        )?;
+        put_name(out, finding)?;
+        out.push_str("</a></li>\n")?;
+    }
+    out.push_str("</ol></nav>\n")?;
+    Ok(())
+}
+
+/// Writes a place, as a link to its line.
+fn put_place(out: &mut String, side: &'static str, place: Option<Place>) -> Result<(), Fault> {
+    let Some(place) = place else {
+        return Ok(());
+    };
+    put_pieces(
+        out,
+        &[
+            Piece::Raw(" <a href=\"#"),
+            Piece::Raw(side),
+            Piece::Number(place.line),
+            Piece::Raw("\">"),
+            Piece::Number(place.line),
+            Piece::Raw(":"),
+            Piece::Number(place.column),
+            Piece::Raw("</a>"),
+        ],
+    )
+}
+
+/// Writes what one side has.
+fn put_side(
+    out: &mut String,
+    title: &'static str,
+    id: &'static str,
+    place: Option<Place>,
+    value: Option<&str>,
+) -> Result<(), Fault> {
+    put_pieces(
+        out,
+        &[
+            Piece::Raw("<div class=\""),
+            Piece::Raw(title),
+            Piece::Raw("\"><h3>"),
+            Piece::Raw(title),
+        ],
+    )?;
+    put_place(out, id, place)?;
+    out.push_str("</h3>")?;
+    match value {
+        Some(value) => put_pieces(
+            out,
+            &[Piece::Raw("<pre>"), text(value), Piece::Raw("</pre>")],
+        )?,
+        None => out.push_str("<p class=\"none\">nothing</p>")?,
+    }
+    out.push_str("</div>\n")?;
+    Ok(())
+}
+
+/// The class of a changed line, by its sign.
+fn line_class(line: &str) -> &'static str {
+    if line.starts_with('-') {
+        "left"
+    } else if line.starts_with('+') {
+        "right"
+    } else {
+        "same"
+    }
+}
+
+/// Writes the changed lines of two strings.
+fn put_changes(out: &mut String, changes: &str) -> Result<(), Fault> {
+    out.push_str("<pre class=\"changes\">")?;
+    for line in changes.strip_suffix('\n').unwrap_or(changes).split('\n') {
+        let shown = line.strip_prefix('\t').unwrap_or(line);
+        put_pieces(
+            out,
+            &[
+                Piece::Raw("<span class=\""),
+                Piece::Raw(line_class(shown)),
+                Piece::Raw("\">"),
+                text(shown),
+                Piece::Raw("\n</span>"),
+            ],
+        )?;
+    }
+    out.push_str("</pre>\n")?;
+    Ok(())
+}
+
+/// Writes what both sides have.
+fn put_sides(out: &mut String, sides: &Sides) -> Result<(), Fault> {
+    put_pieces(out, &[Piece::Raw("<p>"), Piece::Raw(sides.sign.says())])?;
+    if sides.changes.is_some() || sides.sign == Sign::Moved {
+        out.push_str(": left")?;
+        put_place(out, "l", sides.left_place)?;
+        out.push_str(", right")?;
+        put_place(out, "r", sides.right_place)?;
+    }
+    out.push_str("</p>\n")?;
+    if let Some(changes) = &sides.changes {
+        return put_changes(out, changes);
+    }
+    if sides.sign == Sign::Moved {
+        return Ok(());
+    }
+    out.push_str("<div class=\"both\">\n")?;
+    put_side(out, "left", "l", sides.left_place, text_of(&sides.left))?;
+    put_side(out, "right", "r", sides.right_place, text_of(&sides.right))?;
+    out.push_str("</div>\n")?;
+    Ok(())
+}
+
+/// Writes a finding.
+fn put_finding(out: &mut String, number: usize, finding: &Finding) -> Result<(), Fault> {
+    put_pieces(
+        out,
+        &[
+            Piece::Raw("<section class=\""),
+            Piece::Raw(class_of(finding)),
+            Piece::Raw("\" id=\"d"),
+            Piece::Number(number),
+            Piece::Raw("\"><h2><a href=\"#d"),
+            Piece::Number(number),
+            Piece::Raw("\">"),
+        ],
+    )?;
+    put_name(out, finding)?;
+    out.push_str("</a></h2>\n")?;
+    match &finding.sides {
+        Some(sides) => put_sides(out, sides)?,
+        None => put_said(out, finding)?,
+    }
+    out.push_str("</section>\n")?;
+    Ok(())
+}
+
+/// Writes what is said of a fault or a warning, and its line.
+fn put_said(out: &mut String, finding: &Finding) -> Result<(), Fault> {
+    out.push_str("<p>")?;
+    if let Some(path) = &finding.path {
+        put_pieces(
+            out,
+            &[Piece::Raw("<code>"), text(path), Piece::Raw("</code>: ")],
+        )?;
+    }
+    put_pieces(out, &[text(&finding.message), Piece::Raw("</p>\n")])?;
+    if let Some(line) = &finding.line {
+        put_pieces(
+            out,
+            &[Piece::Raw("<pre>"), text(line), Piece::Raw("</pre>\n")],
+        )?;
+    }
+    Ok(())
+}
+
+/// Writes what the page is about, and how much is found.
+fn put_header(out: &mut String, found: &Findings) -> Result<(), Fault> {
+    out.push_str("<header><h1>yamlreview ")?;
+    out.push_str(found.command)?;
+    out.push_str("</h1>\n")?;
+    if let Some((left, right)) = &found.names {
+        put_pieces(
+            out,
+            &[
+                Piece::Raw("<p class=\"names\"><code>"),
+                text(left),
+                Piece::Raw("</code> → <code>"),
+                text(right),
+                Piece::Raw("</code></p>\n"),
+            ],
+        )?;
+    }
+    let count = found.list.len();
+    match count {
+        0 => out.push_str("<p>Nothing is found.</p>")?,
+        1 => out.push_str("<p>1 place is found.</p>")?,
+        _ => put_pieces(
+            out,
+            &[
+                Piece::Raw("<p>"),
+                Piece::Number(count),
+                Piece::Raw(" places are found.</p>"),
+            ],
+        )?,
+    }
+    if !found.whole {
+        out.push_str("<p><strong>There is more than is listed.</strong></p>")?;
+    }
+    out.push_str("</header>\n")?;
+    Ok(())
+}
+
+/// What is found as one page, which asks for nothing else and runs no script, with the lines of the two files around what differs.
+pub fn html_text(
+    alloc: Global,
+    found: &Findings,
+    shown: Option<(&Shown, &Shown)>,
+) -> Result<String, Fault> {
+    let mut out = String::new(alloc);
+    out.push_str(HEAD)?;
+    out.push_str(STYLE)?;
+    out.push_str("</style>\n</head>\n<body>\n")?;
+    put_header(&mut out, found)?;
+    put_links(&mut out, &found.list)?;
+    out.push_str("<main>\n")?;
+    for (number, finding) in found.list.iter().enumerate() {
+        put_finding(&mut out, number.saturating_add(1), finding)?;
+    }
+    if let Some((left, right)) = shown {
+        out.push_str("<section class=\"files\"><div class=\"both\">\n")?;
+        put_lines(alloc, &mut out, "l", left, &found.list)?;
+        put_lines(alloc, &mut out, "r", right, &found.list)?;
+        out.push_str("</div></section>\n")?;
+    }
+    out.push_str("</main>\n</body>\n</html>\n")?;
+    Ok(out)
+}

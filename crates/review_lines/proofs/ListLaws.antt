@@ -1,0 +1,6 @@
+-- What follows of an answer.
+use Rattle.std.specs.Prelude.{Result, Ok, Err, IfOk}
+
+pub if_ok : {T E : Type 0} {P Q : T → Type 0} (r : Result T E) → ((x : T) → P x → Q x) → IfOk r P → IfOk r Q
+if_ok (Ok x) f h = f x h
+if_ok (Err e) f h = tt

@@ -1,0 +1,13 @@
+//! Test cases of pages, tables, logs and annotations, with hostile contents, and of the statuses with `--strict`, `--allow` and `--check`.
+#![tactic(auto)]
+
+#[cfg(test)]
+mod annotations;
+#[cfg(test)]
+mod checks;
+#[cfg(test)]
+mod pages;
+#[cfg(test)]
+mod runs;
+#[cfg(test)]
+mod tables;

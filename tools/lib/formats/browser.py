@@ -1,0 +1,80 @@
+"""A page in headless Chromium: whether it runs, asks for nothing, and is as wide as the window."""
+import json
+import os
+import re
+import shutil
+import subprocess
+import tempfile
+
+NAMES = ("chromium", "chromium-browser", "google-chrome")
+PROBE = """<script>
+addEventListener('load', () => {
+  const inside = document.querySelector('iframe').contentDocument;
+  document.title = JSON.stringify({
+    wide: inside.documentElement.scrollWidth,
+    links: [...inside.links].filter(a => !inside.getElementById(a.hash.slice(1))).length,
+    scripts: inside.scripts.length + inside.images.length + inside.querySelectorAll('iframe,object,embed,form').length,
+  });
+});
+</script>"""
+
+
+def browser():
+    """The program, or None if it is not installed."""
+    return next(filter(None, map(shutil.which, NAMES)), None)
+
+
+def started(program, room, *words):
+    command = [program, "--headless=new", "--no-sandbox", "--disable-gpu", "--disable-dev-shm-usage", f"--user-data-dir={room}/profile"]
+    command += ["--no-first-run", "--disable-background-networking", "--disable-component-update", "--disable-sync", *words]
+    return subprocess.run(command, capture_output=True, text=True, timeout=180, check=False)
+
+
+def requests(log):
+    """The addresses that a page asked for, of a log of the network; the browser's own are not its."""
+    with open(log, encoding="utf-8") as file:
+        text = file.read()
+    try:
+        events = json.loads(text)["events"]
+    except json.JSONDecodeError:
+        events = json.loads(text.rstrip().rstrip(",") + "]}")["events"]
+    found = {event["params"]["url"] for event in events if "url" in event.get("params", {})}
+    return sorted(one for one in found if one.startswith(("http:", "https:", "ws:", "wss:", "ftp:")))
+
+
+def browser_faults(program, text, width=360):
+    """What is wrong with a page in a window of this width."""
+    with tempfile.TemporaryDirectory() as room:
+        with open(f"{room}/page.html", "w", encoding="utf-8") as file:
+            file.write(text)
+        with open(f"{room}/probe.html", "w", encoding="utf-8") as file:
+            file.write(f'<!DOCTYPE html><iframe src="page.html" style="width:{width}px;height:800px;border:0"></iframe>{PROBE}')
+        ran = started(
+            program, room, "--allow-file-access-from-files", "--virtual-time-budget=3000", "--dump-dom", f"file://{room}/probe.html"
+        )
+        faults = seen_faults(ran.stdout, width)
+        log = f"{room}/network.json"
+        ran = started(
+            program,
+            room,
+            "--enable-logging=stderr",
+            f"--log-net-log={log}",
+            "--virtual-time-budget=3000",
+            "--dump-dom",
+            f"file://{room}/page.html",
+        )
+        faults += [f"the console has {line}" for line in ran.stderr.split("\n") if "CONSOLE" in line]
+        if os.path.exists(log):
+            faults += [f"the page asks for {one}" for one in requests(log) if "google" not in one]
+    return faults
+
+
+def seen_faults(dom, width):
+    """What the probe saw."""
+    found = re.search(r"<title>(.*?)</title>", dom)
+    if found is None:
+        return ["the page is not loaded"]
+    seen = json.loads(found[1].replace("&quot;", '"'))
+    faults = [] if seen["wide"] <= width else [f"the page is {seen['wide']} pixels wide in a window of {width}"]
+    faults += ["a link leads to no node"] if seen["links"] else []
+    return faults + (["the page has a script, an image or a frame"] if seen["scripts"] else [])

@@ -1,0 +1,87 @@
+"""The action runs the program of an archive over the files that a branch changed, and nothing else."""
+import hashlib
+import io
+import os
+import subprocess
+import tarfile
+import tempfile
+import unittest
+
+from scripts import TOP
+
+ACTION = f"{TOP}/packages/action/review"
+# A program that prints its words, and ends with 2 for a file of the name bad.yaml, and with 1 for differences.
+FAKE = """\
+#!/bin/sh
+printf '%s\\n' "$*"
+[ "$1" = diff ] && exit 1
+case $* in *bad.yaml*) exit 2;; *) exit 0;; esac
+"""
+
+
+def git(room, *words):
+    return subprocess.run(["git", "-C", room, *words], capture_output=True, text=True, check=True).stdout.strip()
+
+
+class Action(unittest.TestCase):
+    def setUp(self):
+        holder = tempfile.TemporaryDirectory()
+        self.addCleanup(holder.cleanup)
+        self.archive, self.room = f"{holder.name}/yamlcanon.tar.gz", f"{holder.name}/room"
+        self.summary, self.pages = f"{holder.name}/summary.md", f"{holder.name}/pages"
+        with tarfile.open(self.archive, "w:gz") as file:
+            member = tarfile.TarInfo("yamlcanon-1/bin/yamlreview")
+            member.mode, member.size = 0o755, len(FAKE)
+            file.addfile(member, io.BytesIO(FAKE.encode()))
+        with open(self.archive, "rb") as file:
+            self.digest = hashlib.sha256(file.read()).hexdigest()
+        os.mkdir(self.room)
+        git(self.room, "init", "-q")
+        git(self.room, "config", "user.name", "x")
+        git(self.room, "config", "user.email", "x@example.org")
+        self.base = self.commit({"kept.yaml": "a: 1\n", "changed.yaml": "a: 1\n", "left.yaml": "a: 1\n", "no.txt": "x"})
+        os.remove(f"{self.room}/left.yaml")
+
+    def commit(self, files):
+        for name, text in files.items():
+            with open(f"{self.room}/{name}", "w", encoding="utf-8") as file:
+                file.write(text)
+        git(self.room, "add", "-A")
+        git(self.room, "commit", "-q", "-m", "x")
+        return git(self.room, "rev-parse", "HEAD")
+
+    def run_action(self, **given):
+        names = {"ARCHIVE": self.archive, "SHA256": self.digest, "WARN": "yes", "PAGES": self.pages, "BASE": self.base}
+        names["GITHUB_STEP_SUMMARY"] = self.summary
+        env = {**os.environ, **names, **given}
+        ran = subprocess.run([ACTION], cwd=self.room, env=env, capture_output=True, text=True, check=False)
+        return ran.returncode, ran.stdout
+
+    def test_changed_files_alone(self):
+        self.commit({"changed.yaml": "a: 2\n", "-new $(x).yml": "a: 3\n", "no.txt": "y"})
+        self.assertEqual(self.run_action(), (0, "warn --format=github -- -new $(x).yml changed.yaml\n"))
+        with open(self.summary, encoding="utf-8") as file:
+            self.assertEqual(file.read(), "diff --format=markdown -- - changed.yaml\n\n")
+        with open(f"{self.pages}/1.html", encoding="utf-8") as file:
+            self.assertEqual(file.read(), "diff --format=html -- - changed.yaml\n")
+
+    def test_the_status(self):
+        self.commit({"bad.yaml": "a: ["})
+        self.assertEqual(self.run_action(WARN="no"), (2, "faults --format=github -- bad.yaml\n"))
+        self.assertEqual(self.run_action(WARN="strict", PAGES=""), (2, "warn --strict --format=github -- bad.yaml\n"))
+        self.assertEqual(self.run_action(WARN="; x")[0], 3)
+
+    def test_no_file(self):
+        self.commit({"no.txt": "y"})
+        self.assertEqual(self.run_action(), (0, "No YAML file is changed.\n"))
+
+    def test_another_archive(self):
+        self.commit({"changed.yaml": "a: 2\n"})
+        status, said = self.run_action(SHA256="0" * 64)
+        self.assertEqual(status, 3)
+        self.assertIn("::error title=yamlreview::the archive has another SHA-256", said)
+        self.assertEqual(self.run_action(ARCHIVE="nothing.tar.gz")[0], 3)
+
+
+if __name__ == "__main__":
+    unittest.main()
