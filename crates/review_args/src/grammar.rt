@@ -26,6 +26,8 @@ enum Takes {
     OneOf(&'static str, &'static [&'static str; 2]),
     /// The same, of which the default depends on other arguments.
     Most,
+    /// Keys.
+    Keys,
     /// A list of files, in place of files.
     Names,
     /// A list of digests, in place of files and of a list of them.
@@ -80,7 +82,17 @@ const DIFF: [Row; 11] = [
     Row {
         id: "stat",
         takes: Takes::Flag,
-        help: "Print how many differences there are: `+` only right, `-` only left, `~` changed",
+        help: "Print how many differences there are: `+` only right, `-` only left, `~` changed, `>` moved",
+    },
+    Row {
+        id: "by-position",
+        takes: Takes::Flag,
+        help: "Pair items by their places, so that none moves",
+    },
+    Row {
+        id: "by",
+        takes: Takes::Keys,
+        help: "Pair items first by the values of these keys, parted by commas: `host,spec.id`",
     },
     Row {
         id: "color",
@@ -201,6 +213,7 @@ fn arg_of<'a>(alloc: Global, row: &Row) -> Result<Arg<'a>, AllocError> {
                 .value_parser(words.as_slice())
                 .default_value(words[0]),
         ),
+        Takes::Keys => Ok(arg.long(row.id).value_name("KEYS")),
         Takes::Names => arg.long(row.id).value_name("LIST").conflicts_with("FILE"),
         Takes::Digests => arg
             .long(row.id)

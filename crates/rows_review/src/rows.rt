@@ -1,7 +1,7 @@
 //! Every table of runs over two files. A test is proved and paid for, a row is not, so one goes over all tables.
 use crate::runs::{ALL, Given, run};
 use crate::{
-    differences, empty_nodes, faults, git, git_shown, ignored, places, rejected, shown, strings,
+    differences, empty_nodes, faults, git, git_shown, ignored, moves, places, rejected, shown, strings,
     tag_places, warnings,
 };
 use std::process::Abort;
@@ -37,6 +37,7 @@ fn runs_over_two_files_are_told(rt: HostRuntime) -> Result<(), Fail> {
         &differences::ROWS,
         &ignored::ROWS,
         &strings::ROWS,
+        &moves::ROWS,
         &empty_nodes::ROWS,
         &faults::SYNTAX,
         &faults::MEANINGS,

@@ -34,7 +34,7 @@ map-get f [] k x e = absurd (cc)
 map-get f (y ∷ xs) zero x e = let q : y ≡ x = cc in ap (λ z. Some (f z)) q
 map-get f (y ∷ xs) (suc k) x e = map-get f xs k x e
 
-map-end : {X Y : Type 0} (f : X → Y) (xs : List X) (x : X) → map f (xs ++ (x ∷ [])) ≡ map f xs ++ (f x ∷ [])
+pub map-end : {X Y : Type 0} (f : X → Y) (xs : List X) (x : X) → map f (xs ++ (x ∷ [])) ≡ map f xs ++ (f x ∷ [])
 map-end f [] x = refl
 map-end f (y ∷ xs) x = ap (λ z. f y ∷ z) (map-end f xs x)
 
