@@ -43,7 +43,7 @@ struct Row {
     help: &'static str,
 }
 
-const DIFF: [Row; 11] = [
+const DIFF: [Row; 13] = [
     Row {
         id: "A",
         takes: Takes::File,
@@ -238,7 +238,13 @@ struct Entry {
     rows: &'static [Row],
 }
 
-const DIFF_STATUSES: &str = "Exit status:
+const DIFF_STATUSES: &str =
+    "Items of two lists are pairs if they are equal, or by the first of these names that stands once on each side:
+  apiVersion (without its version), kind, metadata.namespace, metadata.name
+  name, id, key, alert, uid, containerPort, path (not of documents)
+Then by what they have in common, and then in turn. A pair that moved has a line `>`.
+
+Exit status:
   0  the streams are the same, or differ only at or below paths that are ignored
   1  they differ
   2  a file is rejected
