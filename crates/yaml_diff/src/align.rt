@@ -208,6 +208,11 @@ fn crossing<'g>(
     checked(alloc, &steps, (lefts.len(), rights.len()))
 }
 
+/// Whether either stream has one document: these are a pair, whatever their names are.
+fn are_lone(documents: bool, lefts: &[NodeId], rights: &[NodeId]) -> bool {
+    documents && lefts.len() == 1 && rights.len() == 1
+}
+
 /// Takes the items of two sequences for each other, as is asked.
 pub(crate) fn align<'g>(
     alloc: Global,
@@ -224,7 +229,7 @@ pub(crate) fn align<'g>(
     ensures ok { IfOk result (λ it. Aligns ranks.now lefts.now rights.now it.list.items it.moved.items) }
     ensures err { IfErr result (λ fault. fault ≡ Fault.OutOfMemory) }
 {
-    if asked.by_position {
+    if asked.by_position || are_lone(documents, lefts, rights) {
         return in_turn(alloc, ranks, lefts, rights);
     }
     match crossing(alloc, graph, ranks, lefts, rights, asked, documents)? {
