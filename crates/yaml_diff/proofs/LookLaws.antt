@@ -32,11 +32,11 @@ moved-end [] s = by (has_moved s)
     by : (b : Bool) → cond b (s.0 ∷ []) [] ≡ [] ++ cond b (s.0 ∷ []) []
     by true = refl
     by false = refl
-moved-end (x ∷ xs) s = by (has_moved x)
+moved-end (x ∷ xs) s = by (has_moved x) (moved-end xs s)
   where
-    by : (b : Bool) → cond b (x.0 ∷ moved_in (xs ++ (s ∷ []))) (moved_in (xs ++ (s ∷ []))) ≡ cond b (x.0 ∷ moved_in xs) (moved_in xs) ++ cond (has_moved s) (s.0 ∷ []) []
-    by true = ap (λ z. x.0 ∷ z) (moved-end xs s)
-    by false = moved-end xs s
+    by : (b : Bool) → moved_in (xs ++ (s ∷ [])) ≡ moved_in xs ++ cond (has_moved s) (s.0 ∷ []) [] → cond b (x.0 ∷ moved_in (xs ++ (s ∷ []))) (moved_in (xs ++ (s ∷ []))) ≡ cond b (x.0 ∷ moved_in xs) (moved_in xs) ++ cond (has_moved s) (s.0 ∷ []) []
+    by true e = ap (λ z. x.0 ∷ z) e
+    by false e = e
 
 nothing-more : {X : Type 0} (xs : List X) → xs ++ [] ≡ xs
 nothing-more [] = refl
