@@ -4,13 +4,13 @@ use Rattle.std.specs.Prelude.{Option, Some, None, Result, Ok, Err, IfOk}
 use Rattle.yaml_text.specs.declared.fault.Fault.{Fault}
 use Rattle.std.specs.List.{slice_get}
 use Rattle.std.proofs.lemmas.List.{take_more, take_all}
-use Rattle.yaml_path.specs.Ways.{Each, Stays, StayersRise, Rises, Settles, InOrder, Allows, at_places, left_place, right_place}
+use Rattle.yaml_path.specs.Ways.{Each, StayersRise, Rises, Settles, InOrder, Allows, at_places, left_place, right_place}
 use Rattle.yaml_path.specs.declared.places.Places.{Places}
 use Rattle.yaml_path.specs.declared.places.Places.TheVariants.{Both, Left, Right}
 use Rattle.yaml_pair.specs.Columns.{EachOf, Rising, Falls}
 use Rattle.yaml_diff.specs.Looks.{place_of, left_of, right_of, moves, has_moved, stayer_of, pair_left, pair_of, places_in, moved_in, IsRight, Checked}
 use Rattle.yaml_diff.proofs.ListParts.{get-map, map-get, map-end}
-use Rattle.yaml_diff.proofs.WayLaws.{some-is, none-some, below-or, one-there, both-left, both-right, no-step, taken-once}
+use Rattle.yaml_diff.proofs.WayLaws.{some-is, none-some, below-or, one-there, both-left, no-step, taken-once}
 
 abbrev Steps : Type 0
 Steps = List (Places × Bool)

@@ -1,5 +1,5 @@
 -- What is looked at of steps that were put together: places, and whether they are told to be a pair that moved.
-use Rattle.std.specs.Prelude.{◌≡◌, ◌⊎◌, ℕ, Bool, true, false, cond, List, [], ◌∷◌, map, Option, Some, None}
+use Rattle.std.specs.Prelude.{◌≡◌, ◌⊎◌, ℕ, Bool, false, cond, List, [], ◌∷◌, map, Option, Some, None}
 use Rattle.yaml_path.specs.Ways.{left_place, right_place}
 use Rattle.yaml_path.specs.declared.places.Places.{Places}
 use Rattle.yaml_path.specs.declared.places.Places.TheVariants.{Both, Left, Right}

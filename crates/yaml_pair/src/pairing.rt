@@ -12,10 +12,10 @@ use crate::steps::steps_of;
 use crate::turn::pair_in_turn;
 use crate::view::View;
 use std::alloc::Global;
-use yaml_rank::ranks::Ranks;
 use yaml_graph::graph::Graph;
 use yaml_graph::node::NodeId;
 use yaml_path::places::Places;
+use yaml_rank::ranks::Ranks;
 use yaml_text::fault::Fault;
 
 /// So many entries are looked at, however few nodes there are.

@@ -3,9 +3,9 @@ ghost use Rattle.std.specs.Prelude.{◌≡◌, length};
 ghost use Rattle.yaml_graph.specs.GraphView.{nodes_of};
 ghost use Rattle.yaml_rank.specs.RanksView.{numbers_of, sorted_of, RanksAre};
 
-use yaml_rank::ranks::Ranks;
 use yaml_graph::graph::Graph;
 use yaml_graph::node::{Node, NodeId, NodeKind};
+use yaml_rank::ranks::Ranks;
 
 /// The tag of the core schema for texts.
 const STR: &str = "tag:yaml.org,2002:str";

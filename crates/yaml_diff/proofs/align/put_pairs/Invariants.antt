@@ -1,4 +1,4 @@
-use Rattle.std.proofs.Common.{◌≡◌, ◌++◌, ◌-◌, ◌<◌, ◌≤◌}
+use Rattle.std.proofs.Common.{◌≡◌, ◌++◌, ◌-◌, ◌≤◌}
 use Rattle.yaml_path.specs.Ways.{turns}
 use Rattle.yaml_diff.specs.Looks.{places_in}
 use Rattle.yaml_diff.proofs.align.put_pairs.Given as goal

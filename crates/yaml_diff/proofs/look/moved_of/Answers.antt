@@ -1,7 +1,6 @@
-use Rattle.std.proofs.Common.{◌≡◌, ◌+◌, Bool, false, length, get_or, sym, ◌∙◌, ap, subst, arith}
+use Rattle.std.proofs.Common.{Bool, false, sym, ◌∙◌, ap}
 use Rattle.yaml_path.specs.declared.places.Places.{Places}
 use Rattle.yaml_path.specs.declared.places.Places.TheVariants.{Both}
-use Rattle.yaml_diff.specs.Looks.{moved_in}
 use Rattle.yaml_diff.proofs.LookLaws.{moved_more, moved_skip}
 use Rattle.yaml_diff.proofs.look.moved_of.Goals as goal
 use Rattle.yaml_diff.proofs.look.moved_of.Goals.{then-has_moved+in_ok-push, else-has_moved}

@@ -1,4 +1,4 @@
-use Rattle.std.proofs.Common.{◌≡◌, map, take}
+use Rattle.std.proofs.Common.{◌≡◌, take}
 use Rattle.yaml_diff.specs.Looks.{places_in}
 use Rattle.yaml_diff.proofs.look.places_of.Given as goal
 
