@@ -7,7 +7,7 @@ const CONTAINERS: &[u8] = b"- {name: a, image: x}\n- {name: b, image: y}\n- {nam
 
 const OTHERS: &[u8] = b"- {name: c, image: z}\n- {name: a, image: x}\n- {name: b, image: w}\n";
 
-pub static ROWS: [Row; 12] = [
+pub static ROWS: [Row; 13] = [
     Row {
         name: "an item that moved, and one that changed",
         words: &["diff", "left", "right"],
@@ -96,6 +96,15 @@ pub static ROWS: [Row; 12] = [
         right: b"--- x\n--- {apiVersion: apps/v1, kind: Deployment, metadata: {name: web}, spec: 2}\n",
         status: 1,
         out: "+\t0\t\t\"x\"\n~\t0:1.apiVersion\t\"apps/v1beta1\"\t\"apps/v1\"\n~\t0:1.spec\t!!int \"1\"\t!!int \"2\"\n",
+        err: "",
+    },
+    Row {
+        name: "the documents of two streams of one document, whose names differ",
+        words: NO_PLACES,
+        left: b"{apiVersion: v1, kind: Secret, metadata: {name: a}, x: 1}\n",
+        right: b"{apiVersion: v2, kind: ConfigMap, metadata: {name: b}, y: 2}\n",
+        status: 1,
+        out: "~\t.apiVersion\t\"v1\"\t\"v2\"\n~\t.kind\t\"Secret\"\t\"ConfigMap\"\n~\t.metadata.name\t\"a\"\t\"b\"\n-\t.x\t!!int \"1\"\t\n+\t.y\t\t!!int \"2\"\n",
         err: "",
     },
     Row {
