@@ -30,6 +30,8 @@ enum Takes {
     Form,
     /// Words of a file, one with each use.
     Spelled,
+    /// Keys.
+    Keys,
     /// A list of files, in place of files.
     Names,
     /// A list of digests, in place of files and of a list of them.
@@ -45,7 +47,7 @@ struct Row {
     help: &'static str,
 }
 
-const DIFF: [Row; 11] = [
+const DIFF: [Row; 13] = [
     Row {
         id: "A",
         takes: Takes::File,
@@ -84,7 +86,17 @@ const DIFF: [Row; 11] = [
     Row {
         id: "stat",
         takes: Takes::Flag,
-        help: "Print how many differences there are: `+` only right, `-` only left, `~` changed",
+        help: "Print how many differences there are: `+` only right, `-` only left, `~` changed, `>` moved",
+    },
+    Row {
+        id: "by-position",
+        takes: Takes::Flag,
+        help: "Pair items by their places, so that none moves",
+    },
+    Row {
+        id: "by",
+        takes: Takes::Keys,
+        help: "Pair items first by the values of these keys, parted by commas: `host,spec.id`",
     },
     Row {
         id: "color",
@@ -231,6 +243,7 @@ fn arg_of<'a>(alloc: Global, row: &Row) -> Result<Arg<'a>, AllocError> {
                 .value_parser(words.as_slice())
                 .default_value(words[0]),
         ),
+        Takes::Keys => Ok(arg.long(row.id).value_name("KEYS")),
         Takes::Names => arg.long(row.id).value_name("LIST").conflicts_with("FILE"),
         Takes::Digests => arg
             .long(row.id)
@@ -255,7 +268,13 @@ struct Entry {
     rows: &'static [Row],
 }
 
-const DIFF_STATUSES: &str = "Exit status:
+const DIFF_STATUSES: &str =
+    "Items of two lists are pairs if they are equal, or by the first of these names that stands once on each side:
+  apiVersion (without its version), kind, metadata.namespace, metadata.name
+  name, id, key, alert, uid, containerPort, path (not of documents)
+Then by what they have in common, and then in turn. A pair that moved has a line `>`.
+
+Exit status:
   0  the streams are the same, or differ only at or below paths that are ignored
   1  they differ
   2  a file is rejected

@@ -56,6 +56,10 @@ pub struct Diff<'a> {
     pub color: bool,
     /// Whether differences are counted, and not told.
     pub stat: bool,
+    /// Whether items are paired by their places, so that none moves.
+    pub by_position: bool,
+    /// Keys whose values name items, before other names: `spec.id,host`. Empty where none is given.
+    pub by: &'a str,
     pub ghost few: { context ≤ 1000 },
 }
 
@@ -227,6 +231,8 @@ fn diff_of<'a>(matches: &ArgMatches<'a>, is_terminal: bool) -> Diff<'a> {
         context: context_of(matches),
         color: color_of(matches, is_terminal),
         stat: matches.get_flag("stat"),
+        by_position: matches.get_flag("by-position"),
+        by: matches.get_str("by").unwrap_or(""),
     }
 }
 

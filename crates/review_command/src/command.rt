@@ -14,7 +14,6 @@ use crate::telling::{
 use crate::unread::Unread;
 use clap::Error;
 use review_args::{Asked, Sum, in_order, read_words};
-use review_compare::fault_of;
 use review_text::put_shown;
 use std::alloc::Global;
 use std::io::{Read, Write};

@@ -252,6 +252,8 @@ fn both_told<T: Files>(
         context: asked.context,
         color: asked.color,
         stat: asked.stat,
+        by_position: asked.by_position,
+        by: asked.by,
     };
     match compare_sides(alloc, &of_name, ignored, one, other) {
         Ok(compared) => {

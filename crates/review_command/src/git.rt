@@ -250,6 +250,8 @@ fn lines_of<'n>(left: &'n str, right: &'n str) -> Diff<'n> {
         context: 0,
         color: false,
         stat: false,
+        by_position: false,
+        by: "",
     }
 }
 

@@ -23,17 +23,36 @@ use review_text::text::{CUT, WHOLE, node_text};
 use std::alloc::Global;
 use yaml_diff::{Difference, Found, as_differences, stream_differences};
 use yaml_graph::node::NodeId;
+use yaml_pair::Asked;
 use yaml_place::Place;
 use yaml_text::fault::Fault;
 
+/// Keys that commas part.
+fn keys_of(alloc: Global, text: &str) -> Result<Vec<&str>, Fault>
+    ensures err { IfErr result (λ fault. fault ≡ Fault.OutOfMemory) }
+{
+    let mut keys = Vec::new(alloc);
+    for key in text.split(',') {
+        if !key.is_empty() {
+            keys.push(key)?;
+        }
+    }
+    Ok(keys)
+}
+
 /// The differences and moves of two streams, at most so many.
-pub(crate) fn list_of(alloc: Global, both: &Both<'_>, room: usize) -> Result<Found, Fault>
+pub(crate) fn list_of(alloc: Global, both: &Both<'_>, asked: &Diff<'_>, room: usize) -> Result<Found, Fault>
     requires ranked { RanksAre both.now.graph both.now.ranks }
     ensures ok { IfOk result (FindsItems both.now.graph (take both.now.documents (roots_of both.now.graph)) (drop both.now.documents (roots_of both.now.graph)) room) }
     ensures err { IfErr result (λ fault. fault ≡ Fault.OutOfMemory) }
 {
     let (lefts, rights) = both.sides();
-    stream_differences(alloc, &both.graph, &both.ranks, lefts, rights, room)
+    let by = keys_of(alloc, asked.by)?;
+    let asked = Asked {
+        by_position: asked.by_position,
+        by: &by,
+    };
+    stream_differences(alloc, &both.graph, &both.ranks, lefts, rights, asked, room)
 }
 
 /// The text of a node, if there is one.
@@ -414,7 +433,7 @@ pub fn compare(
     ensures same { IfOk result (λ told. ignored.now ≡ [] → ((told.same ≡ true) ↔ Alike (map (λ i. tree both.now.graph i.0) (take both.now.documents (roots_of both.now.graph))) (map (λ i. tree both.now.graph i.0) (drop both.now.documents (roots_of both.now.graph))))) }
 {
     let room = room_for(asked.lines);
-    let found = list_of(alloc, both, search_room(ignored, room))?;
+    let found = list_of(alloc, both, asked, search_room(ignored, room))?;
     let kept = kept(alloc, both, ignored, found, room)?;
     let same = lists_none(&kept);
     let text = told_text(alloc, both, asked, sides, &kept)?;

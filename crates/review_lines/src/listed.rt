@@ -66,7 +66,7 @@ pub fn list_differences(
     ensures same { IfOk result (λ told. ignored.now ≡ [] → ((told.same ≡ true) ↔ Alike (map (λ i. tree both.now.graph i.0) (take both.now.documents (roots_of both.now.graph))) (map (λ i. tree both.now.graph i.0) (drop both.now.documents (roots_of both.now.graph))))) }
 {
     let room = room_for(asked.lines);
-    let found = list_of(alloc, both, search_room(ignored, room))?;
+    let found = list_of(alloc, both, asked, search_room(ignored, room))?;
     let kept = kept(alloc, both, ignored, found, room)?;
     lines_listed(alloc, both, asked, sides, &kept)
 }

@@ -1,4 +1,4 @@
-//! How many differences there are.
+//! How many differences and moves there are.
 use review_args::{Diff, Form};
 use review_text::put_shown;
 use std::alloc::Global;
@@ -30,19 +30,20 @@ fn counts_of(found: &Found) -> Counts {
     counts
 }
 
-/// The line with the numbers of differences and the name of the right file; no line if there is no difference. Behind numbers that
+/// The line with the numbers of differences and moves and the name of the right file; no line if there is none. Behind numbers that
 /// are not all stands `...`.
 pub(crate) fn stat_text(alloc: Global, asked: &Diff<'_>, found: &Found) -> Result<String, Fault> {
     let mut out = String::new(alloc);
-    if asked.lines == 0 || found.list.is_empty() {
+    if asked.lines == 0 || (found.list.is_empty() && found.moves.is_empty()) {
         return Ok(out);
     }
     let counts = counts_of(found);
     let (added, removed, changed) = (counts.added, counts.removed, counts.changed);
+    let moved = found.moves.len();
     let more = if found.whole { "" } else { " ..." };
     match asked.form {
         Form::Line => {
-            write!(out, "+{added} -{removed} ~{changed}{more} ")?;
+            write!(out, "+{added} -{removed} ~{changed} >{moved}{more} ")?;
             put_shown(&mut out, asked.right)?;
             out.push('\n')?;
         }
@@ -50,7 +51,7 @@ pub(crate) fn stat_text(alloc: Global, asked: &Diff<'_>, found: &Found) -> Resul
             let whole = found.whole;
             write!(
                 out,
-                "{{\"added\":{added},\"changed\":{changed},\"kind\":\"stat\",\"removed\":{removed},\"whole\":{whole}}}\n"
+                "{{\"added\":{added},\"changed\":{changed},\"kind\":\"stat\",\"moved\":{moved},\"removed\":{removed},\"whole\":{whole}}}\n"
             )?;
         }
     }

@@ -67,7 +67,7 @@ pub static ROWS: [Row; 16] = [
         left: b"- {n: 1, m: 1}\n- x\n",
         right: b"- y\n- {n: 2, m: 1}\n- x\n",
         status: 1,
-        out: "~\t[0]\t{\"m\" : !!int \"1\", \"n\" : !!int \"1\"}\t\"y\"\n+\t[1]\t\t{\"m\" : !!int \"1\", \"n\" : !!int \"2\"}\n",
+        out: "+\t[0]\t\t\"y\"\n",
         err: "",
     },
     Row {

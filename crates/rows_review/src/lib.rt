@@ -18,6 +18,8 @@ mod hints;
 #[cfg(test)]
 mod ignored;
 #[cfg(test)]
+mod moves;
+#[cfg(test)]
 mod names;
 #[cfg(test)]
 mod places;

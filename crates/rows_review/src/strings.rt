@@ -102,7 +102,7 @@ pub static ROWS: [Row; 14] = [
         left: b"a: 1\nb: 2\n",
         right: b"a: 2\nc: 3\nd: 4\n",
         status: 1,
-        out: "+2 -1 ~1 right\n",
+        out: "+2 -1 ~1 >0 right\n",
         err: "",
     },
     Row {
@@ -111,7 +111,7 @@ pub static ROWS: [Row; 14] = [
         left: b"a: 1\nb: 2\n",
         right: b"a: 2\nb: 3\n",
         status: 1,
-        out: "+0 -0 ~1 ... right\n",
+        out: "+0 -0 ~1 >0 ... right\n",
         err: "",
     },
     Row {

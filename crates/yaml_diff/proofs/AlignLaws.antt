@@ -127,6 +127,23 @@ turns-get j k (suc n) (suc m) (suc i) a b =
 less-none : (n : ℕ) → n - 0 ≡ n
 less-none n = omega arith
 
+-- the pairs at the front of a list of three parts, and those at its back
+pub in-front : (front : ℕ) (one more two last all : List Places) → one ≡ turns 0 0 (front - 0) (front - 0) → two ≡ one ++ more → all ≡ two ++ last → (i : ℕ) → i < front → slice_get all i ≡ Some (Both i i)
+in-front front one more two last all eo et ea i l =
+    let x : slice_get (turns 0 0 (front - 0) (front - 0)) i ≡ Some (Both (0 + i) (0 + i)) = turns-get 0 0 (front - 0) (front - 0) i (omega (arith, l)) (omega (arith, l)) in
+    let z : 0 + i ≡ i = omega arith in
+    let y : slice_get one i ≡ Some (Both i i) = ap (λ v. slice_get v i) eo ∙ x ∙ ap (λ v. Some (Both v v)) z in
+    let w : slice_get two i ≡ Some (Both i i) = ap (λ v. slice_get v i) et ∙ get-more one more i (Both i i) y in
+    ap (λ v. slice_get v i) ea ∙ get-more two last i (Both i i) w
+
+pub in-back : (n m back e d : ℕ) (two all : List Places) → back ≤ n → back ≤ m → e ≡ n - back → d ≡ m - back → all ≡ two ++ turns e d (n - e) (m - d) → (i j k : ℕ) → i < back → i + suc j ≡ n → i + suc k ≡ m → slice_get all (length two + (back - suc i)) ≡ Some (Both j k)
+in-back n m back e d two all bl br ee dd ea i j k l p q =
+    let x = turns-get e d (n - e) (m - d) (back - suc i) (omega (arith, ee, bl, l)) (omega (arith, dd, br, l)) in
+    let y : e + (back - suc i) ≡ j = omega (arith, ee, bl, l, p) in
+    let z : d + (back - suc i) ≡ k = omega (arith, dd, br, l, q) in
+    let w : slice_get (turns e d (n - e) (m - d)) (back - suc i) ≡ Some (Both j k) = x ∙ ap (λ v. Some (Both v (d + (back - suc i)))) y ∙ ap (λ v. Some (Both j v)) z in
+    ap (λ v. slice_get v (length two + (back - suc i))) ea ∙ get-behind two (turns e d (n - e) (m - d)) (back - suc i) (Both j k) w
+
 -- the three parts of a list
 pub aligned : (r : Ranks) (lefts rights : List NodeId) (front back e d : ℕ) (one two all : List Places) → IsFront r lefts rights front → IsBack r lefts rights front back → e ≡ length lefts - back → d ≡ length rights - back
     → one ≡ [] ++ turns 0 0 (front - 0) (front - 0) → AlignsFrom one front front e d two → all ≡ two ++ turns e d (length lefts - e) (length rights - d) → Aligns r lefts rights all []
@@ -137,10 +154,10 @@ aligned r lefts rights front back e d one two all f b ee dd eo at ea = record {
   in_order = rising-order all (length lefts) (length rights) lefts-rise rights-rise;
   once = λ j k p x y. absurd (no-step j p x);
   front = front;
-  fronts = λ i l. (f.same i l, (i, in-front i l));
+  fronts = λ i l. (f.same i l, (i, in-front front one at.more two (turns e d (length lefts - e) (length rights - d)) all eo at.is ea i l));
   front_end = f.ends;
   back = back;
-  backs = λ i j k l m n. (b.same i j k l m n, (length two + (back - suc i), in-back i j k l m n));
+  backs = λ i j k l m n. (b.same i j k l m n, (length two + (back - suc i), in-back (length lefts) (length rights) back e d two all (omega (arith, b.left)) (omega (arith, b.right)) ee dd ea i j k l m n));
   back_end = b.ends;
 }
   where
@@ -164,22 +181,6 @@ aligned r lefts rights front back e d one two all f b ee dd eo at ea = record {
 
     rights-rise : places_by right_place all ≡ numbers 0 m
     rights-rise = ap (places_by right_place) third.is ∙ third.right ∙ ap (numbers 0) (less-none m)
-
-    in-front : (i : ℕ) → i < front → slice_get all i ≡ Some (Both i i)
-    in-front i l =
-        let x : slice_get (turns 0 0 (front - 0) (front - 0)) i ≡ Some (Both (0 + i) (0 + i)) = turns-get 0 0 (front - 0) (front - 0) i (omega (arith, l)) (omega (arith, l)) in
-        let z : 0 + i ≡ i = omega arith in
-        let y : slice_get one i ≡ Some (Both i i) = ap (λ v. slice_get v i) eo ∙ x ∙ ap (λ v. Some (Both v v)) z in
-        let w : slice_get two i ≡ Some (Both i i) = ap (λ v. slice_get v i) at.is ∙ get-more one at.more i (Both i i) y in
-        ap (λ v. slice_get v i) ea ∙ get-more two (turns e d (length lefts - e) (length rights - d)) i (Both i i) w
-
-    in-back : (i j k : ℕ) → i < back → i + suc j ≡ length lefts → i + suc k ≡ length rights → slice_get all (length two + (back - suc i)) ≡ Some (Both j k)
-    in-back i j k l p q =
-        let x = turns-get e d (length lefts - e) (length rights - d) (back - suc i) (omega (arith, ee, b.left, l)) (omega (arith, dd, b.right, l)) in
-        let y : e + (back - suc i) ≡ j = omega (arith, ee, b.left, l, p) in
-        let z : d + (back - suc i) ≡ k = omega (arith, dd, b.right, l, q) in
-        let w : slice_get (turns e d (length lefts - e) (length rights - d)) (back - suc i) ≡ Some (Both j k) = x ∙ ap (λ v. Some (Both v (d + (back - suc i)))) y ∙ ap (λ v. Some (Both j v)) z in
-        ap (λ v. slice_get v (length two + (back - suc i))) ea ∙ get-behind two (turns e d (length lefts - e) (length rights - d)) (back - suc i) (Both j k) w
 
 -- ---- equal ends
 

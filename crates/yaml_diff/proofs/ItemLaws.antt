@@ -13,7 +13,7 @@ use Rattle.yaml_rank.specs.RanksView.{RanksAre}
 use Rattle.yaml_rank.specs.declared.ranks.Ranks.{Ranks}
 use Rattle.yaml_path.specs.Path.{head, head_of, part_of, scalar_head}
 use Rattle.yaml_path.specs.Path as plain
-use Rattle.yaml_path.specs.Ways.{Each, Step, at_places, at_key, Way, Pairing, Takes, Differs, EndsPaired, SameItems, left_part, right_part, placed, left_place, right_place, numbers, count, count_in, turns, below}
+use Rattle.yaml_path.specs.Ways.{Each, Step, at_places, at_key, Way, Pairing, Takes, Differs, EndsPaired, SameItems, left_part, right_part, placed, left_place, right_place, count, count_in, turns, below}
 use Rattle.yaml_path.specs.declared.places.Places.{Places}
 use Rattle.yaml_path.specs.declared.places.Places.TheVariants.{Both}
 use Rattle.yaml_path.proofs.PathLaws.{Match, match-head, match-part}

@@ -1,45 +1,29 @@
 -- The walk of two sequences, item by item.
 use Rattle.std.proofs.Common.{◌≡◌, ℕ, zero, suc, ◌+◌, ◌-◌, ◌<◌, ◌≤◌, Bool, true, false, ◌&&◌, ◌⊎◌, List, [], ◌∷◌, ◌++◌, map, take, length, length-append, inl, inr, refl, sym, ◌∙◌, ap, subst, arith}
-use Rattle.std.specs.Prelude.{Option, Some, None, Result, Ok, Err, IfOk, Vec}
-use Rattle.std.proofs.Common.{Global}
+use Rattle.std.specs.Prelude.{Option, Some, None}
 use Rattle.std.specs.List.{slice_get}
-use Rattle.std.specs.Cow.{cow_str_bytes}
-use Rattle.std.specs.Option.{is_some}
 use Rattle.std.specs.Prelude.{nat_le}
 use Rattle.std.proofs.lemmas.Bool.{leb-true, leb-false}
 use Rattle.std.proofs.lemmas.List.{length-map}
 use Rattle.yaml_definitions.proofs.Members.{and_both}
 use Rattle.std.proofs.lemmas.Option.{slice_get_within}
 use Rattle.yaml_definitions.specs.model.Tree.{Tree}
-use Rattle.yaml_definitions.specs.model.Same.{same}
-use Rattle.yaml_definitions.proofs.Equivalence.{same_refl, same_sym, same_trans}
-use Rattle.yaml_text.specs.declared.fault.Fault.{Fault}
-use Rattle.yaml_graph.specs.GraphModel.{Entries, entries_of, items_of, node_tree, kind_tree}
-use Rattle.yaml_graph.specs.GraphView.{nodes_of, graph_trees, tree}
 use Rattle.yaml_graph.specs.declared.node.NodeId.{NodeId}
-use Rattle.yaml_graph.specs.declared.node.Node.{Node}
-use Rattle.yaml_graph.specs.declared.node.NodeKind.{NodeKind}
-use Rattle.yaml_graph.specs.declared.node.NodeKind.TheVariants as kinds
 use Rattle.yaml_graph.specs.declared.graph.Graph.{Graph}
-use Rattle.yaml_rank.specs.RanksView.{RanksAre, rank_of}
+use Rattle.yaml_rank.specs.RanksView.{RanksAre}
 use Rattle.yaml_rank.specs.declared.ranks.Ranks.{Ranks}
-use Rattle.yaml_path.specs.Path.{head, part, part_of, head_of}
-use Rattle.yaml_path.specs.Path as plain
-use Rattle.yaml_path.specs.Ways.{Step, at_places, at_key, Pairing, Allows, EndsPaired, AlikeStep, StepBefore, count, left_part, right_part, placed, left_place, right_place}
+use Rattle.yaml_path.specs.Ways.{Step, at_places, at_key, Pairing, Allows, EndsPaired, AlikeStep, StepBefore, left_part, right_part, placed, left_place, right_place}
 use Rattle.yaml_path.specs.declared.places.Places.{Places}
-use Rattle.yaml_diff.specs.declared.difference.Step.TheVariants.{Item, Value}
+use Rattle.yaml_diff.specs.declared.difference.Step.TheVariants.{Item}
 use Rattle.yaml_diff.specs.declared.difference.Found.{Found}
-use Rattle.yaml_diff.specs.Lines.{Line, line_of, trees_of, sequence_of, under}
-use Rattle.yaml_diff.specs.Moves.{MoveLine, here, move_line_of, moved_under}
-use Rattle.yaml_diff.specs.Listing.{Lists, ListsSome, PlacesBelow, EntriesBelow, LeftCovers, RightCovers}
-use Rattle.yaml_diff.specs.Found.{lines_of, moves_of, count_of, Finds, FindsItems, HasItems, HasEntries, IsValueOf, AllWithin, Within, item_of, Aligns, size, top, greater}
-use Rattle.yaml_diff.specs.Aligning.{AllRanked}
-use Rattle.yaml_diff.proofs.WayLaws.{none-part, part-like, places-is, places-self, taken-once, turn, turn-pairs, turn-settles, turn-order, calm, begin, begin-pairs, begin-moved, begin-settles, begin-order, put}
-use Rattle.yaml_diff.proofs.Lists.{add-some, lists-done, lists-none, lists-cut, some-none}
-use Rattle.yaml_diff.proofs.MoveLists.{add-own-moves, done-moves, none-moved}
-use Rattle.yaml_diff.proofs.ItemLaws.{item-here, aligned-ends, aligned-takes, match-turn, bare-nowhere}
-use Rattle.yaml_diff.proofs.KeyLaws.{key-before, right-key-before, no-ends}
-use Rattle.yaml_diff.proofs.Shapes.{items-tree, entries-tree, entry-only, entry-within, value-there, value-some, value-ranked, head-there, node-there, keys-apart}
+use Rattle.yaml_diff.specs.Lines.{Line, trees_of, sequence_of, under}
+use Rattle.yaml_diff.specs.Moves.{MoveLine, here, moved_under}
+use Rattle.yaml_diff.specs.Listing.{Lists, ListsSome, PlacesBelow}
+use Rattle.yaml_diff.specs.Found.{lines_of, moves_of, count_of, FindsItems, AllWithin, item_of, Aligns}
+use Rattle.yaml_diff.proofs.WayLaws.{places-is, places-self, taken-once, begin, begin-pairs, begin-moved, begin-settles, begin-order, put}
+use Rattle.yaml_diff.proofs.Lists.{add-some, lists-done, some-none}
+use Rattle.yaml_diff.proofs.MoveLists.{add-own-moves}
+use Rattle.yaml_diff.proofs.ItemLaws.{item-here, aligned-ends, aligned-takes}
 
 below-next : (k n : ℕ) → k < n + 1 → (k < n) ⊎ (k ≡ n)
 below-next zero zero l = inr refl

@@ -13,7 +13,7 @@ use Rattle.yaml_path.specs.Path.{head_of}
 use Rattle.yaml_path.specs.Ways.{Step, Way, Pairing, PairsAll, SettlesAll, InOrderAll, below, Allows, Differs, EndsPaired, EndsAlong, AlikeStep, alike_step, AlikeWay, StepBefore, WayBefore, left_part, right_part, left_end, right_end}
 use Rattle.yaml_diff.specs.declared.difference.Step as code
 use Rattle.yaml_diff.specs.Lines.{trees_of, step_of, Line, way_of, under, IsTold, Listed, Apart, Ordered, Begins}
-use Rattle.yaml_diff.specs.Moves.{MoveLine, moved_under, ListsMoves, ListsSomeMoves}
+use Rattle.yaml_diff.specs.Moves.{MoveLine, moved_under, ListsMoves}
 use Rattle.yaml_diff.specs.Listing.{Lists, ListsSome}
 use Rattle.yaml_text.specs.declared.fault.Fault.{Fault}
 use Rattle.yaml_diff.specs.declared.difference.Found.{Found}

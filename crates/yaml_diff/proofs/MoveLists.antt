@@ -1,18 +1,17 @@
 -- Lists of moves, as they grow.
-use Rattle.std.proofs.Common.{◌≡◌, ℕ, zero, suc, ◌+◌, ◌-◌, ◌<◌, ◌≤◌, Bool, true, false, ◌&&◌, ◌⊎◌, List, [], ◌∷◌, ◌++◌, map, take, length, inl, inr, refl, sym, ◌∙◌, ap, subst, arith}
+use Rattle.std.proofs.Common.{◌≡◌, ℕ, zero, suc, ◌+◌, ◌≤◌, Bool, true, false, ◌&&◌, ◌⊎◌, List, [], ◌∷◌, ◌++◌, map, take, length, inl, inr, refl, sym, ◌∙◌, ap, subst, arith}
 use Rattle.std.specs.Prelude.{Option, Some, None}
 use Rattle.std.specs.List.{slice_get}
-use Rattle.std.proofs.lemmas.Option.{slice_get_within}
 use Rattle.yaml_definitions.specs.model.Tree.{Tree}
 use Rattle.yaml_definitions.proofs.Members.{and_both}
 use Rattle.yaml_graph.specs.declared.graph.Graph.{Graph}
 use Rattle.yaml_graph.proofs.GraphLaws.{get-more}
 use Rattle.yaml_path.specs.Path.{head_of}
-use Rattle.yaml_path.specs.Ways.{Step, Way, Pairing, PairsAll, Settles, SettlesAll, InOrderAll, Takes, Reaches, below, Allows, EndsPaired, EndsAlong, AlikeStep, alike_step, AlikeWay, at_places, count, left_part, right_part, left_end, right_end}
+use Rattle.yaml_path.specs.Ways.{Step, Way, Pairing, PairsAll, Settles, SettlesAll, InOrderAll, Takes, Reaches, Allows, EndsPaired, EndsAlong, AlikeStep, alike_step, AlikeWay, at_places, count, left_part, right_part, left_end, right_end}
 use Rattle.yaml_path.specs.declared.places.Places.{Places}
 use Rattle.yaml_path.specs.declared.places.Places.TheVariants.{Both}
 use Rattle.yaml_diff.specs.declared.difference.Step as code
-use Rattle.yaml_diff.specs.Lines.{step_of, Line, way_of, under, Begins}
+use Rattle.yaml_diff.specs.Lines.{step_of, Line, way_of, Begins}
 use Rattle.yaml_diff.specs.Moves.{MoveLine, here, moved_under, IsMoved, MoveListed, MovesApart, ListsMoves, ListsSomeMoves}
 use Rattle.yaml_diff.proofs.ListParts.{get-nth, get-side, get-map, map-get, way-under, way-back, cross}
 use Rattle.yaml_diff.proofs.WayLaws.{not-so, step-self, step-back, left-alike, right-alike, none-left, turn, calm, turn-settles, turn-order, put, put-same, put-other, put-settles, put-order}

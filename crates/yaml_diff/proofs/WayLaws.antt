@@ -9,7 +9,7 @@ use Rattle.yaml_definitions.proofs.Members.{and_both, both_and}
 use Rattle.yaml_definitions.proofs.Equivalence.{same_refl, same_sym, same_like}
 use Rattle.yaml_path.specs.Path.{part, part_of, head_of, value_in}
 use Rattle.yaml_path.specs.Path as plain
-use Rattle.yaml_path.specs.Ways.{Step, at_places, at_key, Way, Pairing, below, Each, Takes, PairsAll, Allows, Rises, Settles, InOrder, SettlesAll, InOrderAll, Differs, left_place, right_place, placed, left_part, right_part, left_end, right_end, put_before, places_by, numbers, count, turns, alike_places, alike_step, AlikeStep}
+use Rattle.yaml_path.specs.Ways.{Step, at_places, at_key, Way, Pairing, below, Each, Takes, PairsAll, Rises, Settles, InOrder, SettlesAll, InOrderAll, Differs, left_place, right_place, placed, left_part, right_part, left_end, right_end, put_before, places_by, numbers, count, turns, alike_places, alike_step, AlikeStep}
 use Rattle.yaml_path.specs.declared.places.Places.{Places}
 use Rattle.yaml_path.specs.declared.places.Places.TheVariants.{Both, Left, Right}
 

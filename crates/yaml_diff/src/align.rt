@@ -1,13 +1,17 @@
 //! Which items of two sequences are taken for each other.
-ghost use Rattle.std.specs.Prelude.{◌≡◌, ◌≤◌, ◌-◌, ◌++◌, IfOk, IfErr, OnOk};
+ghost use Rattle.std.specs.Prelude.{◌≡◌, ◌≤◌, ◌-◌, ◌++◌, IfOk, IfErr, IfSome, OnOk};
 ghost use Rattle.yaml_path.specs.Ways.{turns};
-ghost use Rattle.yaml_rank.specs.RanksView.{numbers_of};
+ghost use Rattle.yaml_rank.specs.RanksView.{numbers_of, RanksAre};
 ghost use Rattle.yaml_diff.specs.Found.{Aligns};
 ghost use Rattle.yaml_diff.specs.Aligning.{AllRanked, IsFront, IsBack, AlignsFrom};
+ghost use Rattle.yaml_diff.specs.Looks.{places_in, moved_in, IsRight, Checked};
 
 use crate::anchors::anchors;
+use crate::look::{Step, are_right, moved_of, places_of};
 use std::alloc::Global;
+use yaml_graph::graph::Graph;
 use yaml_graph::node::NodeId;
+use yaml_pair::{Asked, middle};
 use yaml_path::places::Places;
 use yaml_rank::ranks::Ranks;
 use yaml_text::fault::Fault;
@@ -107,7 +111,7 @@ fn take_anchors(
 /// Takes the items of two sequences for each other: equal ends, between them the items that stand once on either side as far
 /// as their places rise on both, and the rest in turn.
 #[tactic(auto, using(crate::proofs::AlignLaws::aligned))]
-pub(crate) fn align(
+fn in_turn(
     alloc: Global,
     ranks: &Ranks,
     lefts: &[NodeId],
@@ -130,4 +134,106 @@ pub(crate) fn align(
         list,
         moved: Vec::new(alloc),
     })
+}
+
+/// Takes the items from these places up to those for each other, of which there are equally many on both sides.
+#[tactic(auto, using(crate::proofs::CrossLaws::pair_step, crate::proofs::AlignLaws::turns_done))]
+fn put_pairs(steps: &mut Vec<Step>, from: (usize, usize), to: (usize, usize)) -> Result<(), Fault>
+    requires left { from.0 ≤ to.0 }
+    requires right { from.1 ≤ to.1 }
+    requires level { to.0 - from.0 ≡ to.1 - from.1 }
+    ensures ok { OnOk result (places_in steps.new.items ≡ places_in steps.old.items ++ turns from.0 from.1 (to.0 - from.0) (to.1 - from.1)) }
+    ensures err { IfErr result (λ fault. fault ≡ Fault.OutOfMemory) }
+{
+    let (mut left, mut right) = from;
+    while left < to.0 && right < to.1 {
+        steps.push((Places::Both(left, right), false))?;
+        left += 1;
+        right += 1;
+    }
+    Ok(())
+}
+
+/// Adds steps.
+fn put_steps(steps: &mut Vec<Step>, more: &[Step]) -> Result<(), Fault>
+    ensures ok { OnOk result (steps.new.items ≡ steps.old.items ++ more.now) }
+    ensures err { IfErr result (λ fault. fault ≡ Fault.OutOfMemory) }
+{
+    for step in more {
+        steps.push(*step)?;
+    }
+    Ok(())
+}
+
+/// The steps as places, if they are right.
+#[tactic(auto, using(crate::proofs::LookLaws::checked_is))]
+fn checked(alloc: Global, steps: &[Step], lens: (usize, usize)) -> Result<Option<Aligned>, Fault>
+    ensures ok { IfOk result (λ it. IfSome it (λ a. Checked steps.now a.list.items a.moved.items lens.0 lens.1)) }
+    ensures err { IfErr result (λ fault. fault ≡ Fault.OutOfMemory) }
+{
+    let moved = moved_of(alloc, steps)?;
+    if !are_right(alloc, steps, &moved, lens)? {
+        return Ok(None);
+    }
+    let list = places_of(alloc, steps)?;
+    Ok(Some(Aligned { list, moved }))
+}
+
+/// Takes the items of two sequences for each other: equal ends, and between them those that belong together by their names or by what
+/// they have in common. What was put together is looked at.
+fn crossing<'g>(
+    alloc: Global,
+    graph: &'g Graph<'g>,
+    ranks: &'g Ranks,
+    lefts: &[NodeId],
+    rights: &[NodeId],
+    asked: Asked<'_>,
+    documents: bool,
+) -> Result<Option<Aligned>, Fault>
+    requires ranked { RanksAre graph.now ranks.now }
+    requires left { AllRanked ranks.now lefts.now }
+    requires right { AllRanked ranks.now rights.now }
+    ensures ok { IfOk result (λ it. IfSome it (λ a. Aligns ranks.now lefts.now rights.now a.list.items a.moved.items)) }
+    ensures err { IfErr result (λ fault. fault ≡ Fault.OutOfMemory) }
+{
+    let front = equal_front(ranks, lefts, rights);
+    let back = equal_back(ranks, lefts, rights, front);
+    let ends = (lefts.len() - back, rights.len() - back);
+    let between = (&lefts[front..ends.0], &rights[front..ends.1]);
+    let middle = middle(alloc, graph, ranks, between, front, asked, documents)?;
+    let mut steps = Vec::new(alloc);
+    put_pairs(&mut steps, (0, 0), (front, front))?;
+    put_steps(&mut steps, &middle)?;
+    put_pairs(&mut steps, ends, (lefts.len(), rights.len()))?;
+    checked(alloc, &steps, (lefts.len(), rights.len()))
+}
+
+/// Whether either stream has one document: these are a pair, whatever their names are.
+fn are_lone(documents: bool, lefts: &[NodeId], rights: &[NodeId]) -> bool {
+    documents && lefts.len() == 1 && rights.len() == 1
+}
+
+/// Takes the items of two sequences for each other, as is asked.
+pub(crate) fn align<'g>(
+    alloc: Global,
+    graph: &'g Graph<'g>,
+    ranks: &'g Ranks,
+    lefts: &[NodeId],
+    rights: &[NodeId],
+    asked: Asked<'_>,
+    documents: bool,
+) -> Result<Aligned, Fault>
+    requires ranked { RanksAre graph.now ranks.now }
+    requires left { AllRanked ranks.now lefts.now }
+    requires right { AllRanked ranks.now rights.now }
+    ensures ok { IfOk result (λ it. Aligns ranks.now lefts.now rights.now it.list.items it.moved.items) }
+    ensures err { IfErr result (λ fault. fault ≡ Fault.OutOfMemory) }
+{
+    if asked.by_position || are_lone(documents, lefts, rights) {
+        return in_turn(alloc, ranks, lefts, rights);
+    }
+    match crossing(alloc, graph, ranks, lefts, rights, asked, documents)? {
+        Some(aligned) => Ok(aligned),
+        None => in_turn(alloc, ranks, lefts, rights),
+    }
 }

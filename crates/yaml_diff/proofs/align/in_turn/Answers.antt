@@ -2,7 +2,7 @@ use Rattle.std.proofs.Common.{◌-◌, ◌++◌, length, refl, sym, ◌∙◌, a
 use Rattle.yaml_diff.specs.Found.{Aligns}
 use Rattle.yaml_path.specs.Ways.{turns}
 use Rattle.yaml_diff.proofs.AlignLaws.{aligned}
-use Rattle.yaml_diff.proofs.align.align.Goals as goal
+use Rattle.yaml_diff.proofs.align.in_turn.Goals as goal
 
 pub returns-clause-ok : goal.returns-clause-ok
 returns-clause-ok c =

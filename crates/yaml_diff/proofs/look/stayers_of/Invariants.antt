@@ -1,0 +1,6 @@
+use Rattle.std.proofs.Common.{◌≡◌, map, take}
+use Rattle.yaml_diff.specs.Looks.{stayer_of}
+use Rattle.yaml_diff.proofs.look.stayers_of.Given as goal
+
+abbrev pub invariant-loop-step : goal.invariant-loop-step
+invariant-loop-step l = l.list.items ≡ map stayer_of (take l.step-index l.steps)

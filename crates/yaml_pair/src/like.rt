@@ -1,0 +1,175 @@
+//! Items that have much in common.
+ghost use Rattle.std.specs.Prelude.{◌≡◌, IfErr};
+
+use crate::partners::{Partners, is_free};
+use crate::view::View;
+use std::alloc::Global;
+use yaml_graph::node::NodeId;
+use yaml_text::fault::Fault;
+
+/// An entry that more items of a side have says nothing.
+const WIDE: usize = 32;
+
+/// An entry of a mapping by the ranks of its key and value, or an item of a sequence by its rank and how many equal ones stand before it.
+type Entry = (usize, usize, usize);
+
+/// Adds the items of a sequence.
+fn put_items(
+    alloc: Global,
+    view: View<'_>,
+    item: NodeId,
+    place: usize,
+    all: &mut Vec<(Entry, usize)>,
+) -> Result<(), Fault>
+    ensures err { IfErr result (λ fault. fault ≡ Fault.OutOfMemory) }
+{
+    let mut ranks = Vec::new(alloc);
+    for part in view.items(item) {
+        ranks.push(view.rank(*part))?;
+    }
+    ranks.sort_unstable();
+    for (index, rank) in ranks.iter().enumerate() {
+        let start = ranks.partition_point(|it| *it < *rank);
+        all.push(((0, *rank, index.saturating_sub(start)), place))?;
+    }
+    Ok(())
+}
+
+/// The entries of the items in no pair, in order, each with the place of its item.
+fn entries(
+    alloc: Global,
+    view: View<'_>,
+    items: &[NodeId],
+    places: &[Option<usize>],
+) -> Result<Vec<(Entry, usize)>, Fault>
+    ensures err { IfErr result (λ fault. fault ≡ Fault.OutOfMemory) }
+{
+    let mut all = Vec::new(alloc);
+    for (place, item) in items.iter().enumerate() {
+        if is_free(places, place) {
+            for (key, value) in view.entries(*item) {
+                all.push(((1, view.rank(*key), view.rank(*value)), place))?;
+            }
+            put_items(alloc, view, *item, place, &mut all)?;
+        }
+    }
+    all.sort_unstable();
+    Ok(all)
+}
+
+/// Where an entry stands in a list of entries in order: from this index on, and up to that one.
+fn range_of(all: &[(Entry, usize)], entry: Entry) -> (usize, usize) {
+    let start = all.partition_point(|it| it.0 < entry);
+    let end = all.partition_point(|it| it.0 <= entry);
+    (start, end)
+}
+
+/// For each entry of a left item that both sides have and few items do, the place of the item and the range of the entry on the right.
+fn links(
+    alloc: Global,
+    lefts: &[(Entry, usize)],
+    rights: &[(Entry, usize)],
+) -> Result<Vec<(usize, usize, usize)>, Fault>
+    ensures err { IfErr result (λ fault. fault ≡ Fault.OutOfMemory) }
+{
+    let mut links = Vec::new(alloc);
+    for (entry, left) in lefts {
+        let here = range_of(lefts, *entry);
+        let there = range_of(rights, *entry);
+        let is_shared = there.0 < there.1;
+        let are_few = here.1.saturating_sub(here.0) <= WIDE
+            && there.1.saturating_sub(there.0) <= WIDE;
+        if is_shared && are_few {
+            links.push((*left, there.0, there.1))?;
+        }
+    }
+    links.sort_unstable();
+    Ok(links)
+}
+
+/// Two items with what they have in common: first the pairs with most of it, then those that stand nearest.
+type Likeness = (usize, usize, usize, usize);
+
+/// Adds the items of the right that have at least half of the entries of the longer of the two, of those that a left item shares entries with.
+fn put_alike(
+    view: View<'_>,
+    lefts: &[NodeId],
+    rights: &[NodeId],
+    left: usize,
+    near: &[usize],
+    alike: &mut Vec<Likeness>,
+) -> Result<(), Fault>
+    ensures err { IfErr result (λ fault. fault ≡ Fault.OutOfMemory) }
+{
+    for (index, right) in near.iter().enumerate() {
+        let start = near.partition_point(|it| *it < *right);
+        let end = near.partition_point(|it| *it <= *right);
+        if index != start {
+            continue;
+        }
+        if let Some(first) = lefts.get(left)
+            && let Some(second) = rights.get(*right)
+        {
+            let count = end.saturating_sub(start);
+            let longer = view.count(*first).max(view.count(*second));
+            if count.saturating_mul(2) >= longer && view.are_collections(*first, *second) {
+                let rest = usize::MAX.saturating_sub(count);
+                alike.push((rest, left.abs_diff(*right), left, *right))?;
+            }
+        }
+    }
+    Ok(())
+}
+
+/// All pairs of items that have enough in common.
+fn all_alike(
+    alloc: Global,
+    view: View<'_>,
+    lefts: &[NodeId],
+    rights: &[NodeId],
+    links: &[(usize, usize, usize)],
+    entries: &[(Entry, usize)],
+) -> Result<Vec<Likeness>, Fault>
+    ensures err { IfErr result (λ fault. fault ≡ Fault.OutOfMemory) }
+{
+    let mut alike = Vec::new(alloc);
+    let mut near = Vec::new(alloc);
+    let mut current = 0;
+    for (left, start, end) in links {
+        if *left != current {
+            near.sort_unstable();
+            put_alike(view, lefts, rights, current, &near, &mut alike)?;
+            near.clear();
+            current = *left;
+        }
+        if let Some(range) = entries.get(*start..*end) {
+            for (_, right) in range {
+                near.push(*right)?;
+            }
+        }
+    }
+    near.sort_unstable();
+    put_alike(view, lefts, rights, current, &near, &mut alike)?;
+    Ok(alike)
+}
+
+/// Pairs items of one kind and tag by their equal entries.
+pub(crate) fn pair_alike(
+    alloc: Global,
+    view: View<'_>,
+    lefts: &[NodeId],
+    rights: &[NodeId],
+    partners: &mut Partners,
+) -> Result<(), Fault>
+    ensures err { IfErr result (λ fault. fault ≡ Fault.OutOfMemory) }
+{
+    let left = entries(alloc, view, lefts, &partners.lefts)?;
+    let right = entries(alloc, view, rights, &partners.rights)?;
+    let links = links(alloc, &left, &right)?;
+    let mut alike = all_alike(alloc, view, lefts, rights, &links, &right)?;
+    alike.sort_unstable();
+    for (_, _, left, right) in &alike {
+        partners.take(*left, *right);
+    }
+    Ok(())
+}

@@ -1,0 +1,85 @@
+//! The items of two lists between their equal ends.
+ghost use Rattle.std.specs.Prelude.{◌≡◌, IfErr};
+ghost use Rattle.yaml_rank.specs.RanksView.{RanksAre};
+
+use crate::asked::Asked;
+use crate::equal::pair_equal;
+use crate::like::pair_alike;
+use crate::names::{Groups, columns, pair_named};
+use crate::partners::Partners;
+use crate::stay::stayers;
+use crate::steps::steps_of;
+use crate::turn::pair_in_turn;
+use crate::view::View;
+use std::alloc::Global;
+use yaml_graph::graph::Graph;
+use yaml_graph::node::NodeId;
+use yaml_path::places::Places;
+use yaml_rank::ranks::Ranks;
+use yaml_text::fault::Fault;
+
+/// So many entries are looked at, however few nodes there are.
+const ENTRIES: usize = 1_048_576;
+
+/// How many entries the items of both lists have together.
+fn weight(view: View<'_>, sides: (&[NodeId], &[NodeId])) -> usize {
+    let mut sum: usize = 0;
+    for item in sides.0 {
+        sum = sum.saturating_add(view.count(*item));
+    }
+    for item in sides.1 {
+        sum = sum.saturating_add(view.count(*item));
+    }
+    sum
+}
+
+/// The pairs of two lists that stand behind equal ends of this length, and their single items, in the order of the right list: steps,
+/// each with whether it is a pair that moved. Equal items that stand equally often are pairs, then those of one name, then those that have
+/// much in common, and then, between pairs that stay, those that stand in turn. There are no steps where aliases and equal parts
+/// repeat so much that the items have more than 1,048,576 entries, and more than twice as many as there are nodes.
+pub fn middle<'g>(
+    alloc: Global,
+    graph: &'g Graph<'g>,
+    ranks: &'g Ranks,
+    sides: (&[NodeId], &[NodeId]),
+    first: usize,
+    asked: Asked<'_>,
+    documents: bool,
+) -> Result<Vec<(Places, bool)>, Fault>
+    requires ranked { RanksAre graph.now ranks.now }
+    ensures err { IfErr result (λ fault. fault ≡ Fault.OutOfMemory) }
+{
+    let view = View::new(graph, ranks);
+    let (lefts, rights) = sides;
+    if weight(view, sides) > view.len().saturating_mul(2).max(ENTRIES) {
+        return Ok(Vec::new(alloc));
+    }
+    let mut groups = Groups::none(alloc);
+    let columns = columns(alloc, asked, documents)?;
+    let mut partners = Partners::none(alloc, lefts.len(), rights.len())?;
+    pair_equal(alloc, view, lefts, rights, &mut partners)?;
+    pair_named(
+        alloc,
+        view,
+        &mut groups,
+        lefts,
+        rights,
+        &columns,
+        &mut partners,
+    )?;
+    pair_alike(alloc, view, lefts, rights, &mut partners)?;
+    let pairs = partners.pairs(alloc)?;
+    let stay = stayers(alloc, &pairs, rights.len())?;
+    pair_in_turn(
+        alloc,
+        view,
+        &mut groups,
+        &columns,
+        sides,
+        &stay,
+        &mut partners,
+    )?;
+    let pairs = partners.pairs(alloc)?;
+    let stay = stayers(alloc, &pairs, rights.len())?;
+    steps_of(alloc, &partners, &stay, first)
+}

@@ -1,0 +1,133 @@
+//! Items in turn, between pairs that stay.
+ghost use Rattle.std.specs.Prelude.{◌≡◌, IfErr};
+
+use crate::names::{Column, Groups, own_name};
+use crate::partners::{Name, Partners, is_free};
+use crate::view::View;
+use std::alloc::Global;
+use yaml_graph::node::NodeId;
+use yaml_text::fault::Fault;
+
+/// How many items of the right an item of the left looks at.
+const LOOKS: usize = 64;
+
+/// An item in no pair: its place, its node and its own name.
+type Single = (usize, NodeId, Option<Name>);
+
+/// The items in no pair, in order.
+fn singles<'g>(
+    alloc: Global,
+    view: View<'g>,
+    groups: &mut Groups<'g>,
+    columns: &[Column<'_>],
+    items: &[NodeId],
+    places: &[Option<usize>],
+) -> Result<Vec<Single>, Fault>
+    ensures err { IfErr result (λ fault. fault ≡ Fault.OutOfMemory) }
+{
+    let mut list = Vec::new(alloc);
+    for (place, item) in items.iter().enumerate() {
+        if is_free(places, place) {
+            let name = own_name(view, groups, *item, columns)?;
+            list.push((place, *item, name))?;
+        }
+    }
+    Ok(list)
+}
+
+/// Whether two mappings have at least half of the keys of the longer in common; others have nothing to compare.
+fn share_keys(view: View<'_>, left: NodeId, right: NodeId) -> bool {
+    if !view.is_mapping(left) || !view.is_mapping(right) {
+        return true;
+    }
+    let (lefts, rights) = (view.entries(left), view.entries(right));
+    let longer = lefts.len().max(rights.len());
+    let shorter = lefts.len().min(rights.len());
+    if shorter == 0 {
+        return true;
+    }
+    if shorter.saturating_mul(2) < longer {
+        return false;
+    }
+    let mut count: usize = 0;
+    for (key, _) in lefts {
+        let rank = view.rank(*key);
+        if rights
+            .binary_search_by_key(&rank, |it| view.rank(it.0))
+            .is_ok()
+        {
+            count = count.saturating_add(1);
+        }
+    }
+    count.saturating_mul(2) >= longer
+}
+
+/// Whether the names of two items differ.
+fn names_differ(left: Option<Name>, right: Option<Name>) -> bool {
+    match (left, right) {
+        (Some(left), Some(right)) => left != right,
+        _ => false,
+    }
+}
+
+/// The place in the list, from this one on, of the first item that a left item is paired with.
+fn fitting(view: View<'_>, left: Single, rights: &[Single], from: usize) -> Option<usize> {
+    for step in 0..=LOOKS {
+        let at = from.saturating_add(step);
+        let right = rights.get(at)?;
+        if !names_differ(left.2, right.2) && share_keys(view, left.1, right.1) {
+            return Some(at);
+        }
+    }
+    None
+}
+
+/// Pairs the items of one gap, of both of which the places rise.
+fn pair_gap(view: View<'_>, lefts: &[Single], rights: &[Single], partners: &mut Partners) {
+    let mut from = 0;
+    for left in lefts {
+        if let Some(at) = fitting(view, *left, rights, from)
+            && let Some(right) = rights.get(at)
+        {
+            partners.take(left.0, right.0);
+            from = at.saturating_add(1);
+        }
+    }
+}
+
+/// The items of a list whose places stand behind the one and before the other.
+fn gap_of(list: &[Single], from: usize, to: usize) -> &[Single] {
+    let start = list.partition_point(|it| it.0 < from);
+    let end = list.partition_point(|it| it.0 < to);
+    match list.get(start..end) {
+        Some(gap) => gap,
+        None => &[],
+    }
+}
+
+/// Pairs the items in no pair, between pairs that stay, in turn.
+pub(crate) fn pair_in_turn<'g>(
+    alloc: Global,
+    view: View<'g>,
+    groups: &mut Groups<'g>,
+    columns: &[Column<'_>],
+    sides: (&[NodeId], &[NodeId]),
+    stay: &[(usize, usize)],
+    partners: &mut Partners,
+) -> Result<(), Fault>
+    ensures err { IfErr result (λ fault. fault ≡ Fault.OutOfMemory) }
+{
+    let lefts = singles(alloc, view, groups, columns, sides.0, &partners.lefts)?;
+    let rights = singles(alloc, view, groups, columns, sides.1, &partners.rights)?;
+    let mut from = (0, 0);
+    for pair in stay {
+        let left = gap_of(&lefts, from.0, pair.0);
+        let right = gap_of(&rights, from.1, pair.1);
+        pair_gap(view, left, right, partners);
+        from = (pair.0.saturating_add(1), pair.1.saturating_add(1));
+    }
+    let left = gap_of(&lefts, from.0, usize::MAX);
+    let right = gap_of(&rights, from.1, usize::MAX);
+    pair_gap(view, left, right, partners);
+    Ok(())
+}
