@@ -1,7 +1,9 @@
 //! The command `diff`.
-ghost use Rattle.std.specs.Prelude.{◌≡◌, ◌<◌, ◌-◌, ◌^◌, cond, IfOk};
+ghost use Rattle.std.specs.Prelude.{◌≡◌, ◌<◌, ◌-◌, ◌^◌, ℕ, List, Option, cond, IfOk, IfErr};
 ghost use Rattle.yaml_text.specs.CountedModel.{faults_of};
 ghost use Rattle.review_command.specs.Diffs.{DiffTells};
+ghost use Rattle.review_command.specs.Named.{AreNamed};
+ghost use Rattle.review_command.specs.Rejections.{AreNotBoth, Refuses, DiffRefuses};
 
 use crate::both::compare_sides;
 use crate::files::{NotBoth, read_both};
@@ -42,12 +44,16 @@ fn status_of(same: bool) -> u8
 }
 
 /// What reading a file gave, with its name.
-fn named<'n>(name: &'n str, answer: &'n Result<Vec<u8>, Unread>) -> Named<'n> {
+fn named<'n>(name: &'n str, answer: &'n Result<Vec<u8>, Unread>) -> Named<'n>
+    ensures { (result.name.now ≡ name.now) × (result.answer.now ≡ answer.now) }
+{
     Named { name, answer }
 }
 
 /// Why two files are not both read.
-fn not_read(alloc: Global, asked: &Diff<'_>, none: NotBoth) -> Result<NoDiff, Fault> {
+fn not_read(alloc: Global, asked: &Diff<'_>, none: NotBoth) -> Result<NoDiff, Fault>
+    ensures { (holds : List ℕ → Option (List ℕ)) → (rest : Option (List ℕ)) → AreNotBoth holds rest asked.now.left.now asked.now.right.now none.entry → IfOk result (Refuses holds rest asked.now) }
+{
     let (left, right) = match none {
         NotBoth::OneInput => return Ok(NoDiff::OneInput),
         NotBoth::Unread(left, right) => (left, right),
@@ -66,7 +72,9 @@ fn not_compared(
     left: Vec<u8>,
     right: Vec<u8>,
     refused: (Side, Fault),
-) -> Result<NoDiff, Fault> {
+) -> Result<NoDiff, Fault>
+    ensures { (holds : List ℕ → Option (List ℕ)) → (rest : Option (List ℕ)) → AreNamed holds rest asked.now.left.now asked.now.right.now left.entry.items right.entry.items → IfOk result (Refuses holds rest asked.now) }
+{
     let (left, right) = (Ok(left), Ok(right));
     let mut text = String::new(alloc);
     let first = named(asked.left, &left);
@@ -88,6 +96,7 @@ pub fn diff<S: Shelf, R: Read, W: Write>(
 ) -> Result<u8, NoDiff>
     requires { faults_of out.old < 2 ^ 64 - 1 }
     ensures tells { IfOk result (DiffTells (S.holds shelf.now) (R.remaining input.old) W.contents asked.now ignored.now out.old out.new) }
+    ensures refuses { IfErr result (DiffRefuses (S.holds shelf.now) (R.remaining input.old) W.contents asked.now ignored.now out.old out.new) }
 {
     let (left, right) = match read_both(shelf, alloc, asked.left, asked.right, input) {
         Ok(both) => both,
