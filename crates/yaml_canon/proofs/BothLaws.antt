@@ -12,10 +12,10 @@ use Rattle.yaml_graph.specs.declared.node.NodeId.{NodeId}
 use Rattle.yaml_graph.specs.declared.graph.Graph.{Graph}
 use Rattle.yaml_store.specs.StoreModel.{parts_at}
 use Rattle.yaml_store.specs.StoreGrows.{trees_of}
-use Rattle.yaml_store_composer.specs.Reached.{UnfoldTo}
-use Rattle.yaml_store_composer.specs.declared.size.StreamSize.{StreamSize}
-use Rattle.yaml_store_composer.specs.ComposerModel.{AllAt, AreForests}
-use Rattle.yaml_store_composer.specs.declared.composer.Forest.{Forest}
+use Rattle.yaml_tree_builder.specs.Reached.{UnfoldTo}
+use Rattle.yaml_tree_builder.specs.declared.size.StreamSize.{StreamSize}
+use Rattle.yaml_tree_builder.specs.BuilderModel.{AllAt, AreForests}
+use Rattle.yaml_tree_builder.specs.declared.builder.Forest.{Forest}
 use Rattle.yaml_canon.specs.Read.{HasRoots}
 use Rattle.yaml_canon.specs.Both.{HasBoth}
 use Rattle.yaml_canon.proofs.ForestLaws.{roots-are}

@@ -18,8 +18,8 @@ use Rattle.yaml_sink.specs.declared.sink.Sink.{Sink}
 use Rattle.yaml_sink.specs.declared.sink.Sink.TheVariants.{Kept}
 use Rattle.yaml_store.specs.StoreModel.{parts_at}
 use Rattle.yaml_store.specs.StoreGrows.{trees_of}
-use Rattle.yaml_store_composer.specs.ComposerModel.{AllAt}
-use Rattle.yaml_store_composer.specs.declared.composer.Forest.{Forest}
+use Rattle.yaml_tree_builder.specs.BuilderModel.{AllAt}
+use Rattle.yaml_tree_builder.specs.declared.builder.Forest.{Forest}
 use Rattle.yaml_canon.specs.Read.{Takes, HasForest, root_trees}
 
 -- what is put into a sink that is a keeper

@@ -23,9 +23,9 @@ use Rattle.yaml_store.specs.StoreGrows.{Good, tags_of, trees_of}
 use Rattle.yaml_store.specs.StoreView.{view_of}
 use Rattle.yaml_store_rank.specs.Refused.{RefusesStore}
 use Rattle.yaml_store.proofs.Growing.{trees-count}
-use Rattle.yaml_store_composer.specs.ComposerModel.{IsForest, AreForests}
-use Rattle.yaml_store_composer.specs.declared.composer.Forest.{Forest}
-use Rattle.yaml_store_composer.proofs.HoldableLaws.{closed-holdable}
+use Rattle.yaml_tree_builder.specs.BuilderModel.{IsForest, AreForests}
+use Rattle.yaml_tree_builder.specs.declared.builder.Forest.{Forest}
+use Rattle.yaml_tree_builder.proofs.HoldableLaws.{closed-holdable}
 use Rattle.yaml_canon.specs.RefusedRanks.{IsInStream, RefusesRanks, RefusesBothRanks}
 use Rattle.yaml_canon.proofs.AcceptLaws.{same-trees}
 

@@ -17,8 +17,8 @@ use Rattle.yaml_store.specs.StoreView.{tree_of}
 use Rattle.yaml_store_rank.specs.StoreRanks.{StoreRanked}
 use Rattle.yaml_store_rank.specs.Walked.{ranks_of, RanksTaken}
 use Rattle.yaml_store.proofs.Growing.{trees-count}
-use Rattle.yaml_store_composer.specs.ComposerModel.{AllAt}
-use Rattle.yaml_store_composer.specs.declared.composer.Forest.{Forest}
+use Rattle.yaml_tree_builder.specs.BuilderModel.{AllAt}
+use Rattle.yaml_tree_builder.specs.declared.builder.Forest.{Forest}
 use Rattle.yaml_canon.specs.declared.ranks.RankedForest.{RankedForest}
 use Rattle.yaml_definitions.specs.model.Means.{Means}
 use Rattle.yaml_canon.specs.Read.{HasForest, HasRoots, root_trees}

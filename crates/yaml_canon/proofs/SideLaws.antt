@@ -13,8 +13,8 @@ use Rattle.yaml_graph.specs.declared.graph.Graph.{Graph}
 use Rattle.yaml_graph.proofs.GraphLaws.{trees-length}
 use Rattle.yaml_graph.specs.Closing.{stream_trees}
 use Rattle.yaml_graph.specs.Composed.{Composed}
-use Rattle.yaml_store_composer.specs.Reached.{UnfoldTo}
-use Rattle.yaml_store_composer.specs.declared.size.StreamSize.{StreamSize}
+use Rattle.yaml_tree_builder.specs.Reached.{UnfoldTo}
+use Rattle.yaml_tree_builder.specs.declared.size.StreamSize.{StreamSize}
 use Rattle.yaml_text.specs.declared.side.Side.{Side}
 use Rattle.yaml_text.specs.declared.side.Side.TheVariants.{Left, Right}
 use Rattle.yaml_canon.specs.Claims.{IsRead, GraphRefuses}

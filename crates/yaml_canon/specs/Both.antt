@@ -4,8 +4,8 @@ use Rattle.yaml_definitions.specs.model.Tree.{Tree}
 use Rattle.yaml_definitions.specs.model.Means.{Means}
 use Rattle.yaml_definitions.specs.model.Serial.{Document}
 use Rattle.yaml_graph.specs.GraphModel.{AreLow}
-use Rattle.yaml_store_composer.specs.Reached.{UnfoldTo}
-use Rattle.yaml_store_composer.specs.ComposerModel.{AreForests}
+use Rattle.yaml_tree_builder.specs.Reached.{UnfoldTo}
+use Rattle.yaml_tree_builder.specs.BuilderModel.{AreForests}
 use Rattle.yaml_canon.specs.Claims.{IsRead}
 use Rattle.yaml_canon.specs.Read.{HasRoots}
 use Rattle.yaml_canon.specs.Ranks.{RanksOf}

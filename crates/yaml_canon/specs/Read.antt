@@ -10,8 +10,8 @@ use Rattle.yaml_text.specs.declared.chars.Chars.{Chars}
 use Rattle.yaml_sink.specs.Held.{Puts}
 use Rattle.yaml_store.specs.StoreModel.{parts_at}
 use Rattle.yaml_store.specs.StoreGrows.{Good, IsLow, trees_of}
-use Rattle.yaml_store_composer.specs.ComposerModel.{AllAt, IsForest}
-use Rattle.yaml_store_composer.specs.declared.composer.Forest.{Forest}
+use Rattle.yaml_tree_builder.specs.BuilderModel.{AllAt, IsForest}
+use Rattle.yaml_tree_builder.specs.declared.builder.Forest.{Forest}
 
 -- The bytes are this text, perhaps behind a byte order mark.
 pub record IsSource (bytes : List ℕ) (source : Chars) : Type 0 where

@@ -13,9 +13,10 @@ use crate::two::Two;
 use std::alloc::Global;
 use yaml_graph::graph::Graph;
 use yaml_sink::sink::Keeper;
-use yaml_store_composer::{Composing, Forest, StreamSize};
+use yaml_store_composer::Composing;
 use yaml_text::Side;
 use yaml_text::fault::Fault;
+use yaml_tree_builder::{Forest, StreamSize};
 
 /// The nodes of two streams: the roots of the left one, and then those of the right one.
 #[derive(Drop)]

@@ -17,9 +17,10 @@ ghost use Rattle.yaml_canon.specs.Refused.{Refuses};
 use std::alloc::Global;
 use yaml_read::read_into;
 use yaml_sink::sink::{Keeper, Sink};
-use yaml_store_composer::{Composing, Forest};
+use yaml_store_composer::Composing;
 use yaml_text::chars::Chars;
 use yaml_text::fault::Fault;
+use yaml_tree_builder::Forest;
 
 /// What keeps the events that a text is read to, behind those that it had. Want of memory may be the keeper's; each other fault is
 /// the reader's.

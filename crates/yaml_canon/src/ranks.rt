@@ -2,7 +2,7 @@
 ghost use Rattle.std.specs.Prelude.{List, IfOk, IfErr};
 ghost use Rattle.yaml_definitions.specs.model.Serial.{Document};
 ghost use Rattle.yaml_definitions.specs.model.Tree.{Tree};
-ghost use Rattle.yaml_store_composer.specs.ComposerModel.{IsForest, AreForests};
+ghost use Rattle.yaml_tree_builder.specs.BuilderModel.{IsForest, AreForests};
 ghost use Rattle.yaml_canon.specs.Read.{HasRoots};
 ghost use Rattle.yaml_canon.specs.Ranks.{RanksOf, HasRanks};
 ghost use Rattle.yaml_canon.specs.Claims.{CanonicalRefuses};
@@ -11,9 +11,9 @@ ghost use Rattle.yaml_canon.specs.RefusedRanks.{IsInStream, RefusesRanks, Refuse
 
 use crate::forest::forest_of;
 use std::alloc::Global;
-use yaml_store_composer::Forest;
 use yaml_store_rank::{Ranked, compact_rank};
 use yaml_text::fault::Fault;
+use yaml_tree_builder::Forest;
 
 /// The ranked nodes of a stream, and the ranks of its documents' roots.
 #[derive(Drop)]

@@ -1,4 +1,4 @@
--- What a composer was told, as the log grows.
+-- What a builder was told, as the log grows.
 use Rattle.std.proofs.Common.{◌≡◌, ℕ, ◌+◌, ◌≤◌, List, [], ◌∷◌, ◌++◌, length, reverse, refl, sym, ◌∙◌, ap, subst, arith, append_assoc, length-append}
 use Rattle.std.specs.Prelude.{Option, Some, None, Bool, false}
 use Rattle.std.proofs.lemmas.List.{reverse-append}
@@ -9,19 +9,19 @@ use Rattle.yaml_sink.specs.PropertyRules.{props_of, with_props, dressed}
 use Rattle.yaml_sink.specs.declared.properties.Properties.{Properties}
 use Rattle.yaml_store.specs.declared.nodes.Collection.{Collection}
 use Rattle.yaml_store.specs.declared.nodes.Collection.TheVariants as kinds
-use Rattle.yaml_store_composer.specs.Nodes.{AreNodes}
-use Rattle.yaml_store_composer.specs.ComposerModel.{start_of, end_of}
-use Rattle.yaml_store_composer.specs.JudgedModel.{Judges, Takes}
-use Rattle.yaml_store_composer.specs.ComposerLog.{SettlesAlone, SettlesKey, IsOneAnchor, HasOwnTag, keyed}
-use Rattle.yaml_store_composer.specs.AheadModel.{settled, start_above, IsStart, IsStartIn, IsOpen, IsWhole, Since, OpensTold, Held, OverTold, EndedTold, TellsOf, Tells, IsPaid, GoesOn}
-use Rattle.yaml_store_composer.specs.declared.ahead.Above.{Above}
-use Rattle.yaml_store_composer.specs.declared.judged.Judged.{Judged}
-use Rattle.yaml_store_composer.specs.declared.ahead.Begun.{Begun}
-use Rattle.yaml_store_composer.specs.declared.ahead.Ahead.{Ahead}
-use Rattle.yaml_store_composer.proofs.AheadLaws.{start-with, start-in-with}
-use Rattle.yaml_store_composer.proofs.JudgedLaws.{judges-rest}
-use Rattle.yaml_store_composer.proofs.NodeLaws.{no-nodes, aside-start, aside-end, aside-document, nodes-both, collection-node}
-use Rattle.yaml_store_composer.proofs.WaitingLaws.{split-ends}
+use Rattle.yaml_tree_builder.specs.Nodes.{AreNodes}
+use Rattle.yaml_tree_builder.specs.BuilderModel.{start_of, end_of}
+use Rattle.yaml_tree_builder.specs.JudgedModel.{Judges, Takes}
+use Rattle.yaml_tree_builder.specs.BuilderLog.{SettlesAlone, SettlesKey, IsOneAnchor, HasOwnTag, keyed}
+use Rattle.yaml_store_composer.specs.PendingModel.{settled, start_above, IsStart, IsStartIn, IsOpen, IsWhole, Since, OpensTold, Held, OverTold, EndedTold, TellsOf, Tells, IsPaid, GoesOn}
+use Rattle.yaml_store_composer.specs.declared.pending.Above.{Above}
+use Rattle.yaml_tree_builder.specs.declared.judged.Judged.{Judged}
+use Rattle.yaml_store_composer.specs.declared.pending.Begun.{Begun}
+use Rattle.yaml_store_composer.specs.declared.pending.PendingProperties.{PendingProperties}
+use Rattle.yaml_store_composer.proofs.PendingLaws.{start-with, start-in-with}
+use Rattle.yaml_tree_builder.proofs.JudgedLaws.{judges-rest}
+use Rattle.yaml_tree_builder.proofs.NodeLaws.{no-nodes, aside-start, aside-end, aside-document, nodes-both, collection-node}
+use Rattle.yaml_store_composer.proofs.BufferLaws.{split-ends}
 
 -- ---- whole nodes behind the others
 
@@ -129,7 +129,7 @@ since-paid I O b c start p log es told w l s =
       outside_is = s.outside_is;
     }
 
--- the mark at the first event of a collection that ended, of whose end the composer was not told
+-- the mark at the first event of a collection that ended, of whose end the builder was not told
 held-at : (O : List Event → List Event → Type 0) (b : Begun) (above : Above) (start : ℕ) (log es told : List Event) → b.at ≡ start → start ≡ length log → (h : Held O b above (log ++ es) told) → AtMark h.since.front (h.since.first ∷ (h.since.rest ++ (end_of above.kind ∷ []))) log es
 held-at O b above start log es told at l h =
     let s = h.since in
@@ -157,14 +157,14 @@ dressed-length : (p : Props) (es : List Event) → length (dressed p es) ≡ len
 dressed-length p [] = refl
 dressed-length p (e ∷ es) = refl
 
--- ---- what the composer is told
+-- ---- what the builder is told
 
 -- nothing is put down yet
 pub tells-none : (j : Judged) (ended : Option Begun) (opens : List Begun) → ended ≡ None → opens ≡ [] → Judges j [] → TellsOf j ended (reverse opens) 0 []
 tells-none j ended opens n e f = rw (n, e) (record { told = []; is = refl; judges = f; size = refl })
 
 -- nothing is due to a collection that ended
-pub goes-on : (a : Ahead) (b : Begun) → a.ended ≡ Some b → b.due ≡ None → b.above ≡ None → GoesOn a (record a { ended = None })
+pub goes-on : (a : PendingProperties) (b : Begun) → a.ended ≡ Some b → b.due ≡ None → b.above ≡ None → GoesOn a (record a { ended = None })
 goes-on a b e n v = record {
   none = refl;
   tells = λ log t.
@@ -174,7 +174,7 @@ goes-on a b e n v = record {
       record { told = t.told; is = folded b bs log t.told n v s; judges = t.judges; size = t.size };
 }
 
-pub goes-on-none : (a : Ahead) → a.ended ≡ None → GoesOn a a
+pub goes-on-none : (a : PendingProperties) → a.ended ≡ None → GoesOn a a
 goes-on-none a n = record { none = n; tells = λ log t. t }
 
 opens-told : (j : Judged) (ended : Option Begun) (opens : List Begun) (early : ℕ) (log : List Event) → ended ≡ None → (t : TellsOf j ended opens early log) → OpensTold opens log t.told
@@ -191,8 +191,8 @@ tells-node old new ended opens early at number e n p q k log l t =
       size = omega (arith, t.size, length-append log (e ∷ []), length-append t.told (e ∷ []));
     }
 
--- events of which the composer is not told
-pub tells-rest : (a : Ahead) (log : List Event) → a.ended ≡ None → Tells a log → Tells a (log ++ (stream_start ∷ [])) × Tells a (log ++ (stream_end ∷ [])) × ((explicit : Bool) → Tells a (log ++ (document_end explicit ∷ [])))
+-- events of which the builder is not told
+pub tells-rest : (a : PendingProperties) (log : List Event) → a.ended ≡ None → Tells a log → Tells a (log ++ (stream_start ∷ [])) × Tells a (log ++ (stream_end ∷ [])) × ((explicit : Bool) → Tells a (log ++ (document_end explicit ∷ [])))
 tells-rest a log n t =
     let bs = reverse a.opens.items in
     let f = judges-rest a.judged t.told t.judges in
@@ -331,7 +331,7 @@ tells-before old new after opens more b d early start number m kind flow a g log
 
 -- ---- a collection of which it was not known whether it is a key
 
--- with what properties the composer was told of it
+-- with what properties the builder was told of it
 record Own (d : Option Properties) (k : Collection) (e : Event) (flow : Bool) : Type 0 where
   own : Props
   is : settled d e ≡ start_of k flow own.anchor own.tag
@@ -345,7 +345,7 @@ own-of (Some f) k e w = record {
   given = λ g q. let same : f ≡ g = cc in ap props_of same;
 }
 
--- What the composer was told, where the mark stands at the collection's first event.
+-- What the builder was told, where the mark stands at the collection's first event.
 record HeldSo (O : List Event → List Event → Type 0) (b : Begun) (above : Above) (start early : ℕ) (log es told : List Event) : Type 0 where
   front : List Event
   before : List Event

@@ -5,42 +5,42 @@ use Rattle.yaml_definitions.specs.model.Event.{Event, stream_start, stream_end, 
 use Rattle.yaml_definitions.specs.grammar.Events.{Props}
 use Rattle.yaml_sink.specs.Held.{Keeps, Puts, Alters}
 use Rattle.yaml_sink.specs.PropertyRules.{dressed}
-use Rattle.yaml_store_composer.specs.AheadModel.{Tells, GoesOn}
-use Rattle.yaml_store_composer.specs.WaitingModel.{waits, Precedes, DressesWaits, ComposesWaits}
+use Rattle.yaml_store_composer.specs.PendingModel.{Tells, GoesOn}
+use Rattle.yaml_store_composer.specs.BufferModel.{waits, Precedes, DressesWaits, ComposesWaits}
 use Rattle.yaml_store_composer.specs.KeeperModel.{ComposesBut, Composes, MakesRoom, CountsOn, DressesOne}
-use Rattle.yaml_store_composer.specs.declared.ahead.Ahead.{Ahead}
+use Rattle.yaml_store_composer.specs.declared.pending.PendingProperties.{PendingProperties}
 use Rattle.yaml_store_composer.specs.declared.keeper.Composing.{Composing}
-use Rattle.yaml_store_composer.proofs.WaitingLaws.{split-ends}
+use Rattle.yaml_store_composer.proofs.BufferLaws.{split-ends}
 use Rattle.yaml_store_composer.proofs.DueLaws.{tells-rest}
 
 -- nothing was put down
-pub composes-start : (k : Composing) → k.count ≡ 0 → waits k.waiting ≡ [] → Tells k.ahead [] → Composes k []
+pub composes-start : (k : Composing) → k.count ≡ 0 → waits k.buffer ≡ [] → Tells k.pending [] → Composes k []
 composes-start k n w t = record { count = n; is = λ g. record { front = []; split = sym w; tells = t } }
 
 -- what waited is composed
-pub all-composed : (k : Composing) (log : List Event) (ahead : Ahead) → Composes k log → k.is_void ≡ false → ComposesWaits k.count (waits k.waiting) k.ahead ahead → Tells ahead log
-all-composed k log ahead h g c =
+pub all-composed : (k : Composing) (log : List Event) (pending : PendingProperties) → Composes k log → k.is_void ≡ false → ComposesWaits k.count (waits k.buffer) k.pending pending → Tells pending log
+all-composed k log pending h g c =
     let b = h.is g in
-    subst (Tells ahead) (sym b.split) (c.is b.front (h.count ∙ ap length b.split) b.tells)
+    subst (Tells pending) (sym b.split) (c.is b.front (h.count ∙ ap length b.split) b.tells)
 
-pub makes-room : (k new : Composing) → k.is_void ≡ false → new.is_void ≡ false → ComposesWaits k.count (waits k.waiting) k.ahead new.ahead → waits new.waiting ≡ [] → new.count ≡ k.count + 1 → MakesRoom k new
-makes-room k new g f c w n = record { count = n; is_void = f; none = w; tells = λ log h. all-composed k log new.ahead h g c }
+pub makes-room : (k new : Composing) → k.is_void ≡ false → new.is_void ≡ false → ComposesWaits k.count (waits k.buffer) k.pending new.pending → waits new.buffer ≡ [] → new.count ≡ k.count + 1 → MakesRoom k new
+makes-room k new g f c w n = record { count = n; is_void = f; none = w; tells = λ log h. all-composed k log new.pending h g c }
 
 -- what waited is composed, and nothing is known of what ended then
-pub goes-on : (n : ℕ) (es : List Event) (a b d : Ahead) → ComposesWaits n es a b → GoesOn b d → ComposesWaits n es a d
+pub goes-on : (n : ℕ) (es : List Event) (a b d : PendingProperties) → ComposesWaits n es a b → GoesOn b d → ComposesWaits n es a d
 goes-on n es a b d c g = record { is = λ log l t. g.tells (log ++ es) (c.is log l t) }
 
 -- what waited is composed, and the log is the same
-pub settles : (k new : Composing) → k.is_void ≡ false → ComposesWaits k.count (waits k.waiting) k.ahead new.ahead → waits new.waiting ≡ [] → new.count ≡ k.count → Keeps Composes k new
+pub settles : (k new : Composing) → k.is_void ≡ false → ComposesWaits k.count (waits k.buffer) k.pending new.pending → waits new.buffer ≡ [] → new.count ≡ k.count → Keeps Composes k new
 settles k new g c w n = record {
   is = λ log h. record {
     count = n ∙ h.count;
-    is = λ f. record { front = log; split = sym (append-nil log) ∙ ap (λ z. log ++ z) (sym w); tells = all-composed k log new.ahead h g c };
+    is = λ f. record { front = log; split = sym (append-nil log) ∙ ap (λ z. log ++ z) (sym w); tells = all-composed k log new.pending h g c };
   };
 }
 
 -- an event waits
-pub puts-waiting : (old room new : Composing) (e : Event) → MakesRoom old room → new.ahead ≡ room.ahead → new.count ≡ room.count → waits new.waiting ≡ e ∷ [] → Puts Composes old (e ∷ []) new
+pub puts-waiting : (old room new : Composing) (e : Event) → MakesRoom old room → new.pending ≡ room.pending → new.count ≡ room.count → waits new.buffer ≡ e ∷ [] → Puts Composes old (e ∷ []) new
 puts-waiting old room new e r a n w = record {
   is = λ log h. record {
     count = omega (arith, n, r.count, h.count, length-append log (e ∷ []));
@@ -49,7 +49,7 @@ puts-waiting old room new e r a n w = record {
 }
 
 -- an event is composed at once
-pub puts-told : (old room new : Composing) (e : Event) → MakesRoom old room → Puts Tells room.ahead (e ∷ []) new.ahead → new.count ≡ room.count → waits new.waiting ≡ [] → Puts Composes old (e ∷ []) new
+pub puts-told : (old room new : Composing) (e : Event) → MakesRoom old room → Puts Tells room.pending (e ∷ []) new.pending → new.count ≡ room.count → waits new.buffer ≡ [] → Puts Composes old (e ∷ []) new
 puts-told old room new e r p n w = record {
   is = λ log h. record {
     count = omega (arith, n, r.count, h.count, length-append log (e ∷ []));
@@ -58,7 +58,7 @@ puts-told old room new e r p n w = record {
 }
 
 -- and it is the one of this number
-pub puts-numbered : (old room new : Composing) (e : Event) → MakesRoom old room → ((log : List Event) → old.count ≡ length log → Tells room.ahead log → Tells new.ahead (log ++ (e ∷ []))) → new.count ≡ room.count → waits new.waiting ≡ [] → Puts Composes old (e ∷ []) new
+pub puts-numbered : (old room new : Composing) (e : Event) → MakesRoom old room → ((log : List Event) → old.count ≡ length log → Tells room.pending log → Tells new.pending (log ++ (e ∷ []))) → new.count ≡ room.count → waits new.buffer ≡ [] → Puts Composes old (e ∷ []) new
 puts-numbered old room new e r p n w = record {
   is = λ log h. record {
     count = omega (arith, n, r.count, h.count, length-append log (e ∷ []));
@@ -67,30 +67,30 @@ puts-numbered old room new e r p n w = record {
 }
 
 -- nothing is known of what ended
-pub passes : (old mid new : Composing) → MakesRoom old mid → GoesOn mid.ahead new.ahead → new.count ≡ mid.count → new.is_void ≡ mid.is_void → waits new.waiting ≡ [] → MakesRoom old new
+pub passes : (old mid new : Composing) → MakesRoom old mid → GoesOn mid.pending new.pending → new.count ≡ mid.count → new.is_void ≡ mid.is_void → waits new.buffer ≡ [] → MakesRoom old new
 passes old mid new r g n f w = record { count = n ∙ r.count; is_void = f ∙ r.is_void; none = w; tells = λ log h. g.tells log (r.tells log h) }
 
--- an event of which the composer is not told
-puts-rest : (old room : Composing) (e : Event) → MakesRoom old room → ((log : List Event) → Tells room.ahead log → Tells room.ahead (log ++ (e ∷ []))) → Puts Composes old (e ∷ []) room
+-- an event of which the builder is not told
+puts-rest : (old room : Composing) (e : Event) → MakesRoom old room → ((log : List Event) → Tells room.pending log → Tells room.pending (log ++ (e ∷ []))) → Puts Composes old (e ∷ []) room
 puts-rest old room e r t = puts-told old room room e r (record { is = t }) refl r.none
 
-pub puts-stream-start : (old room : Composing) → MakesRoom old room → room.ahead.ended ≡ None → Puts Composes old (stream_start ∷ []) room
-puts-stream-start old room r n = puts-rest old room stream_start r (λ log t. (tells-rest room.ahead log n t).0)
+pub puts-stream-start : (old room : Composing) → MakesRoom old room → room.pending.ended ≡ None → Puts Composes old (stream_start ∷ []) room
+puts-stream-start old room r n = puts-rest old room stream_start r (λ log t. (tells-rest room.pending log n t).0)
 
-pub puts-stream-end : (old room : Composing) → MakesRoom old room → room.ahead.ended ≡ None → Puts Composes old (stream_end ∷ []) room
-puts-stream-end old room r n = puts-rest old room stream_end r (λ log t. (tells-rest room.ahead log n t).1)
+pub puts-stream-end : (old room : Composing) → MakesRoom old room → room.pending.ended ≡ None → Puts Composes old (stream_end ∷ []) room
+puts-stream-end old room r n = puts-rest old room stream_end r (λ log t. (tells-rest room.pending log n t).1)
 
-pub puts-document-end : (old room : Composing) (explicit : Bool) → MakesRoom old room → room.ahead.ended ≡ None → Puts Composes old (document_end explicit ∷ []) room
-puts-document-end old room explicit r n = puts-rest old room (document_end explicit) r (λ log t. (tells-rest room.ahead log n t).2 explicit)
+pub puts-document-end : (old room : Composing) (explicit : Bool) → MakesRoom old room → room.pending.ended ≡ None → Puts Composes old (document_end explicit ∷ []) room
+puts-document-end old room explicit r n = puts-rest old room (document_end explicit) r (λ log t. (tells-rest room.pending log n t).2 explicit)
 
 -- a mapping's start waits, too
-pub inserts : (old new : Composing) (start : ℕ) (flow : Bool) → old.is_void ≡ false → old.count - start ≡ 1 → new.count ≡ old.count + 1 → new.ahead ≡ old.ahead → Precedes flow (waits old.waiting) (waits new.waiting)
+pub inserts : (old new : Composing) (start : ℕ) (flow : Bool) → old.is_void ≡ false → old.count - start ≡ 1 → new.count ≡ old.count + 1 → new.pending ≡ old.pending → Precedes flow (waits old.buffer) (waits new.buffer)
     → Alters Composes start (λ es. mapping_start flow None untagged ∷ es) old new
 inserts old new start flow g d n a p = record {
   is = λ log es s h.
       let b = h.is g in
-      let size : length es ≡ length (waits old.waiting) = omega (arith, h.count, length-append log es, s, d, p.one) in
-      let r = split-ends log es b.front (waits old.waiting) b.split size in
+      let size : length es ≡ length (waits old.buffer) = omega (arith, h.count, length-append log es, s, d, p.one) in
+      let r = split-ends log es b.front (waits old.buffer) b.split size in
       let m = mapping_start flow None untagged in
       record {
         count = omega (arith, n, h.count, length-append log es, length-append log (m ∷ es));
@@ -99,14 +99,14 @@ inserts old new start flow g d n a p = record {
 }
 
 -- a mapping's start is put before a collection that ended
-pub inserts-ended : (old new : Composing) (start : ℕ) (flow : Bool) → old.is_void ≡ false → waits old.waiting ≡ [] → new.waiting ≡ old.waiting → new.count ≡ old.count + 1 → Alters Tells start (λ es. mapping_start flow None untagged ∷ es) old.ahead new.ahead
+pub inserts-ended : (old new : Composing) (start : ℕ) (flow : Bool) → old.is_void ≡ false → waits old.buffer ≡ [] → new.buffer ≡ old.buffer → new.count ≡ old.count + 1 → Alters Tells start (λ es. mapping_start flow None untagged ∷ es) old.pending new.pending
     → Alters Composes start (λ es. mapping_start flow None untagged ∷ es) old new
 inserts-ended old new start flow g w v n a = record {
   is = λ log es s h.
       let b = h.is g in
       let whole : log ++ es ≡ b.front = b.split ∙ (ap (λ z. b.front ++ z) w ∙ append-nil b.front) in
       let fs = mapping_start flow None untagged ∷ es in
-      let told = a.is log es s (subst (Tells old.ahead) (sym whole) b.tells) in
+      let told = a.is log es s (subst (Tells old.pending) (sym whole) b.tells) in
       record {
         count = omega (arith, n, h.count, length-append log es, length-append log fs);
         is = λ f. record { front = log ++ fs; split = sym (append-nil (log ++ fs)) ∙ ap (λ z. (log ++ fs) ++ z) (sym (ap waits v ∙ w)); tells = told };
@@ -124,21 +124,21 @@ pub dresses-none : (k : Composing) (start : ℕ) (p : Props) → k.count ≤ sta
 dresses-none k start p l = record {
   is = λ log es s h g.
       let none : es ≡ [] = no-more es (omega (arith, l, s, h.count, length-append log es)) in
-      subst (ComposesBut k.ahead (waits k.waiting)) (ap (λ z. log ++ z) none ∙ ap (λ z. log ++ dressed p z) (sym none)) (h.is g);
+      subst (ComposesBut k.pending (waits k.buffer)) (ap (λ z. log ++ z) none ∙ ap (λ z. log ++ dressed p z) (sym none)) (h.is g);
 }
 
 -- a collection that ended gets what was due
-pub dresses-ended : (old new : Composing) (start : ℕ) (p : Props) → new.is_void ≡ old.is_void → waits old.waiting ≡ [] → new.waiting ≡ old.waiting → Alters Tells start (dressed p) old.ahead new.ahead → DressesOne old start p new
+pub dresses-ended : (old new : Composing) (start : ℕ) (p : Props) → new.is_void ≡ old.is_void → waits old.buffer ≡ [] → new.buffer ≡ old.buffer → Alters Tells start (dressed p) old.pending new.pending → DressesOne old start p new
 dresses-ended old new start p f w v a = record {
   is = λ log es s h g.
       let b = h.is (sym f ∙ g) in
       let whole : log ++ es ≡ b.front = b.split ∙ (ap (λ z. b.front ++ z) w ∙ append-nil b.front) in
-      let told = a.is log es s (subst (Tells old.ahead) (sym whole) b.tells) in
+      let told = a.is log es s (subst (Tells old.pending) (sym whole) b.tells) in
       record { front = log ++ dressed p es; split = sym (append-nil (log ++ dressed p es)) ∙ ap (λ z. (log ++ dressed p es) ++ z) (sym (ap waits v ∙ w)); tells = told };
 }
 
 -- an event that waits does
-pub dresses-waiting : (old new : Composing) (start count : ℕ) (p : Props) → new.is_void ≡ old.is_void → count ≡ old.count - start → new.ahead ≡ old.ahead → DressesWaits count p (waits old.waiting) (waits new.waiting) → DressesOne old start p new
+pub dresses-waiting : (old new : Composing) (start count : ℕ) (p : Props) → new.is_void ≡ old.is_void → count ≡ old.count - start → new.pending ≡ old.pending → DressesWaits count p (waits old.buffer) (waits new.buffer) → DressesOne old start p new
 dresses-waiting old new start count p f n a d = record {
   is = λ log es s h g.
       let b = h.is (sym f ∙ g) in

@@ -3,21 +3,21 @@ use Rattle.std.specs.Prelude.{◌≡◌, ℕ, ◌+◌, true, false, List, [], �
 use Rattle.yaml_definitions.specs.model.Event.{Event}
 use Rattle.yaml_definitions.specs.grammar.Events.{Props}
 use Rattle.yaml_sink.specs.PropertyRules.{dressed}
-use Rattle.yaml_store_composer.specs.AheadModel.{Tells}
-use Rattle.yaml_store_composer.specs.WaitingModel.{waits}
-use Rattle.yaml_store_composer.specs.declared.ahead.Ahead.{Ahead}
+use Rattle.yaml_store_composer.specs.PendingModel.{Tells}
+use Rattle.yaml_store_composer.specs.BufferModel.{waits}
+use Rattle.yaml_store_composer.specs.declared.pending.PendingProperties.{PendingProperties}
 use Rattle.yaml_store_composer.specs.declared.keeper.Composing.{Composing}
 
--- The composer was told of all events of a log but those at its end, which wait.
-pub record ComposesBut (ahead : Ahead) (waiting : List Event) (log : List Event) : Type 0 where
+-- The builder was told of all events of a log but those at its end, which wait.
+pub record ComposesBut (pending : PendingProperties) (waiting : List Event) (log : List Event) : Type 0 where
   pub front : List Event
   pub split : log ≡ front ++ waiting
-  pub tells : Tells ahead front
+  pub tells : Tells pending front
 
 -- These events are composed, or wait; nothing but how many they are, where what is composed no longer counts.
 pub record Composes (k : Composing) (log : List Event) : Type 0 where
   pub count : k.count ≡ length log
-  pub is : k.is_void ≡ false → ComposesBut k.ahead (waits k.waiting) log
+  pub is : k.is_void ≡ false → ComposesBut k.pending (waits k.buffer) log
 
 -- ---- what calls do
 
@@ -25,8 +25,8 @@ pub record Composes (k : Composing) (log : List Event) : Type 0 where
 pub record MakesRoom (before after : Composing) : Type 0 where
   pub count : after.count ≡ before.count + 1
   pub is_void : after.is_void ≡ false
-  pub none : waits after.waiting ≡ []
-  pub tells : (log : List Event) → Composes before log → Tells after.ahead log
+  pub none : waits after.buffer ≡ []
+  pub tells : (log : List Event) → Composes before log → Tells after.pending log
 
 -- One event more is counted, and not composed.
 pub record CountsOn (before after : Composing) : Type 0 where
@@ -35,4 +35,4 @@ pub record CountsOn (before after : Composing) : Type 0 where
 
 -- An event gets properties.
 pub record DressesOne (before : Composing) (start : ℕ) (p : Props) (after : Composing) : Type 0 where
-  pub is : (log es : List Event) → start ≡ length log → Composes before (log ++ es) → after.is_void ≡ false → ComposesBut after.ahead (waits after.waiting) (log ++ dressed p es)
+  pub is : (log es : List Event) → start ≡ length log → Composes before (log ++ es) → after.is_void ≡ false → ComposesBut after.pending (waits after.buffer) (log ++ dressed p es)

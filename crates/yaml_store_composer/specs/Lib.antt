@@ -1,12 +1,3 @@
-pub mod Reached
-pub mod Nodes
-pub mod TagModel
-pub mod AnchorsModel
-pub mod FirstsModel
-pub mod ComposerModel
-pub mod ComposerLog
-pub mod Refusals
-pub mod JudgedModel
-pub mod AheadModel
-pub mod WaitingModel
+pub mod PendingModel
+pub mod BufferModel
 pub mod KeeperModel

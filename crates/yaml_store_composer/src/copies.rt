@@ -5,7 +5,7 @@ ghost use Rattle.std.specs.Option.{option_map};
 ghost use Rattle.std.specs.Cow.{cow_str_bytes};
 ghost use Rattle.yaml_text.specs.EventModel.{written_of};
 ghost use Rattle.yaml_sink.specs.PropertyRules.{props_of};
-ghost use Rattle.yaml_store_composer.specs.ComposerLog.{IsOneAnchor, HasOwnTag};
+ghost use Rattle.yaml_tree_builder.specs.BuilderLog.{IsOneAnchor, HasOwnTag};
 
 use std::alloc::Global;
 use std::borrow::CowStr;

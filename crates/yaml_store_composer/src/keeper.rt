@@ -8,15 +8,13 @@ ghost use Rattle.yaml_text.specs.declared.fault.Fault.TheVariants.{OutOfMemory};
 ghost use Rattle.yaml_sink.specs.Held.{Keeps, Puts, Alters};
 ghost use Rattle.yaml_sink.specs.PropertyRules.{props_of};
 ghost use Rattle.yaml_sink.specs.SinkModel.{start_of, end_of};
-ghost use Rattle.yaml_store_composer.specs.Reached.{UnfoldTo};
-ghost use Rattle.yaml_store_composer.specs.ComposerModel.{IsForest, AreForests};
+ghost use Rattle.yaml_tree_builder.specs.Reached.{UnfoldTo};
+ghost use Rattle.yaml_tree_builder.specs.BuilderModel.{IsForest, AreForests};
 ghost use Rattle.yaml_store_composer.specs.KeeperModel.{Composes, MakesRoom, CountsOn, DressesOne};
 ghost use Rattle.yaml_graph.specs.Composed.{RefusesStream};
 
-use crate::ahead::Ahead;
-use crate::composer::Forest;
-use crate::size::StreamSize;
-use crate::waiting::{Late, Waiting};
+use crate::event_buffer::{Buffered, EventBuffer};
+use crate::pending::PendingProperties;
 use std::alloc::Global;
 use std::borrow::CowStr;
 use std::mem;
@@ -25,6 +23,7 @@ use yaml_sink::sink::{Collection, Keeper};
 use yaml_store::no_memory::NoMemory;
 use yaml_text::event::{Event, Style};
 use yaml_text::fault::Fault;
+use yaml_tree_builder::{Forest, StreamSize};
 
 /// A scalar's text, or an alias's name, of more bytes than this is not copied while it waits.
 const LONG: usize = 4096;
@@ -44,8 +43,8 @@ pub struct Composing<'s> {
     alloc: Global,
     /// The text of which long contents and properties may be parts.
     lent: &'s str,
-    ahead: Ahead<'s>,
-    waiting: Waiting<'s>,
+    pending: PendingProperties<'s>,
+    buffer: EventBuffer<'s>,
     /// The properties of the collection that follows, if they are known: those on its line, or else those on lines above.
     announced: Option<Properties<'s>>,
     /// Those on lines above, where those on its line are known, too.
@@ -61,12 +60,12 @@ impl<'s> Composing<'s> {
     pub fn new(alloc: Global, lent: &'s str) -> Result<Composing<'s>, NoMemory>
         ensures { IfOk result (λ keeper. Composes keeper []) }
     {
-        let ahead = Ahead::new(alloc, lent)?;
+        let pending = PendingProperties::new(alloc, lent)?;
         Ok(Composing {
             alloc,
             lent,
-            ahead,
-            waiting: Waiting::new(alloc),
+            pending,
+            buffer: EventBuffer::new(alloc),
             announced: None,
             above: None,
             count: 0,
@@ -81,8 +80,8 @@ impl<'s> Composing<'s> {
         if self.is_void {
             return Err(NoMemory);
         }
-        self.waiting
-            .compose(self.alloc, &mut self.ahead, self.count)?;
+        self.buffer
+            .compose(self.alloc, &mut self.pending, self.count)?;
         let Some(count) = self.count.checked_add(1) else {
             return Err(NoMemory);
         };
@@ -110,8 +109,8 @@ impl<'s> Composing<'s> {
     {
         self.make_room()?;
         self.announced = None;
-        self.waiting
-            .put(self.alloc, Late::Scalar(style), text, offset)?;
+        self.buffer
+            .put(self.alloc, Buffered::Scalar(style), text, offset)?;
         Ok(())
     }
 
@@ -127,8 +126,7 @@ impl<'s> Composing<'s> {
     {
         self.make_room()?;
         self.announced = None;
-        self.waiting
-            .put_long(self.alloc, self.lent, Late::Scalar(style), text, offset)?;
+        self.buffer.put_long(self.alloc, self.lent, Buffered::Scalar(style), text, offset)?;
         Ok(())
     }
 
@@ -140,11 +138,11 @@ impl<'s> Composing<'s> {
         self.announced = None;
         if name.len() > LONG {
             let mut text = CowStr::Borrowed(name);
-            self.waiting
-                .put_long(self.alloc, self.lent, Late::Alias, &mut text, offset)?;
+            self.buffer
+                .put_long(self.alloc, self.lent, Buffered::Alias, &mut text, offset)?;
             return Ok(());
         }
-        self.waiting.put(self.alloc, Late::Alias, name, 0)?;
+        self.buffer.put(self.alloc, Buffered::Alias, name, 0)?;
         Ok(())
     }
 
@@ -155,15 +153,15 @@ impl<'s> Composing<'s> {
         let at = self.count;
         self.make_room()?;
         let Some(own) = mem::replace(&mut self.announced, None) else {
-            self.waiting
-                .put(self.alloc, Late::Start(collection, flow), "", 0)?;
+            self.buffer
+                .put(self.alloc, Buffered::Start(collection, flow), "", 0)?;
             return Ok(());
         };
         let Some(outer) = mem::replace(&mut self.above, None) else {
-            self.ahead.begin_due(self.alloc, collection, at, own)?;
+            self.pending.begin_due(self.alloc, collection, at, own)?;
             return Ok(());
         };
-        self.ahead
+        self.pending
             .begin_below(self.alloc, collection, at, own, outer)?;
         Ok(())
     }
@@ -173,7 +171,7 @@ impl<'s> Composing<'s> {
         ensures { IfOk result (λ _. Puts Composes self.old (end_of collection ∷ []) self.new) }
     {
         self.make_room()?;
-        self.ahead.end(collection)?;
+        self.pending.end(collection)?;
         Ok(())
     }
 
@@ -182,17 +180,17 @@ impl<'s> Composing<'s> {
         ensures { IfOk result (λ _. (explicit : Bool) → Puts Composes self.old (document_start explicit ∷ []) self.new) }
     {
         self.make_room()?;
-        self.ahead.document()?;
+        self.pending.document()?;
         Ok(())
     }
 
-    /// Counts an event of which the composer is not told, behind what is composed.
+    /// Counts an event of which the builder is not told, behind what is composed.
     fn pass(&mut self) -> Result<(), NoMemory>
         ensures room { IfOk result (λ _. MakesRoom self.old self.new) }
-        ensures none { IfOk result (λ _. self.new.ahead.ended ≡ None) }
+        ensures none { IfOk result (λ _. self.new.pending.ended ≡ None) }
     {
         self.make_room()?;
-        self.ahead.go_on()?;
+        self.pending.go_on()?;
         Ok(())
     }
 
@@ -232,15 +230,15 @@ impl<'s> Composing<'s> {
         let Some(count) = self.count.checked_add(1) else {
             return Err(NoMemory);
         };
-        if self.waiting.is_none() {
-            self.ahead.precede(self.alloc, start, flow)?;
+        if self.buffer.is_none() {
+            self.pending.precede(self.alloc, start, flow)?;
             self.count = count;
             return Ok(());
         }
         if self.count.saturating_sub(start) != 1 {
             return Err(NoMemory);
         }
-        self.waiting.precede(flow)?;
+        self.buffer.precede(flow)?;
         self.count = count;
         Ok(())
     }
@@ -254,16 +252,16 @@ impl<'s> Composing<'s> {
         if start >= self.count {
             return Ok(());
         }
-        if self.waiting.is_none() {
-            self.ahead.pay(self.alloc, start, properties)?;
+        if self.buffer.is_none() {
+            self.pending.pay(self.alloc, start, properties)?;
             return Ok(());
         }
         let count = self.count - start;
-        if self.waiting.stays(count, properties) {
+        if self.buffer.stays(count, properties) {
             return Ok(());
         }
-        let copy = self.waiting.copy_of(self.alloc, self.lent, properties)?;
-        self.waiting.dress(count, copy)?;
+        let copy = self.buffer.copy_of(self.alloc, self.lent, properties)?;
+        self.buffer.dress(count, copy)?;
         Ok(())
     }
 
@@ -276,10 +274,10 @@ impl<'s> Composing<'s> {
         if self.is_void {
             return Err(Fault::OutOfMemory);
         }
-        self.waiting
-            .compose(self.alloc, &mut self.ahead, self.count)?;
-        self.ahead.go_on()?;
-        let documents = self.ahead.documents()?;
+        self.buffer
+            .compose(self.alloc, &mut self.pending, self.count)?;
+        self.pending.go_on()?;
+        let documents = self.pending.documents()?;
         Ok(documents)
     }
 
@@ -292,8 +290,8 @@ impl<'s> Composing<'s> {
         let Composing {
             alloc,
             lent: _,
-            mut ahead,
-            mut waiting,
+            mut pending,
+            mut buffer,
             announced: _,
             above: _,
             count,
@@ -302,8 +300,8 @@ impl<'s> Composing<'s> {
         if is_void {
             return Err(Fault::OutOfMemory);
         }
-        waiting.compose(alloc, &mut ahead, count)?;
-        ahead.finish()
+        buffer.compose(alloc, &mut pending, count)?;
+        pending.finish()
     }
 }
 
@@ -375,7 +373,7 @@ impl Keeper for Composing<'_> {
     }
 
     fn announce(&mut self, own: &Properties<'_>) {
-        match self.waiting.copy_of(self.alloc, self.lent, own) {
+        match self.buffer.copy_of(self.alloc, self.lent, own) {
             Ok(copy) => self.above = mem::replace(&mut self.announced, Some(copy)),
             Err(_) => self.is_void = true,
         }

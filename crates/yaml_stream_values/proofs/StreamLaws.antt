@@ -22,8 +22,8 @@ use Rattle.yaml_store.specs.StoreView.{tree_of}
 use Rattle.yaml_store_rank.specs.StoreRanks.{StoreRanked}
 use Rattle.yaml_store_rank.specs.Walked.{ranks_of, walked_tree, RanksTaken}
 use Rattle.yaml_store.proofs.Growing.{trees-count}
-use Rattle.yaml_store_composer.specs.ComposerModel.{AllAt}
-use Rattle.yaml_store_composer.specs.declared.composer.Forest.{Forest}
+use Rattle.yaml_tree_builder.specs.BuilderModel.{AllAt}
+use Rattle.yaml_tree_builder.specs.declared.builder.Forest.{Forest}
 use Rattle.yaml_canon.specs.Accepting.{IsMemory, MeaningsAreAccepted}
 use Rattle.yaml_canon.specs.Both.{HasBoth}
 use Rattle.yaml_canon.specs.declared.both.BothForests.{BothForests}

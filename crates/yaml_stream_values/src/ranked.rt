@@ -5,9 +5,9 @@ ghost use Rattle.yaml_stream_values.specs.ValuesOf.{RanksOfStream};
 
 use std::alloc::Global;
 use yaml_canon::both::BothForests;
-use yaml_store_composer::Forest;
 use yaml_store_rank::{Ranked, compact_rank};
 use yaml_text::fault::Fault;
+use yaml_tree_builder::Forest;
 
 /// Ranked nodes, and the ranks of documents' roots, of which the first ones are those of the stream.
 #[derive(Drop)]

@@ -1,8 +1,8 @@
 use Rattle.std.proofs.Common.{refl, ◌∷◌, [], ◌++◌, ◌∙◌, ap, subst}
 use Rattle.yaml_definitions.specs.grammar.Events.{no_props}
 use Rattle.yaml_sink.specs.SinkModel.{start_of}
-use Rattle.yaml_store_composer.specs.AheadModel.{Tells}
-use Rattle.yaml_store_composer.proofs.AheadLaws.{bare}
+use Rattle.yaml_store_composer.specs.PendingModel.{Tells}
+use Rattle.yaml_store_composer.proofs.PendingLaws.{bare}
 use Rattle.yaml_store_composer.proofs.KeeperLaws.{puts-waiting, puts-numbered}
 use Rattle.yaml_store_composer.proofs.keeper.Composing.put_start.Goals as goal
 

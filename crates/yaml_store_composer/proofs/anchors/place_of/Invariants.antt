@@ -1,6 +1,0 @@
-use Rattle.std.proofs.Common.{◌≡◌, drop}
-use Rattle.yaml_store_composer.specs.AnchorsModel.{hashed}
-use Rattle.yaml_store_composer.proofs.anchors.place_of.Given as goal
-
-abbrev pub invariant-loop-byte : goal.invariant-loop-byte
-invariant-loop-byte l = hashed l.hash (drop l.byte-index l.end) ≡ hashed 0 l.end

@@ -1,7 +1,0 @@
-use Rattle.std.proofs.Common.{sym, subst}
-use Rattle.yaml_graph.specs.Composed.{RefusesStream}
-use Rattle.yaml_store_composer.proofs.JudgedLaws.{refuses}
-use Rattle.yaml_store_composer.proofs.judged.Judged.documents.Goals as goal
-
-pub returns-in-Some-clause-refused : goal.returns-in-Some-clause-refused
-returns-in-Some-clause-refused c = λ ds h. subst (RefusesStream ds) (sym c.fault.ensures) (refuses c.args.self.now c.in-Some.refusal ds c.in-Some.is h)

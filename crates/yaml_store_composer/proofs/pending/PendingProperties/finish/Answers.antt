@@ -1,0 +1,20 @@
+use Rattle.std.proofs.Common.{◌++◌, arith}
+use Rattle.yaml_definitions.specs.model.Serial.{stream_events}
+use Rattle.yaml_store_composer.proofs.DueLaws.{tells-all}
+use Rattle.yaml_store_composer.proofs.pending.PendingProperties.finish.Goals as goal
+
+pub returns-clause-forest : goal.returns-clause-forest
+returns-clause-forest c = λ ds t.
+    let mid = c.go_on.new.self in
+    c.finish.ensures.forest ds (tells-all mid.judged mid.ended mid.opens.items mid.early (stream_events ds) c.in_ok-go_on.ensures.none (omega (arith, c.len.ensures, mid.opens.ok.0, c.if-len-gt0.false)) (c.in_ok-go_on.ensures.tells (stream_events ds) t))
+
+pub returns-clause-both : goal.returns-clause-both
+returns-clause-both c = λ ds es t.
+    let mid = c.go_on.new.self in
+    let both = stream_events ds ++ stream_events es in
+    c.finish.ensures.both ds es (tells-all mid.judged mid.ended mid.opens.items mid.early both c.in_ok-go_on.ensures.none (omega (arith, c.len.ensures, mid.opens.ok.0, c.if-len-gt0.false)) (c.in_ok-go_on.ensures.tells both t))
+
+pub returns-clause-refused : goal.returns-clause-refused
+returns-clause-refused c = λ ds t.
+    let mid = c.go_on.new.self in
+    c.finish.ensures.refused ds (tells-all mid.judged mid.ended mid.opens.items mid.early (stream_events ds) c.in_ok-go_on.ensures.none (omega (arith, c.len.ensures, mid.opens.ok.0, c.if-len-gt0.false)) (c.in_ok-go_on.ensures.tells (stream_events ds) t))

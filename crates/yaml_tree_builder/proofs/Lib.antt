@@ -1,0 +1,13 @@
+pub mod ReachedLaws
+pub mod AnchorLaws
+pub mod TagLaws
+pub mod BuilderLaws
+pub mod LogLaws
+pub mod AlikeLaws
+pub mod NodeLaws
+pub mod KeyLaws
+pub mod RefusalLaws
+pub mod JudgedLaws
+pub mod HoldableLaws
+mod HighLaws
+mod FirstsLaws

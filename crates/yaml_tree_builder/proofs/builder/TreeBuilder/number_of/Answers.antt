@@ -1,0 +1,10 @@
+use Rattle.yaml_tree_builder.specs.BuilderModel.{Holds}
+use Rattle.yaml_tree_builder.proofs.BuilderLaws.{holds-tagged}
+use Rattle.yaml_tree_builder.proofs.builder.TreeBuilder.number_of.Goals as goal
+
+pub returns : goal.returns
+returns c = λ s h.
+    let self = c.args.self.now in
+    let new = c.tag.new.self in
+    let k : Holds (record self { store = new }) s = holds-tagged self s new (c.in_ok-number.ensures.kept h.good.store) h c.in_ok-number.ensures.nodes in
+    (record { tag = c.in-Ok.text.now; is = c.in-Ok.ensures; at = c.in_ok-number.ensures.is }, k)

@@ -1,0 +1,9 @@
+pub mod Reached
+pub mod Nodes
+pub mod TagModel
+pub mod AnchorsModel
+pub mod FirstsModel
+pub mod BuilderModel
+pub mod BuilderLog
+pub mod Refusals
+pub mod JudgedModel
