@@ -1,2 +1,3 @@
+mod RejectionLaws
 mod ReportLaws
 mod SideLaws
