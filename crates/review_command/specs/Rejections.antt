@@ -98,11 +98,11 @@ pub record TellsRejected (holds : List ℕ → Option (List ℕ)) (rest : Option
       ⊎ ((side : Side) × (fault : Fault) × TellsNotCompared asked.form left right side fault text status)
   pub refused : 1 ≤ status
 
--- The standard input is named twice, or the files are rejected.
+-- The standard input is named twice, or the files are rejected, or no text is made of that, as where memory is refused.
 abbrev pub Refuses : (List ℕ → Option (List ℕ)) → Option (List ℕ) → Diff → NoDiff → Type 0
 Refuses holds rest asked no.OneInput = (asked.left.now ≡ codes "-") × (asked.right.now ≡ codes "-")
 Refuses holds rest asked (no.Rejected text status) = TellsRejected holds rest asked (string_bytes text) status
-Refuses holds rest asked (no.Fault fault) = ⊥
+Refuses holds rest asked (no.Fault fault) = Unit {0}
 
 -- the output fails behind a beginning of the lines of the differences
 pub record CutsLines {W : Type 0} (holds : List ℕ → Option (List ℕ)) (rest : Option (List ℕ)) (contents : W → Option (List ℕ)) (asked : Diff) (ignored : List Pattern) (old new : Counted W) (fault : Fault) : Type 0 where
@@ -116,8 +116,8 @@ pub record CutsLines {W : Type 0} (holds : List ℕ → Option (List ℕ)) (rest
 
 -- Why there is no answer: nothing is printed, or the output fails.
 abbrev pub DiffRefuses : {W : Type 0} → (List ℕ → Option (List ℕ)) → Option (List ℕ) → (W → Option (List ℕ)) → Diff → List Pattern → Counted W → Counted W → NoDiff → Type 0
-DiffRefuses holds rest contents asked ignored old new (no.Fault fault) = (new ≡ old) ⊎ CutsLines holds rest contents asked ignored old new fault
-DiffRefuses holds rest contents asked ignored old new none = Refuses holds rest asked none × (new ≡ old)
+DiffRefuses holds rest contents asked ignored old new none =
+    (Refuses holds rest asked none × (new ≡ old)) ⊎ ((fault : Fault) × (none ≡ no.Fault fault) × CutsLines holds rest contents asked ignored old new fault)
 
 -- the status of each
 abbrev pub no_diff_status : NoDiff → ℕ

@@ -4,6 +4,7 @@ ghost use Rattle.yaml_text.specs.CountedModel.{faults_of};
 ghost use Rattle.review_command.specs.Diffs.{DiffTells};
 ghost use Rattle.review_command.specs.Named.{AreNamed};
 ghost use Rattle.review_command.specs.Rejections.{AreNotBoth, Refuses, DiffRefuses};
+ghost use Rattle.review_command.specs.declared.diff.NoDiff.TheVariants.{Fault as NoText};
 
 use crate::both::compare_sides;
 use crate::files::{NotBoth, read_both};
@@ -30,9 +31,14 @@ pub enum NoDiff {
     Fault(Fault),
 }
 
-impl From<Fault> for NoDiff {
-    fn from(fault: Fault) -> Self {
-        NoDiff::Fault(fault)
+/// The same where no text is made of it.
+fn or_fault(answer: Result<NoDiff, Fault>) -> NoDiff
+    ensures ok { IfOk answer (λ none. result ≡ none) }
+    ensures err { IfErr answer (λ fault. result ≡ NoText fault) }
+{
+    match answer {
+        Ok(none) => none,
+        Err(fault) => NoDiff::Fault(fault),
     }
 }
 
@@ -52,7 +58,7 @@ fn named<'n>(name: &'n str, answer: &'n Result<Vec<u8>, Unread>) -> Named<'n>
 
 /// Why two files are not both read.
 fn not_read(alloc: Global, asked: &Diff<'_>, none: NotBoth) -> Result<NoDiff, Fault>
-    ensures { (holds : List ℕ → Option (List ℕ)) → (rest : Option (List ℕ)) → AreNotBoth holds rest asked.now.left.now asked.now.right.now none.entry → IfOk result (Refuses holds rest asked.now) }
+    ensures { (holds : List ℕ → Option (List ℕ)) → (rest : Option (List ℕ)) → AreNotBoth holds rest asked.now.left.now asked.now.right.now none → IfOk result (Refuses holds rest asked.now) }
 {
     let (left, right) = match none {
         NotBoth::OneInput => return Ok(NoDiff::OneInput),
@@ -73,7 +79,7 @@ fn not_compared(
     right: Vec<u8>,
     refused: (Side, Fault),
 ) -> Result<NoDiff, Fault>
-    ensures { (holds : List ℕ → Option (List ℕ)) → (rest : Option (List ℕ)) → AreNamed holds rest asked.now.left.now asked.now.right.now left.entry.items right.entry.items → IfOk result (Refuses holds rest asked.now) }
+    ensures { (holds : List ℕ → Option (List ℕ)) → (rest : Option (List ℕ)) → AreNamed holds rest asked.now.left.now asked.now.right.now left.items right.items → IfOk result (Refuses holds rest asked.now) }
 {
     let (left, right) = (Ok(left), Ok(right));
     let mut text = String::new(alloc);
@@ -100,12 +106,14 @@ pub fn diff<S: Shelf, R: Read, W: Write>(
 {
     let (left, right) = match read_both(shelf, alloc, asked.left, asked.right, input) {
         Ok(both) => both,
-        Err(none) => return Err(not_read(alloc, asked, none)?),
+        Err(none) => return Err(or_fault(not_read(alloc, asked, none))),
     };
     let told = match compare_sides(alloc, asked, ignored, &left, &right) {
         Ok(told) => told,
-        Err(refused) => return Err(not_compared(alloc, asked, left, right, refused)?),
+        Err(refused) => return Err(or_fault(not_compared(alloc, asked, left, right, refused))),
     };
-    write_out(out, told.text.as_bytes())?;
-    Ok(status_of(told.same))
+    match write_out(out, told.text.as_bytes()) {
+        Ok(()) => Ok(status_of(told.same)),
+        Err(fault) => Err(NoDiff::Fault(fault)),
+    }
 }
