@@ -1,6 +1,6 @@
 -- What is told of files that are not compared.
 use Rattle.std.specs.Prelude.{IfOk, IfErr}
-use Rattle.std.proofs.Common.{◌≡◌, ℕ, ◌≤◌, max, List, [], ◌++◌, codes, Option, Result, Ok, Err, Vec, refl, inl, inr, sym, subst, ◌∙◌, ap, arith, string_bytes}
+use Rattle.std.proofs.Common.{◌≡◌, ℕ, ◌≤◌, max, List, ◌++◌, codes, Option, Result, Ok, Err, Vec, refl, inl, inr, sym, subst, ◌∙◌, ap, arith}
 use Rattle.std.specs.declared.alloc.Global.{Global}
 use Rattle.std.proofs.lemmas.List.{append_assoc}
 use Rattle.yaml_text.specs.declared.fault.Fault.{Fault}
@@ -9,13 +9,16 @@ use Rattle.yaml_text.specs.declared.side.Side.{Side}
 use Rattle.yaml_canon.specs.Claims.{CanonicalRefuses}
 use Rattle.yaml_canon.specs.FaultPlaces.{TellsPlace}
 use Rattle.review_text.specs.Terminal.{terminal}
-use Rattle.review_text.proofs.Pieces.{then_more}
 use Rattle.review_args.specs.declared.words.Form.{Form}
 use Rattle.review_lines.specs.FaultLines.{TellsFault}
 use Rattle.review_command.specs.Reports.{TellsBytes}
+use Rattle.yaml_text.specs.declared.counted.Counted.{Counted}
+use Rattle.review_patterns.specs.declared.pattern.Pattern.{Pattern}
 use Rattle.review_args.specs.declared.words.Diff.{Diff}
+use Rattle.review_command.specs.Diffs.{DiffTells}
+use Rattle.review_command.specs.Runs.{DiffEnds}
 use Rattle.review_command.specs.Named.{AreNamed}
-use Rattle.review_command.specs.Rejections.{TellsName, TellsUnread, TellsAnswer, TellsBoth, TellsNotCompared, TellsRejected, Refuses, NotBothRead, IsAnswer, side_name}
+use Rattle.review_command.specs.Rejections.{TellsName, TellsUnread, TellsAnswer, TellsBoth, TellsNotCompared, TellsRejected, Refuses, DiffRefuses, no_diff_status, NotBothRead, IsAnswer, side_name}
 use Rattle.review_command.specs.Statuses.{fault_status, unread_status}
 use Rattle.review_command.specs.declared.diff.NoDiff.{NoDiff}
 use Rattle.review_command.specs.declared.diff.NoDiff.TheVariants as no
@@ -93,3 +96,11 @@ module _ (holds : List ℕ → Option (List ℕ)) (rest : Option (List ℕ)) (as
 pub or_faulted : (holds : List ℕ → Option (List ℕ)) (rest : Option (List ℕ)) (asked : Diff) (answer : Result NoDiff Fault) (none : NoDiff) → IfOk answer (Refuses holds rest asked) → IfOk answer (λ n. none ≡ n) → IfErr answer (λ f. none ≡ no.Fault f) → Refuses holds rest asked none
 or_faulted holds rest asked (Ok n) none h e f = subst (Refuses holds rest asked) (sym e) h
 or_faulted holds rest asked (Err y) none h e f = subst (Refuses holds rest asked) (sym f) tt
+
+-- ---- how `diff` ends
+
+pub diff_ends : {R W E : Type 0} (holds : List ℕ → Option (List ℕ)) (remaining : R → Option (List ℕ)) (contents : W → Option (List ℕ)) (told : E → Option (List ℕ)) (asked : Diff) (ignored : List Pattern) (input : R) (old new : Counted W) (answer : Result ℕ NoDiff) (status : ℕ)
+    → IfOk answer (DiffTells holds (remaining input) contents asked ignored old new) → IfErr answer (DiffRefuses holds (remaining input) contents asked ignored old new) → IfOk answer (λ s. status ≡ s) → IfErr answer (λ none. status ≡ no_diff_status none)
+    → DiffEnds holds remaining contents told asked ignored input old new status
+diff_ends holds remaining contents told asked ignored input old new (Ok s) status t r e f = inl (subst (DiffTells holds (remaining input) contents asked ignored old new) (sym e) t)
+diff_ends holds remaining contents told asked ignored input old new (Err none) status t r e f = inr (none, r, f)

@@ -1,15 +1,13 @@
 -- From the graph of both sides to what their bytes mean.
-use Rattle.std.proofs.Common.{◌≡◌, ℕ, ◌<◌, ◌≤◌, true, List, [], ◌∷◌, ◌++◌, length, map, take, drop, get_or, refl, sym, ◌∙◌, ap, subst, arith}
-use Rattle.std.specs.Prelude.{◌↔◌, Bool, Result, Ok, IfOk}
-use Rattle.std.proofs.lemmas.List.{take-append-drop, take-map, drop-map, map-append, length-map, length-append, get_or-map}
+use Rattle.std.proofs.Common.{◌≡◌, ℕ, ◌<◌, ◌≤◌, true, List, [], ◌∷◌, ◌++◌, length, map, take, drop, get_or, sym, ◌∙◌, ap, subst, arith}
+use Rattle.std.specs.Prelude.{◌↔◌, Bool}
+use Rattle.std.proofs.lemmas.List.{take-map, drop-map, length-map, length-append, get_or-map}
 use Rattle.std.proofs.Math.Seq.{drop-append_seam, take-append_seam}
 use Rattle.yaml_definitions.specs.model.Limits.{height_limit}
 use Rattle.yaml_definitions.specs.model.Tree.{Tree, scalar, height}
 use Rattle.yaml_definitions.specs.model.Same.{Keyed, Alike}
-use Rattle.yaml_text.specs.declared.fault.Fault.{Fault}
 use Rattle.yaml_graph.specs.GraphView.{nodes_of, roots_of, graph_trees, tree, forest}
 use Rattle.yaml_graph.proofs.GraphLaws.{trees-length}
-use Rattle.yaml_graph.specs.declared.node.NodeId.{NodeId}
 use Rattle.yaml_graph.specs.declared.graph.Graph.{Graph}
 use Rattle.yaml_canon.specs.Claims.{AllOf}
 use Rattle.yaml_canon.specs.Comparing.{Compares}

@@ -54,8 +54,8 @@ fn git<S: Shelf, W: Write, E: Write>(
 
 /// The status of a comparison, of which it is told why there is none.
 fn diff_status<E: Write>(answer: Result<u8, NoDiff>, err: &mut E) -> u8
-    ensures ok { IfOk answer.entry (λ status. result ≡ status) }
-    ensures err { IfErr answer.entry (λ none. result ≡ no_diff_status none) }
+    ensures ok { IfOk answer (λ status. result ≡ status) }
+    ensures err { IfErr answer (λ none. result ≡ no_diff_status none) }
 {
     match answer {
         Ok(status) => status,

@@ -1,4 +1,4 @@
-use Rattle.std.proofs.Common.{◌≡◌, ℕ, List, ◌++◌, string_bytes, sym, subst, refl, ap, arith}
+use Rattle.std.proofs.Common.{◌≡◌, ◌++◌, string_bytes, sym, subst, arith}
 use Rattle.review_command.specs.Rejections.{TellsBoth, TellsName, side_name}
 use Rattle.review_text.proofs.Pieces.{then_more}
 use Rattle.review_command.proofs.RejectionLaws.{a_line_more}
@@ -11,8 +11,10 @@ returns c =
     let line = c.in_ok-put_fault_line.ensures in
     let none : c.in_ok-status.status ≡ 0 = omega (arith, c.if-status-ne-DONE.false) in
     let named : TellsName (side_name c.args.refused.0 c.args.left c.args.right) line.0 =
-        elim c.match-side.branch [ in-Left w ↦ subst (λ z. TellsName (side_name z c.args.left c.args.right) line.0) (sym w.in-Left.is) (subst (λ z. TellsName z.now line.0) w.name-is line.2)
-                                 | in-Right w ↦ subst (λ z. TellsName (side_name z c.args.left c.args.right) line.0) (sym w.in-Right.is) (subst (λ z. TellsName z.now line.0) w.name-is line.2) ] in
+    elim c.match-side.branch [
+      | in-Left w ↦ subst (λ z. TellsName (side_name z c.args.left c.args.right) line.0) (sym w.in-Left.is) (subst (λ z. TellsName z.now line.0) w.name-is line.2)
+      | in-Right w ↦ subst (λ z. TellsName (side_name z c.args.left c.args.right) line.0) (sym w.in-Right.is) (subst (λ z. TellsName z.now line.0) w.name-is line.2)
+    ] in
     let o = string_bytes c.args.out.now in
     let middle = string_bytes c.put_rejections.new.out in
     let end = string_bytes c.put_fault_line.new.out in
