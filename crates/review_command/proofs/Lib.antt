@@ -1,2 +1,3 @@
 mod PageLaws
+mod RejectionLaws
 mod ReportLaws

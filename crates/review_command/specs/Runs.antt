@@ -4,7 +4,12 @@ use Rattle.yaml_text.specs.declared.counted.Counted.{Counted}
 use Rattle.yaml_text.specs.CountedModel.{inner_of, faults_of}
 use Rattle.review_args.specs.declared.words.Asked.{Asked}
 use Rattle.review_args.specs.declared.words.Asked.TheVariants as asks
+use Rattle.review_args.specs.declared.words.Diff.{Diff}
 use Rattle.review_args.specs.declared.words.Report.{Report}
+use Rattle.review_patterns.specs.declared.pattern.Pattern.{Pattern}
+use Rattle.review_command.specs.Diffs.{DiffTells}
+use Rattle.review_command.specs.Rejections.{DiffRefuses, no_diff_status}
+use Rattle.review_command.specs.declared.diff.NoDiff.{NoDiff}
 use Rattle.review_args.specs.declared.words.Sum.{Sum}
 use Rattle.review_args.specs.declared.words.Warn.{Warn}
 use Rattle.yaml_sum.specs.Asks.{SumTells}
@@ -49,8 +54,22 @@ module _ {R W E : Type 0} (holds : List ℕ → Option (List ℕ)) (remaining : 
   abbrev pub SumRuns : SumAsked → R → W → E → ℕ → Type 0
   SumRuns asked input out err status = SumTells holds remaining contents told asked input out err status ⊎ (status ≡ 3)
 
-  -- What `faults`, `warn` and `sum` do; of the other commands nothing is said here.
+  -- two files are compared, or it is told why not, which the status tells too, and nothing else is printed
+  abbrev pub DiffEnds : Diff → List Pattern → R → Counted W → Counted W → ℕ → Type 0
+  DiffEnds asked ignored input old new status =
+      DiffTells holds (remaining input) contents asked ignored old new status
+      ⊎ ((none : NoDiff) × DiffRefuses holds (remaining input) contents asked ignored old new none × (status ≡ no_diff_status none))
+
+  pub record DiffRuns (asked : Diff) (ignored : List Pattern) (input : R) (out : W) (status : ℕ) : Type 0 where
+    pub old : Counted W
+    pub new : Counted W
+    pub writer : inner_of old ≡ out
+    pub no_write : faults_of old ≡ 0
+    pub ends : DiffEnds asked ignored input old new status
+
+  -- What `diff`, `faults`, `warn` and `sum` do; of the other commands nothing is said here.
   abbrev pub Does : Asked → R → W → E → ℕ → Type 0
+  Does (asks.Diff asked ignored) input out err status = DiffRuns asked ignored.items input out status
   Does (asks.Faults asked) input out err status = ReportsTell Faults asked input out status
   Does (asks.Warn asked warn) input out err status = (kind : Kind) × AsksWarnings warn kind × ReportsTell kind asked input out status
   Does (asks.FaultsPage page asked) input out err status = PagesTell Faults asked input out status

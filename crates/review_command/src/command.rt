@@ -1,4 +1,6 @@
 //! The commands.
+ghost use Rattle.std.specs.Prelude.{◌≡◌, IfOk, IfErr};
+ghost use Rattle.review_command.specs.Rejections.{no_diff_status};
 ghost use Rattle.review_command.specs.Runs.{AsksSum, SumRuns, Does};
 
 use crate::diff::{NoDiff, diff, diff_page};
@@ -51,7 +53,10 @@ fn git<S: Shelf, W: Write, E: Write>(
 }
 
 /// The status of a comparison, of which it is told why there is none.
-fn diff_status<E: Write>(answer: Result<u8, NoDiff>, err: &mut E) -> u8 {
+fn diff_status<E: Write>(answer: Result<u8, NoDiff>, err: &mut E) -> u8
+    ensures ok { IfOk answer (λ status. result ≡ status) }
+    ensures err { IfErr answer (λ none. result ≡ no_diff_status none) }
+{
     match answer {
         Ok(status) => status,
         Err(NoDiff::OneInput) => tell_usage(ONE_INPUT, err),
@@ -76,14 +81,8 @@ fn run<S: Shelf, R: Read + Drop, W: Write + Drop, E: Write + Drop>(
 {
     match asked {
         Asked::Diff(asked, ignored) => {
-            let answer = diff(
-                shelf,
-                alloc,
-                &asked,
-                &ignored,
-                &mut input,
-                &mut Counted::new(&mut out),
-            );
+            let mut out = Counted::new(out);
+            let answer = diff(shelf, alloc, &asked, &ignored, &mut input, &mut out);
             diff_status(answer, &mut err)
         }
         Asked::DiffPage(page, asked, ignored) => {

@@ -1,7 +1,10 @@
 //! The command `diff`.
-ghost use Rattle.std.specs.Prelude.{◌≡◌, ◌<◌, ◌-◌, ◌^◌, cond, IfOk};
+ghost use Rattle.std.specs.Prelude.{◌≡◌, ◌<◌, ◌-◌, ◌^◌, ℕ, List, Option, cond, IfOk, IfErr};
 ghost use Rattle.yaml_text.specs.CountedModel.{faults_of};
 ghost use Rattle.review_command.specs.Diffs.{DiffTells, DiffShows};
+ghost use Rattle.review_command.specs.Named.{AreNamed};
+ghost use Rattle.review_command.specs.Rejections.{AreNotBoth, Refuses, DiffRefuses};
+ghost use Rattle.review_command.specs.declared.diff.NoDiff.TheVariants.{Fault as NoText};
 
 use crate::files::{NotBoth, read_both};
 use crate::findings::difference_found;
@@ -34,9 +37,14 @@ pub enum NoDiff {
     Fault(Fault),
 }
 
-impl From<Fault> for NoDiff {
-    fn from(fault: Fault) -> Self {
-        NoDiff::Fault(fault)
+/// The same where no text is made of it.
+fn or_fault(answer: Result<NoDiff, Fault>) -> NoDiff
+    ensures ok { IfOk answer (λ none. result ≡ none) }
+    ensures err { IfErr answer (λ fault. result ≡ NoText fault) }
+{
+    match answer {
+        Ok(none) => none,
+        Err(fault) => NoDiff::Fault(fault),
     }
 }
 
@@ -48,12 +56,16 @@ fn status_of(same: bool) -> u8
 }
 
 /// What reading a file gave, with its name.
-fn named<'n>(name: &'n str, answer: &'n Result<Vec<u8>, Unread>) -> Named<'n> {
+fn named<'n>(name: &'n str, answer: &'n Result<Vec<u8>, Unread>) -> Named<'n>
+    ensures { (result.name.now ≡ name.now) × (result.answer.now ≡ answer.now) }
+{
     Named { name, answer }
 }
 
 /// Why two files are not both read.
-fn not_read(alloc: Global, asked: &Diff<'_>, none: NotBoth) -> Result<NoDiff, Fault> {
+fn not_read(alloc: Global, asked: &Diff<'_>, none: NotBoth) -> Result<NoDiff, Fault>
+    ensures { (holds : List ℕ → Option (List ℕ)) → (rest : Option (List ℕ)) → AreNotBoth holds rest asked.now.left.now asked.now.right.now none → IfOk result (Refuses holds rest asked.now) }
+{
     let (left, right) = match none {
         NotBoth::OneInput => return Ok(NoDiff::OneInput),
         NotBoth::Unread(left, right) => (left, right),
@@ -72,7 +84,9 @@ fn not_compared(
     left: Vec<u8>,
     right: Vec<u8>,
     refused: (Side, Fault),
-) -> Result<NoDiff, Fault> {
+) -> Result<NoDiff, Fault>
+    ensures { (holds : List ℕ → Option (List ℕ)) → (rest : Option (List ℕ)) → AreNamed holds rest asked.now.left.now asked.now.right.now left.items right.items → IfOk result (Refuses holds rest asked.now) }
+{
     let (left, right) = (Ok(left), Ok(right));
     let mut text = String::new(alloc);
     let first = named(asked.left, &left);
@@ -94,17 +108,20 @@ pub fn diff<S: Shelf, R: Read, W: Write>(
 ) -> Result<u8, NoDiff>
     requires { faults_of out.old < 2 ^ 64 - 1 }
     ensures tells { IfOk result (DiffTells (S.holds shelf.now) (R.remaining input.old) W.contents asked.now ignored.now out.old out.new) }
+    ensures refuses { IfErr result (DiffRefuses (S.holds shelf.now) (R.remaining input.old) W.contents asked.now ignored.now out.old out.new) }
 {
     let (left, right) = match read_both(shelf, alloc, asked.left, asked.right, input) {
         Ok(both) => both,
-        Err(none) => return Err(not_read(alloc, asked, none)?),
+        Err(none) => return Err(or_fault(not_read(alloc, asked, none))),
     };
     let told = match compare_sides(alloc, asked, ignored, &left, &right) {
         Ok(told) => told,
-        Err(refused) => return Err(not_compared(alloc, asked, left, right, refused)?),
+        Err(refused) => return Err(or_fault(not_compared(alloc, asked, left, right, refused))),
     };
-    write_out(out, told.text.as_bytes())?;
-    Ok(status_of(told.same))
+    match write_out(out, told.text.as_bytes()) {
+        Ok(()) => Ok(status_of(told.same)),
+        Err(fault) => Err(NoDiff::Fault(fault)),
+    }
 }
 
 /// What two files have differently, of a list.
@@ -170,13 +187,18 @@ pub fn diff_page<S: Shelf, R: Read, W: Write>(
     let (asked, page) = told;
     let (left, right) = match read_both(shelf, alloc, asked.left, asked.right, input) {
         Ok(both) => both,
-        Err(none) => return Err(not_read(alloc, asked, none)?),
+        Err(none) => return Err(or_fault(not_read(alloc, asked, none))),
     };
     let listed = match list_sides(alloc, asked, ignored, &left, &right) {
         Ok(listed) => listed,
-        Err(refused) => return Err(not_compared(alloc, asked, left, right, refused)?),
+        Err(refused) => return Err(or_fault(not_compared(alloc, asked, left, right, refused))),
     };
-    let text = listed_text(alloc, asked, page, &listed, &left, &right)?;
-    write_out(out, text.as_bytes())?;
-    Ok(status_of(listed.same))
+    let text = match listed_text(alloc, asked, page, &listed, &left, &right) {
+        Ok(text) => text,
+        Err(fault) => return Err(NoDiff::Fault(fault)),
+    };
+    match write_out(out, text.as_bytes()) {
+        Ok(()) => Ok(status_of(listed.same)),
+        Err(fault) => Err(NoDiff::Fault(fault)),
+    }
 }

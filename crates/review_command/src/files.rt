@@ -3,6 +3,8 @@ ghost use Rattle.std.specs.Prelude.{◌≡◌, Ok, IfOk, IfErr};
 ghost use Rattle.yaml_command.specs.Shelves.{IsOf};
 ghost use Rattle.review_command.specs.Named.{IsNamed, AreNamed, IsUnread};
 ghost use Rattle.review_command.specs.Reports.{InputFails, ReadsNamed, ReadsNot};
+ghost use Rattle.review_command.specs.Rejections.{NotBothRead, AreNotBoth};
+ghost use Rattle.review_command.specs.declared.files.NotBoth.TheVariants.{Unread as NotReadBoth};
 
 use crate::unread::Unread;
 use std::alloc::Global;
@@ -73,11 +75,15 @@ fn both(
     left: Result<Vec<u8>, Unread>,
     right: Result<Vec<u8>, Unread>,
 ) -> Result<(Vec<u8>, Vec<u8>), NotBoth>
-    ensures { IfOk result (λ read. (left ≡ Ok read.0) × (right ≡ Ok read.1)) }
+    ensures ok { IfOk result (λ read. (left ≡ Ok read.0) × (right ≡ Ok read.1)) }
+    ensures err { IfErr result (λ none. (none ≡ NotReadBoth left right) × NotBothRead left right) }
 {
-    match (left, right) {
-        (Ok(left), Ok(right)) => Ok((left, right)),
-        (left, right) => Err(NotBoth::Unread(left, right)),
+    match left {
+        Ok(left) => match right {
+            Ok(right) => Ok((left, right)),
+            Err(why) => Err(NotBoth::Unread(Ok(left), Err(why))),
+        },
+        Err(why) => Err(NotBoth::Unread(Err(why), right)),
     }
 }
 
@@ -90,6 +96,7 @@ pub(crate) fn read_both<S: Shelf, R: Read>(
     input: &mut R,
 ) -> Result<(Vec<u8>, Vec<u8>), NotBoth>
     ensures ok { IfOk result (λ both. AreNamed (S.holds shelf.now) (R.remaining input.old) left.now right.now both.0.items both.1.items) }
+    ensures err { IfErr result (AreNotBoth (S.holds shelf.now) (R.remaining input.old) left.now right.now) }
 {
     if left == INPUT {
         if right == INPUT {

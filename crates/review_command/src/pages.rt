@@ -4,13 +4,13 @@ ghost use Rattle.yaml_text.specs.CountedModel.{faults_of};
 ghost use Rattle.review_command.specs.Reports.{HasNoText};
 ghost use Rattle.review_command.specs.Pages.{FindsWarnings, FindsAccepted, FindsFault, FindsBytes, HasFound, FindsFile, FindsFiles, WritesPage, TellsPage};
 
-use review_compare::fault_of;
 use crate::files::read_named;
 use crate::findings::{fault_found, warning_found};
 use crate::reports::{Kind, room_of, warned_status};
 use crate::telling::{tell_bare, tell_unread};
 use crate::unread::{Unread, greater};
 use review_args::{Page, Report, Warn};
+use review_compare::fault_of;
 use review_formats::{Finding, Findings, Shown, github_text, html_text, markdown_text, sarif_text};
 use review_lines::list_warnings;
 use std::alloc::Global;

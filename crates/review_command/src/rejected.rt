@@ -1,6 +1,9 @@
 //! Files that are not read, or are rejected.
+ghost use Rattle.std.specs.Prelude.{◌≡◌, ◌++◌, ℕ, List, IfOk, string_bytes};
+ghost use Rattle.review_command.specs.Rejections.{TellsUnread, TellsFile, TellsBoth, TellsNotCompared};
+
 use crate::telling::{put_fault_line, put_unread};
-use crate::unread::{Unread, fault_status};
+use crate::unread::{Unread, fault_status, greater};
 use review_args::Form;
 use review_compare::fault_of;
 use review_lines::put_fault;
@@ -27,7 +30,9 @@ pub(crate) fn put_no_bytes(
     name: &str,
     unread: Unread,
     form: Form,
-) -> Result<u8, Fault> {
+) -> Result<u8, Fault>
+    ensures { IfOk result (λ status. (text : List ℕ) × (string_bytes out.new ≡ string_bytes out.old ++ text) × TellsUnread form name.now unread text status) }
+{
     match unread {
         Unread::Fault(Fault::TooLong) => {
             put_fault(alloc, out, name, &[], Fault::TooLong, form)?;
@@ -46,7 +51,9 @@ pub(crate) fn put_rejection(
     out: &mut String,
     file: Named<'_>,
     form: Form,
-) -> Result<u8, Fault> {
+) -> Result<u8, Fault>
+    ensures { IfOk result (λ status. (text : List ℕ) × (string_bytes out.new ≡ string_bytes out.old ++ text) × TellsFile form file.entry text status) }
+{
     let bytes = match file.answer {
         Ok(bytes) => bytes,
         Err(unread) => return put_no_bytes(alloc, out, file.name, *unread, form),
@@ -67,10 +74,12 @@ pub(crate) fn put_rejections(
     left: Named<'_>,
     right: Named<'_>,
     form: Form,
-) -> Result<u8, Fault> {
+) -> Result<u8, Fault>
+    ensures { IfOk result (λ status. (text : List ℕ) × (string_bytes out.new ≡ string_bytes out.old ++ text) × TellsBoth form left.entry right.entry text status) }
+{
     let first = put_rejection(alloc, out, left, form)?;
     let second = put_rejection(alloc, out, right, form)?;
-    Ok(first.max(second))
+    Ok(greater(first, second))
 }
 
 /// The same of two files that are not compared because of this fault of one of them. Where each of them is accepted by itself, as
@@ -82,7 +91,9 @@ pub(crate) fn put_not_compared(
     right: Named<'_>,
     refused: (Side, Fault),
     form: Form,
-) -> Result<u8, Fault> {
+) -> Result<u8, Fault>
+    ensures { IfOk result (λ status. (text : List ℕ) × (string_bytes out.new ≡ string_bytes out.old ++ text) × TellsNotCompared form left.entry right.entry refused.0 refused.1 text status) }
+{
     let status = put_rejections(alloc, out, left, right, form)?;
     if status != DONE {
         return Ok(status);

@@ -1,5 +1,7 @@
 //! The lines of standard error.
-ghost use Rattle.std.specs.Prelude.{◌≡◌};
+ghost use Rattle.std.specs.Prelude.{◌≡◌, ◌++◌, ℕ, List, OnOk, codes, string_bytes};
+ghost use Rattle.review_text.specs.Terminal.{terminal};
+ghost use Rattle.review_command.specs.Rejections.{TellsName};
 ghost use Rattle.review_command.specs.Statuses.{fault_status, unread_status};
 
 use crate::unread::{Unread, fault_status};
@@ -31,16 +33,30 @@ pub(crate) fn put_line<E: Write>(line: &str, err: &mut E) {
 }
 
 /// Writes the line of wrong usage, and answers the status.
-pub(crate) fn tell_usage<E: Write>(line: &str, err: &mut E) -> u8 {
+pub(crate) fn tell_usage<E: Write>(line: &str, err: &mut E) -> u8
+    ensures { result ≡ 3 }
+{
     put_line(line, err);
     UNUSABLE
 }
 
 /// Writes what the line of a file begins with: the program's name and the file's, with `?` for what of it a terminal would not print.
-fn put_front(out: &mut String, name: &str) -> Result<(), Fault> {
+fn put_front(out: &mut String, name: &str) -> Result<(), Fault>
+    ensures { OnOk result (string_bytes out.new ≡ string_bytes out.old ++ (codes "yamlreview: " ++ (terminal name.now ++ codes ": "))) }
+{
     out.push_str(FRONT)?;
     put_shown(out, name)?;
     out.push_str(": ")?;
+    Ok(())
+}
+
+/// Writes what the line of a file begins with, and these two texts.
+fn put_name_line(out: &mut String, name: &str, words: &str, more: &str) -> Result<(), Fault>
+    ensures { OnOk result ((text : List ℕ) × (string_bytes out.new ≡ string_bytes out.old ++ text) × TellsName name.now text) }
+{
+    put_front(out, name)?;
+    out.push_str(words)?;
+    out.push_str(more)?;
     Ok(())
 }
 
@@ -50,10 +66,11 @@ pub(crate) fn put_fault_line(
     out: &mut String,
     name: &str,
     fault: Fault,
-) -> Result<(), Fault> {
-    put_front(out, name)?;
-    out.push_str(&format!(in alloc; "{fault}\n")?)?;
-    Ok(())
+) -> Result<(), Fault>
+    ensures { OnOk result ((text : List ℕ) × (string_bytes out.new ≡ string_bytes out.old ++ text) × TellsName name.now text) }
+{
+    let line = format!(in alloc; "{fault}\n")?;
+    put_name_line(out, name, "", line.as_str())
 }
 
 /// Writes the line of a file that is not read.
@@ -62,14 +79,13 @@ pub(crate) fn put_unread(
     out: &mut String,
     name: &str,
     unread: Unread,
-) -> Result<(), Fault> {
+) -> Result<(), Fault>
+    ensures { OnOk result ((text : List ℕ) × (string_bytes out.new ≡ string_bytes out.old ++ text) × TellsName name.now text) }
+{
     match unread {
         Unread::CannotOpen(why) => {
-            put_front(out, name)?;
-            out.push_str("cannot open: ")?;
-            out.push_str(why.words())?;
-            out.push('\n')?;
-            Ok(())
+            let line = format!(in alloc; "{}\n", why.words())?;
+            put_name_line(out, name, "cannot open: ", line.as_str())
         }
         Unread::Fault(fault) => put_fault_line(alloc, out, name, fault),
     }

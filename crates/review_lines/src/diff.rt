@@ -41,7 +41,12 @@ fn keys_of(alloc: Global, text: &str) -> Result<Vec<&str>, Fault>
 }
 
 /// The differences and moves of two streams, at most so many.
-pub(crate) fn list_of(alloc: Global, both: &Both<'_>, asked: &Diff<'_>, room: usize) -> Result<Found, Fault>
+pub(crate) fn list_of(
+    alloc: Global,
+    both: &Both<'_>,
+    asked: &Diff<'_>,
+    room: usize,
+) -> Result<Found, Fault>
     requires ranked { RanksAre both.now.graph both.now.ranks }
     ensures ok { IfOk result (FindsItems both.now.graph (take both.now.documents (roots_of both.now.graph)) (drop both.now.documents (roots_of both.now.graph)) room) }
     ensures err { IfErr result (λ fault. fault ≡ Fault.OutOfMemory) }

@@ -1,5 +1,6 @@
 use Rattle.std.proofs.Common.{refl, sym, subst}
 use Rattle.review_command.specs.Runs.{Does}
+use Rattle.review_command.proofs.RejectionLaws.{diff_ends}
 use Rattle.review_command.proofs.command.run.Goals as goal
 
 pub returns-in-Faults : goal.returns-in-Faults
@@ -7,10 +8,10 @@ returns-in-Faults g c =
     subst (λ z. Does (g.S.Shelf.holds c.args.shelf.now) g.R.Read.remaining g.W.Write.contents g.E.Write.contents z c.args.input c.args.out c.args.err c.reports.result) (sym c.in-Faults.is)
     (record {
       end = c.reports.new.input;
-      old = c.new-out.result;
+      old = c.new-out-in-Faults.result;
       new = c.reports.new.out;
-      writer = c.new-out.ensures.inner;
-      no_write = c.new-out.ensures.faults;
+      writer = c.new-out-in-Faults.ensures.inner;
+      no_write = c.new-out-in-Faults.ensures.faults;
       tells = c.reports.ensures.tells;
     })
 
@@ -57,3 +58,16 @@ returns-in-WarnPage g c =
         tells = c.pages-in-WarnPage.ensures;
       },
     ))
+
+pub returns-in-Diff : goal.returns-in-Diff
+returns-in-Diff g c =
+    let tells = rw c.deref.ensures.value at c.diff-answer.ensures.tells in
+    let refuses = rw c.deref.ensures.value at c.diff-answer.ensures.refuses in
+    subst (λ z. Does (g.S.Shelf.holds c.args.shelf.now) g.R.Read.remaining g.W.Write.contents g.E.Write.contents z c.args.input c.args.out c.args.err c.diff_status.result) (sym c.in-Diff.is)
+    (record {
+      old = c.new-out.result;
+      new = c.diff-answer.new.out;
+      writer = c.new-out.ensures.inner;
+      no_write = c.new-out.ensures.faults;
+      ends = diff_ends (g.S.Shelf.holds c.args.shelf.now) g.R.Read.remaining g.W.Write.contents g.E.Write.contents c.in-Diff.asked c.in-Diff.ignored.items c.args.input c.new-out.result c.diff-answer.new.out c.diff-answer.result c.diff_status.result tells refuses c.diff_status.ensures.ok c.diff_status.ensures.err;
+    })
