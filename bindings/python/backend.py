@@ -88,7 +88,7 @@ def write_zip(path, parts):
     with zipfile.ZipFile(path, "w", zipfile.ZIP_DEFLATED) as file:
         for name, part in parts.items():
             info = zipfile.ZipInfo(name, time.gmtime(made)[:6])
-            info.compress_type, info.external_attr, info.create_system = (zipfile.ZIP_DEFLATED, 0o100644 << 16, 3)
+            info.compress_type, info.external_attr, info.create_system = zipfile.ZIP_DEFLATED, 0o100644 << 16, 3
             file.writestr(info, part)
 
 

@@ -96,16 +96,15 @@ class Progress:
 
 def fill(table: Table, paths: Sequence[str], jobs: int, batch: int, cache: Optional[str]) -> int:
     """Adds a row for each path, by so many processes, and tells for how many contents the library was asked. The processes are
-    forked, so each has the names and what was taken of the cache already, if they are few.
-    """
-    progress, some, judge, asked = (Progress(len(paths)), list(batches(paths, batch)), Judge(cache), 0)
+    forked, so each has the names and what was taken of the cache already, if they are few."""
+    progress, some, judge, asked = Progress(len(paths)), list(batches(paths, batch)), Judge(cache), 0
     if jobs <= _TAKEN_JOBS:
         judge.take(min(_TAKEN_A_FILE * len(paths), _TAKEN))
 
     def answer(number: int) -> Tuple[Any, int, int]:
         """The rows of a batch, how many they are, and for how many contents the library was asked."""
         before = judge.asked
-        return (packed(judge.batch(some[number])), len(some[number]), judge.asked - before)
+        return packed(judge.batch(some[number])), len(some[number]), judge.asked - before
 
     with Workers(jobs, answer) as workers:
         for answers in workers.answers(len(some)):

@@ -168,7 +168,7 @@ class Judge:
     def batch(self, paths: Sequence[str]) -> List[_Plain]:
         """The rows of a batch. The cache is asked for many files at once, and these held until then have few bytes."""
         found: List[_Plain] = [()] * len(paths)
-        waiting, held, sha256, taken, refused, met = ([], 0, hashlib.sha256, self.taken, self.refused, self.met)
+        waiting, held, sha256, taken, refused, met = [], 0, hashlib.sha256, self.taken, self.refused, self.met
         met.clear()
         for place, path in enumerate(paths):
             try:
@@ -284,8 +284,7 @@ def _is_empty(base: sqlite3.Connection, schema: str = "main") -> bool:
 
 def _opened_to_read(name: str) -> sqlite3.Connection:
     """A database that is not changed. SQLite would put two files next to one that has a log (WAL), and leave them there, so it is
-    read as one that nobody writes, unless a file next to it shows that somebody does, or was ended while doing so.
-    """
+    read as one that nobody writes, unless a file next to it shows that somebody does, or was ended while doing so."""
     from urllib.parse import quote  # only here, since it takes its time to load
 
     is_written = any(os.path.exists(name + end) for end in ("-wal", "-journal"))
@@ -320,7 +319,7 @@ class _Counts:
 
     def summary(self) -> Tuple[int, int, int, int, int]:
         contents, meanings = len(self.raws - {None}), len(self.digests - {None})
-        return (self.statuses[DONE], self.statuses[REFUSED], self.statuses[UNREAD], contents, meanings)
+        return self.statuses[DONE], self.statuses[REFUSED], self.statuses[UNREAD], contents, meanings
 
 
 class Table:

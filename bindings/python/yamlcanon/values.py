@@ -86,7 +86,7 @@ class Records:
     """What the library gives of a stream: a record for each different value, each behind its parts."""
 
     def __init__(self, values: List[int], parts: List[int], texts: bytes, documents: int) -> None:
-        self.values, self.parts, self.texts, self.documents = (values, parts, texts, documents)
+        self.values, self.parts, self.texts, self.documents = values, parts, texts, documents
         self.kinds = values[::_FIELDS]
 
     def spans(self, at: int) -> Tuple[int, int, int, int]:
@@ -124,7 +124,7 @@ class Records:
 def records_of(data: bytes, memory: int) -> Tuple[Optional[Records], Fault]:
     """The records of a stream, or the fault for which it is rejected."""
     # Enough for most inputs. Where it is not, the library says what is.
-    lengths, fault = (Lengths(len(data) // 8 + 64, len(data) // 8 + 64, len(data) + 1024, 0), Fault())
+    lengths, fault = Lengths(len(data) // 8 + 64, len(data) // 8 + 64, len(data) + 1024, 0), Fault()
     while True:
         values, parts = (c_uint32 * (_FIELDS * lengths.values))(), (c_uint32 * lengths.parts)()
         texts = ctypes.create_string_buffer(lengths.texts)
@@ -134,7 +134,7 @@ def records_of(data: bytes, memory: int) -> Tuple[Optional[Records], Fault]:
             return None, fault
         if status == DONE:
             own = bytes(memoryview(texts)[: lengths.texts])
-            return (Records(values[: _FIELDS * lengths.values], parts[: lengths.parts], own, lengths.documents), fault)
+            return Records(values[: _FIELDS * lengths.values], parts[: lengths.parts], own, lengths.documents), fault
 
 
 class _NoKey(Exception):

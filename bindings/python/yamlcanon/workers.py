@@ -99,7 +99,7 @@ class _Worker:
     """A process that was forked, as the one sees it that asks."""
 
     def __init__(self, work: Callable[[int], Any]) -> None:
-        parent, (asked, self.asks), (self.answers, answers), self.owes = (os.getpid(), os.pipe(), os.pipe(), 0)
+        parent, (asked, self.asks), (self.answers, answers), self.owes = os.getpid(), os.pipe(), os.pipe(), 0
         self.process = os.fork()
         if self.process == 0:
             os.close(self.asks)
@@ -156,7 +156,7 @@ class Workers:
     def answers(self, count: int) -> Iterator[List[Any]]:
         """What the work gives for each number below the count, in whatever order it comes: all that has come, again and again."""
         self._begin(min(self.jobs, count))
-        numbers, of_pipe, poll = (iter(range(count)), {worker.answers: worker for worker in self.all}, select.poll())
+        numbers, of_pipe, poll = iter(range(count)), {worker.answers: worker for worker in self.all}, select.poll()
         for pipe in of_pipe:
             poll.register(pipe, select.POLLIN)
         for worker in self.all * _AHEAD:
