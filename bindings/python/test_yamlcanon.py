@@ -285,7 +285,7 @@ class Calls(unittest.TestCase):
             self.assertIsNone(position_of(data, 12, 0))
 
     def test_a_place_is_found_in_the_input_that_is_rejected(self):
-        left, right = (b"a:\r\n  b: \xc3\xa9\xc3\xa9\r\n  c: 1\r\n\td: 2", b"\xef\xbb\xbf- a\n- %")
+        left, right = b"a:\r\n  b: \xc3\xa9\xc3\xa9\r\n  c: 1\r\n\td: 2", b"\xef\xbb\xbf- a\n- %"
         for words, wanted in (
             ((canonical, left), (4, 1)),
             ((same, left, b"a"), (4, 1)),

@@ -109,7 +109,7 @@ lib, file = _load()
 
 def message_of(number: int, place: int, first: int, second: int) -> Optional[str]:
     """The message of an error, as the programs print it; None if the library has no such error."""
-    fault, room, length = (Fault(number, 0, place, first, second), ctypes.create_string_buffer(_MESSAGE), c_size_t())
+    fault, room, length = Fault(number, 0, place, first, second), ctypes.create_string_buffer(_MESSAGE), c_size_t()
     if lib.yamlcanon_message(byref(fault), room, len(room), byref(length)) != DONE:
         return None
     return room.value.decode()
