@@ -63,21 +63,13 @@ def library(room):
 
 def texts(names):
     """Those of the repository's texts that are there; none where an older pip has copied this folder alone."""
-    return {
-        name: bytes_of(HERE + "/../../" + name)
-        for name in names
-        if os.path.isfile(HERE + "/../../" + name)
-    }
+    return {name: bytes_of(HERE + "/../../" + name) for name in names if os.path.isfile(HERE + "/../../" + name)}
 
 
 def metadata():
     """What tells Python's tools of the module; its description is README.md."""
     with open(HERE + "/README.md", encoding="utf-8") as file:
-        return METADATA.format(
-            files="".join("License-File: %s\n" % name for name in texts(LICENCES)),
-            text=file.read(),
-            **TOLD,
-        )
+        return METADATA.format(files="".join("License-File: %s\n" % name for name in texts(LICENCES)), text=file.read(), **TOLD)
 
 
 def write_info(folder, installer):
@@ -96,43 +88,22 @@ def write_zip(path, parts):
     with zipfile.ZipFile(path, "w", zipfile.ZIP_DEFLATED) as file:
         for name, part in parts.items():
             info = zipfile.ZipInfo(name, time.gmtime(made)[:6])
-            info.compress_type, info.external_attr, info.create_system = (
-                zipfile.ZIP_DEFLATED,
-                0o100644 << 16,
-                3,
-            )
+            info.compress_type, info.external_attr, info.create_system = zipfile.ZIP_DEFLATED, 0o100644 << 16, 3
             file.writestr(info, part)
 
 
 def build_wheel(wheel_directory, config_settings=None, metadata_directory=None):
-    names = sorted(
-        os.path.basename(path) for path in glob.glob(HERE + "/yamlcanon/*.py")
-    ) + ["py.typed"]
-    parts = {
-        "yamlcanon/" + name: bytes_of(HERE + "/yamlcanon/" + name) for name in names
-    }
+    names = sorted(os.path.basename(path) for path in glob.glob(HERE + "/yamlcanon/*.py")) + ["py.typed"]
+    parts = {"yamlcanon/" + name: bytes_of(HERE + "/yamlcanon/" + name) for name in names}
     with tempfile.TemporaryDirectory() as room:
         path = library(room)
         parts["yamlcanon/libyamlcanon.so.1"], tagged = bytes_of(path), tag(path)
     parts[INFO + "METADATA"] = metadata().encode()
-    parts.update(
-        {INFO + "licenses/" + name: text for name, text in texts(LICENCES).items()}
-    )
+    parts.update({INFO + "licenses/" + name: text for name, text in texts(LICENCES).items()})
     parts.update({INFO + name: text for name, text in texts(OTHERS).items()})
-    parts[INFO + "WHEEL"] = (
-        "Wheel-Version: 1.0\nGenerator: yamlcanon\nRoot-Is-Purelib: false\nTag: %s\n"
-        % tagged
-    ).encode()
-    sums = {
-        name: base64.urlsafe_b64encode(hashlib.sha256(part).digest())
-        .rstrip(b"=")
-        .decode()
-        for name, part in parts.items()
-    }
-    record = "".join(
-        "%s,sha256=%s,%d\n" % (name, sums[name], len(part))
-        for name, part in parts.items()
-    )
+    parts[INFO + "WHEEL"] = ("Wheel-Version: 1.0\nGenerator: yamlcanon\nRoot-Is-Purelib: false\nTag: %s\n" % tagged).encode()
+    sums = {name: base64.urlsafe_b64encode(hashlib.sha256(part).digest()).rstrip(b"=").decode() for name, part in parts.items()}
+    record = "".join("%s,sha256=%s,%d\n" % (name, sums[name], len(part)) for name, part in parts.items())
     parts[INFO + "RECORD"] = (record + INFO + "RECORD,,\n").encode()
     wheel = "%s-%s.whl" % (NAME, tagged)
     write_zip(os.path.join(wheel_directory, wheel), parts)
@@ -140,6 +111,4 @@ def build_wheel(wheel_directory, config_settings=None, metadata_directory=None):
 
 
 def build_sdist(sdist_directory, config_settings=None):
-    raise UnsupportedOperation(
-        "no source distribution is made: the library in the wheel is built by the Rattle kit, which no index has"
-    )
+    raise UnsupportedOperation("no source distribution is made: the library in the wheel is built by the Rattle kit, which no index has")

@@ -13,13 +13,7 @@ import sysconfig
 
 # A machine with an older C library than these is not said to be served, whatever the symbols ask for: none was tried.
 LEAST_GLIBC, LEAST_MUSL = (2, 17), (1, 2)
-OF_GLIBC = {
-    "libc.so.6",
-    "libm.so.6",
-    "libpthread.so.0",
-    "ld-linux-x86-64.so.2",
-    "ld-linux-aarch64.so.1",
-}
+OF_GLIBC = {"libc.so.6", "libm.so.6", "libpthread.so.0", "ld-linux-x86-64.so.2", "ld-linux-aarch64.so.1"}
 OF_MUSL = {"libc.so"}
 PROCESSORS = {"Advanced Micro Devices X86-64": "x86_64", "AArch64": "aarch64"}
 
@@ -28,12 +22,7 @@ def told(library):
     """The heads, the dynamic section and the versions of a library of any processor."""
     words = ["readelf", "-hdVW", library]
     return subprocess.run(
-        words,
-        check=True,
-        stdout=subprocess.PIPE,
-        stderr=subprocess.PIPE,
-        env={**os.environ, "LC_ALL": "C"},
-        text=True,
+        words, check=True, stdout=subprocess.PIPE, stderr=subprocess.PIPE, env={**os.environ, "LC_ALL": "C"}, text=True
     ).stdout
 
 
@@ -46,19 +35,12 @@ def platform(library):
         return own
     processor = PROCESSORS.get(re.search(r"^ +Machine: +(.*)$", said, re.M)[1])
     needed = set(re.findall(r"\(NEEDED\) +Shared library: \[(.*)\]", said))
-    versions = [
-        (int(major), int(minor))
-        for major, minor in re.findall(r"Name: GLIBC_(\d+)\.(\d+)", said)
-    ]
+    versions = [(int(major), int(minor)) for major, minor in re.findall(r"Name: GLIBC_(\d+)\.(\d+)", said)]
     if not processor or "GLIBC_PRIVATE" in said:
         return own
     if needed == OF_MUSL and not versions:
         return "musllinux_%d_%d_%s" % (*LEAST_MUSL, processor)
-    return (
-        "manylinux_%d_%d_%s" % (*max([LEAST_GLIBC, *versions]), processor)
-        if needed <= OF_GLIBC
-        else own
-    )
+    return "manylinux_%d_%d_%s" % (*max([LEAST_GLIBC, *versions]), processor) if needed <= OF_GLIBC else own
 
 
 def tag(library):

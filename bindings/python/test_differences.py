@@ -11,24 +11,12 @@ import unittest
 
 import yamlcanon
 import yamlcanon.differences
-from yamlcanon import (
-    Difference,
-    Kind,
-    Refused,
-    budget,
-    canonical,
-    diff,
-    events,
-    same,
-    sha256,
-)
+from yamlcanon import Difference, Kind, Refused, budget, canonical, diff, events, same, sha256
 
 CALLERS = 64
 # What callers have: no limit, enough for all vectors but large ones, and too little for any that has a node.
 BUDGETS = (0, 1 << 20, 500)
-VECTORS = os.environ.get("YAMLCANON_VECTORS") or os.path.join(
-    os.path.dirname(__file__), "../../vectors/form-1.jsonl"
-)
+VECTORS = os.environ.get("YAMLCANON_VECTORS") or os.path.join(os.path.dirname(__file__), "../../vectors/form-1.jsonl")
 DEEPEST = b"{a: " * 1023 + b"x" + b"}" * 1023
 
 
@@ -47,10 +35,7 @@ class Differences(unittest.TestCase):
 
     def test_a_line_of_an_item_that_moved(self):
         line = b'{"kind":"moved","left":null,"left_place":{"column":3,"line":1},"path":"[2]","right":null,"right_place":{"column":3,"line":4}}\n'
-        self.assertEqual(
-            yamlcanon.differences.differences_in(line),
-            [Difference("moved", "[2]", None, None, (1, 3), (4, 3))],
-        )
+        self.assertEqual(yamlcanon.differences.differences_in(line), [Difference("moved", "[2]", None, None, (1, 3), (4, 3))])
 
     def test_none(self):
         for left, right in (("", ""), ("a: 3", b"{a: 0x3}"), ("&x a", bytearray(b"a"))):
@@ -61,9 +46,7 @@ class Differences(unittest.TestCase):
         for left, right, side in (("a:\tb", "[", "left"), ("a", "a:\tb", "right")):
             with self.assertRaises(Refused) as raised:
                 diff(left, right)
-            self.assertEqual(
-                (raised.exception.kind, raised.exception.side), (Kind.Tab, side)
-            )
+            self.assertEqual((raised.exception.kind, raised.exception.side), (Kind.Tab, side))
             self.assertEqual((raised.exception.line, raised.exception.column), (1, 3))
         for lines in (-1, 2**64):
             self.assertRaises(ValueError, diff, "a", "b", lines=lines)
@@ -82,17 +65,12 @@ class Differences(unittest.TestCase):
         got = []
         before = threading.stack_size(128 << 10)
         try:
-            thread = threading.Thread(
-                target=lambda: got.append(diff(DEEPEST, DEEPEST.replace(b"x", b"y")))
-            )
+            thread = threading.Thread(target=lambda: got.append(diff(DEEPEST, DEEPEST.replace(b"x", b"y"))))
             thread.start()
         finally:
             threading.stack_size(before)
         thread.join()
-        self.assertEqual(
-            [(one.kind, one.left, one.right) for one in got[0]],
-            [("changed", '"x"', '"y"')],
-        )
+        self.assertEqual([(one.kind, one.left, one.right) for one in got[0]], [("changed", '"x"', '"y"')])
 
 
 def vectors():
@@ -101,9 +79,7 @@ def vectors():
         for line in file:
             told = json.loads(line)
             if told.get("input") is not None:
-                yield base64.b64decode(told["input"]), told.get("text"), told.get(
-                    "events"
-                ), told.get("refusal", {}).get("number")
+                yield base64.b64decode(told["input"]), told.get("text"), told.get("events"), told.get("refusal", {}).get("number")
 
 
 def or_number(call, *words):
@@ -124,11 +100,7 @@ def answers_beside(vector, memory):
     wanted = [
         (canonical, (data,), number if text is None else text.encode()),
         (events, (data,), number if told is None else told.encode()),
-        (
-            sha256,
-            (data,),
-            number if text is None else hashlib.sha256(text.encode()).digest(),
-        ),
+        (sha256, (data,), number if text is None else hashlib.sha256(text.encode()).digest()),
         (same, (data, text or data), refused or True),
         (diff, (data, text or data), refused or []),
     ]
@@ -143,16 +115,9 @@ class Callers(unittest.TestCase):
     def test_64_callers_with_a_budget_each(self):
         rows = list(vectors())
         self.assertGreater(len(rows), 700)
-        work = [
-            (vector, BUDGETS[number % len(BUDGETS)])
-            for number, vector in enumerate(rows * 3)
-        ]
+        work = [(vector, BUDGETS[number % len(BUDGETS)]) for number, vector in enumerate(rows * 3)]
         with concurrent.futures.ThreadPoolExecutor(CALLERS) as pool:
-            wrong = [
-                line
-                for found in pool.map(answers_beside, *zip(*work))
-                for line in found
-            ]
+            wrong = [line for found in pool.map(answers_beside, *zip(*work)) for line in found]
         self.assertEqual(wrong, [])
 
 

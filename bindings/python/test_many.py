@@ -13,27 +13,13 @@ import unittest
 import yamlcanon
 from yamlcanon import table
 from yamlcanon.many import change, names, shown
-from yamlcanon.table import (
-    Judge,
-    OtherLibrary,
-    Row,
-    Table,
-    keep,
-    library_key,
-    packed,
-    rows,
-)
+from yamlcanon.table import Judge, OtherLibrary, Row, Table, keep, library_key, packed, rows
 from yamlcanon.workers import Killed, Workers
 
 HERE = os.path.dirname(os.path.realpath(__file__))
 ODD = b"a \\ b\nc\xff.yaml"
 # A command finds the module where these tests have found it.
-ENVIRONMENT = {
-    **os.environ,
-    "PYTHONPATH": os.path.dirname(
-        os.path.dirname(os.path.realpath(yamlcanon.__file__))
-    ),
-}
+ENVIRONMENT = {**os.environ, "PYTHONPATH": os.path.dirname(os.path.dirname(os.path.realpath(yamlcanon.__file__)))}
 
 
 def digest(text):
@@ -55,19 +41,12 @@ class Folder(unittest.TestCase):
     def command(self, *words, given=b"", library=None):
         env = {**ENVIRONMENT, "YAMLCANON_LIBRARY": library} if library else ENVIRONMENT
         return subprocess.run(
-            [sys.executable, "-m", "yamlcanon.many", *words],
-            input=given,
-            capture_output=True,
-            cwd=self.room,
-            env=env,
-            timeout=120,
+            [sys.executable, "-m", "yamlcanon.many", *words], input=given, capture_output=True, cwd=self.room, env=env, timeout=120
         )
 
     def filled(self, table_name, paths, *words, library=None):
         given = b"".join(os.fsencode(path) + b"\0" for path in paths)
-        return self.command(
-            table_name, "--jobs", "2", *words, given=given, library=library
-        )
+        return self.command(table_name, "--jobs", "2", *words, given=given, library=library)
 
     def changed(self, name, *statements):
         """Does to a database what this module would not, and gives its file's bytes."""
@@ -97,23 +76,13 @@ class Folder(unittest.TestCase):
 
 class Rows(Folder):
     def test_a_row_is_what_a_file_means(self):
-        good, bad = self.write("good.yaml", b"b: 0x1\n"), self.write(
-            "bad.yaml", b"{1: a, 0x1: b}"
-        )
+        good, bad = self.write("good.yaml", b"b: 0x1\n"), self.write("bad.yaml", b"{1: a, 0x1: b}")
         text = yamlcanon.canonical(b"b: 0x1\n")
         self.assertEqual(
             rows([good, bad]),
             [
                 Row(good, 0, digest(text), None, None, 7, digest(b"b: 0x1\n")),
-                Row(
-                    bad,
-                    2,
-                    None,
-                    19,
-                    "19 EqualKeys in node 4, entries 0 and 1",
-                    14,
-                    digest(b"{1: a, 0x1: b}"),
-                ),
+                Row(bad, 2, None, 19, "19 EqualKeys in node 4, entries 0 and 1", 14, digest(b"{1: a, 0x1: b}")),
             ],
         )
 
@@ -121,17 +90,9 @@ class Rows(Folder):
         fifo = os.path.join(self.room, "fifo")
         os.mkfifo(fifo)
         none = os.path.join(self.room, "none")
-        told = [
-            (one.status, one.message) for one in rows([fifo, self.room, none, "a\0b"])
-        ]
+        told = [(one.status, one.message) for one in rows([fifo, self.room, none, "a\0b"])]
         self.assertEqual(
-            told,
-            [
-                (3, "Not a regular file"),
-                (3, "Is a directory"),
-                (3, "No such file or directory"),
-                (3, "embedded null byte"),
-            ],
+            told, [(3, "Not a regular file"), (3, "Is a directory"), (3, "No such file or directory"), (3, "embedded null byte")]
         )
 
     def test_more_bytes_than_are_accepted_are_not_read(self):
@@ -143,10 +104,7 @@ class Rows(Folder):
         with open("/proc/version", "rb") as file:
             data = file.read()
         self.assertEqual(os.stat("/proc/version").st_size, 0)
-        self.assertEqual(
-            [(one.size, one.raw) for one in rows(["/proc/version"])],
-            [(len(data), digest(data))],
-        )
+        self.assertEqual([(one.size, one.raw) for one in rows(["/proc/version"])], [(len(data), digest(data))])
 
     def test_a_name_that_is_no_text_is_kept(self):
         path, plain = self.write(ODD, b"a: 1"), self.write("plain", b"a: 2")
@@ -167,15 +125,7 @@ class Rows(Folder):
 
 class Counts(Folder):
     def test_what_was_added_is_counted_as_the_table_counts_it(self):
-        paths = [
-            self.write(name, data)
-            for name, data in (
-                ("a", b"x: 1"),
-                ("b", b"{x: 1}"),
-                ("c", b"{"),
-                ("d", b"{"),
-            )
-        ]
+        paths = [self.write(name, data) for name, data in (("a", b"x: 1"), ("b", b"{x: 1}"), ("c", b"{"), ("d", b"{"))]
         filled = self.table("table.db")
         filled.add(rows([*paths, "none"]))
         self.assertTrue(filled.has_counted_all())
@@ -185,9 +135,7 @@ class Counts(Folder):
         self.assertEqual(again.summary(), (2, 2, 1, 3, 1))
         again.add(rows([self.write("e", b"x: 2")]))
         self.assertFalse(filled.has_counted_all())
-        self.assertEqual(
-            [one.summary() for one in (filled, again)], [(3, 2, 1, 4, 2)] * 2
-        )
+        self.assertEqual([one.summary() for one in (filled, again)], [(3, 2, 1, 4, 2)] * 2)
 
     def test_no_more_than_so_many_are_counted(self):
         before, table._MOST_COUNTED = table._MOST_COUNTED, 2
@@ -195,36 +143,23 @@ class Counts(Folder):
         filled = self.table("table.db")
         for number in range(3):
             filled.add(rows([self.write(str(number), b"x: 1")]))
-        self.assertEqual(
-            (filled.summary(), filled.counts.raws), ((3, 0, 0, 1, 1), set())
-        )
+        self.assertEqual((filled.summary(), filled.counts.raws), ((3, 0, 0, 1, 1), set()))
 
 
 class Packed(Folder):
     def test_rows_are_added_as_they_are_however_many(self):
         for count in (0, 1, 5, 127, 128, 129, 300):
-            some = [
-                Row(f"{number}", 0, f"d{number}", None, None, number, f"r{number}")
-                for number in range(count)
-            ]
+            some = [Row(f"{number}", 0, f"d{number}", None, None, number, f"r{number}") for number in range(count)]
             some[2:2] = [
                 Row(os.fsdecode(ODD), 0, "d", None, None, 1, "r"),
                 Row("b", 2, None, 2, "2 No", 1, "s"),
                 Row("u", 3, None, None, "No", None, None),
             ]
             filled = self.table(f"{count}.db")
-            filled.add_packed(
-                [
-                    packed(some),
-                    packed([]),
-                    packed([Row("last", 0, "d", None, None, 1, "r")]),
-                ]
-            )
+            filled.add_packed([packed(some), packed([]), packed([Row("last", 0, "d", None, None, 1, "r")])])
             self.assertEqual(filled.summary(), (count + 2, 1, 1, count + 2, count + 1))
             wanted = [*some, Row("last", 0, "d", None, None, 1, "r")]
-            self.assertEqual(
-                [*filled.rows()], sorted(wanted, key=lambda one: os.fsencode(one.path))
-            )
+            self.assertEqual([*filled.rows()], sorted(wanted, key=lambda one: os.fsencode(one.path)))
 
     def test_a_table_waits_for_the_disk_behind_its_first_seconds(self):
         def level(of):
@@ -275,9 +210,7 @@ class Caches(Folder):
             filled.missing([path])
 
     def test_contents_that_the_cache_has_are_not_asked_for(self):
-        paths, cache = [
-            self.write(str(number), b"a: %d" % (number % 3)) for number in range(9)
-        ], os.path.join(self.room, "cache.db")
+        paths, cache = [self.write(str(number), b"a: %d" % (number % 3)) for number in range(9)], os.path.join(self.room, "cache.db")
         filled = self.table("table.db")
         filled.add(rows(paths[:2]))
         keep(cache, filled)
@@ -285,9 +218,7 @@ class Caches(Folder):
             judge = Judge(cache)
             self.addCleanup(judge.close)
             judge.take(most)
-            self.assertEqual(
-                [len(judge.taken), judge.is_whole], [2, True] if most else [0, False]
-            )
+            self.assertEqual([len(judge.taken), judge.is_whole], [2, True] if most else [0, False])
             self.assertEqual([Row(*one) for one in judge.batch(paths)], rows(paths))
             self.assertEqual(judge.asked, 1)
 
@@ -301,9 +232,7 @@ class Processes(unittest.TestCase):
     def test_each_number_is_answered_once(self):
         for jobs, count in ((1, 0), (1, 1), (1, 9), (3, 2), (4, 100)):
             self.assertEqual(
-                sorted(
-                    self.answers(jobs, count, lambda number: [number, b"x" * 100_000])
-                ),
+                sorted(self.answers(jobs, count, lambda number: [number, b"x" * 100_000])),
                 [[number, b"x" * 100_000] for number in range(count)],
             )
 
@@ -325,33 +254,19 @@ class Processes(unittest.TestCase):
 
     def test_one_that_is_killed_is_told(self):
         with self.assertRaises(Killed):
-            list(
-                self.answers(
-                    2,
-                    9,
-                    lambda number: os.kill(os.getpid(), signal.SIGKILL)
-                    if number == 3
-                    else number,
-                )
-            )
+            list(self.answers(2, 9, lambda number: os.kill(os.getpid(), signal.SIGKILL) if number == 3 else number))
         with self.assertRaises(Killed), Workers(2, lambda number: number) as workers:
             for _ in workers.answers(1000):
                 os.kill(workers.all[0].process, signal.SIGKILL)
 
     def test_none_stays_behind_the_process_that_asks(self):
-        going = subprocess.Popen(
-            [sys.executable, "-c", ASLEEP], stdout=subprocess.PIPE, env=ENVIRONMENT
-        )
+        going = subprocess.Popen([sys.executable, "-c", ASLEEP], stdout=subprocess.PIPE, env=ENVIRONMENT)
         started = [int(word) for word in going.stdout.readline().split()]
         going.kill()
         going.wait()
         going.stdout.close()
         self.assertEqual(len(started), 2)
-        wait_until(
-            lambda: not any(
-                os.path.exists(f"/proc/{process}/fd/0") for process in started
-            )
-        )
+        wait_until(lambda: not any(os.path.exists(f"/proc/{process}/fd/0") for process in started))
 
 
 class Unpicklable(Exception):
@@ -379,10 +294,7 @@ def wait_until(what):
 class Runs(Folder):
     def setUp(self):
         super().setUp()
-        self.paths = [
-            self.write(f"{number}.yaml", b"a: %d" % (number % 7))
-            for number in range(40)
-        ]
+        self.paths = [self.write(f"{number}.yaml", b"a: %d" % (number % 7)) for number in range(40)]
         self.paths.append(self.write(ODD, b"a:  6"))
 
     def test_names_end_in_null_bytes_or_line_feeds(self):
@@ -391,14 +303,7 @@ class Runs(Folder):
 
     def test_one_job_and_four_give_one_table(self):
         for jobs in ("1", "4"):
-            got = self.command(
-                jobs + ".db",
-                "--jobs",
-                jobs,
-                "--batch",
-                "3",
-                given="\0".join(self.paths).encode("utf-8", "surrogateescape"),
-            )
+            got = self.command(jobs + ".db", "--jobs", jobs, "--batch", "3", given="\0".join(self.paths).encode("utf-8", "surrogateescape"))
             self.assertEqual((got.returncode, got.stdout), (0, b""), got.stderr)
         self.assertEqual(self.table("1.db").checksum(), self.table("4.db").checksum())
         self.assertEqual(self.table("1.db").summary(), (41, 0, 0, 8, 7))
@@ -414,9 +319,7 @@ class Runs(Folder):
         self.assertEqual(got.returncode, 1, got.stderr)
         self.assertIn(b"41 done, 0 refused, 1 unread", got.stderr)
         self.assertIn(b"32 of 32 files", got.stderr)
-        self.assertEqual(
-            sum(one.message == "kept" for one in self.table("table.db").rows()), 10
-        )
+        self.assertEqual(sum(one.message == "kept" for one in self.table("table.db").rows()), 10)
         self.write("late.yaml", b"late")
         got = self.filled("table.db", [*self.paths, unread])
         self.assertEqual(got.returncode, 0, got.stderr)
@@ -441,11 +344,7 @@ class Runs(Folder):
         self.assertEqual(going.returncode, 3, told)
         self.assertIn(b"a worker was killed: the same command goes on from here", told)
         got = self.filled("table.db", self.paths)
-        self.assertEqual(
-            (got.returncode, self.table("table.db").summary()),
-            (0, (41, 0, 0, 8, 7)),
-            got.stderr,
-        )
+        self.assertEqual((got.returncode, self.table("table.db").summary()), (0, (41, 0, 0, 8, 7)), got.stderr)
 
     def test_an_interrupt_of_all_its_processes_ends_the_command(self):
         given = b"".join(os.fsencode(path) + b"\0" for path in self.paths * 2000)
@@ -461,29 +360,16 @@ class Runs(Folder):
         time.sleep(0.3)
         os.killpg(going.pid, signal.SIGINT)
         told = going.communicate(timeout=60)[1]
-        self.assertEqual(
-            (going.returncode, told),
-            (3, b"ended: the same command goes on from here\n"),
-        )
+        self.assertEqual((going.returncode, told), (3, b"ended: the same command goes on from here\n"))
         got = self.filled("table.db", self.paths)
-        self.assertEqual(
-            (got.returncode, self.table("table.db").summary()),
-            (0, (41, 0, 0, 8, 7)),
-            got.stderr,
-        )
+        self.assertEqual((got.returncode, self.table("table.db").summary()), (0, (41, 0, 0, 8, 7)), got.stderr)
 
     def test_a_cache_serves_a_second_table(self):
         self.write("cache.db", b"")
         for name in ("1.db", "2.db"):
-            self.assertEqual(
-                self.filled(name, self.paths, "--cache", "cache.db").returncode, 0
-            )
+            self.assertEqual(self.filled(name, self.paths, "--cache", "cache.db").returncode, 0)
         self.assertEqual(self.table("1.db").checksum(), self.table("2.db").checksum())
-        held = (
-            sqlite3.connect(os.path.join(self.room, "cache.db"))
-            .execute("SELECT count(*), min(version) FROM meaning")
-            .fetchone()
-        )
+        held = sqlite3.connect(os.path.join(self.room, "cache.db")).execute("SELECT count(*), min(version) FROM meaning").fetchone()
         self.assertEqual(held, (8, library_key()))
 
 
@@ -497,49 +383,26 @@ class Libraries(Folder):
         self.paths, self.later = [self.write("a.yaml", b"a: 1")], self.other_library()
 
     def test_a_cache_of_another_library_is_not_taken(self):
-        self.assertEqual(
-            self.filled("1.db", self.paths, "--cache", "cache.db").returncode, 0
-        )
+        self.assertEqual(self.filled("1.db", self.paths, "--cache", "cache.db").returncode, 0)
         self.changed("cache.db", "UPDATE meaning " + self.REJECT)
-        self.assertEqual(
-            self.filled("2.db", self.paths, "--cache", "cache.db").returncode, 1
-        )
+        self.assertEqual(self.filled("2.db", self.paths, "--cache", "cache.db").returncode, 1)
         got = self.filled("3.db", self.paths, "--cache", "cache.db", library=self.later)
-        self.assertEqual(
-            (got.returncode, b"1 done, 0 refused" in got.stderr), (0, True), got.stderr
-        )
+        self.assertEqual((got.returncode, b"1 done, 0 refused" in got.stderr), (0, True), got.stderr)
 
     def test_a_table_of_another_library_is_not_gone_on_with(self):
         self.filled("1.db", self.paths)
-        got = self.filled(
-            "1.db", [*self.paths, self.write("b.yaml", b"b")], library=self.later
-        )
-        self.assertEqual(
-            (got.returncode, b"begin another table" in got.stderr),
-            (3, True),
-            got.stderr,
-        )
+        got = self.filled("1.db", [*self.paths, self.write("b.yaml", b"b")], library=self.later)
+        self.assertEqual((got.returncode, b"begin another table" in got.stderr), (3, True), got.stderr)
 
     def test_drift_between_two_libraries_says_so(self):
         self.filled("1.db", self.paths)
         self.changed("1.db", "UPDATE file " + self.REJECT)
         self.filled("2.db", self.paths, library=self.later)
         got = self.command("--drift", "1.db", "2.db")
-        self.assertEqual(
-            (got.returncode, got.stdout),
-            (1, b"accepted\t" + os.fsencode(self.paths[0]) + b"\n"),
-        )
-        self.assertIn(
-            b"1.db is of the library "
-            + library_key().encode()
-            + b", and 2.db of form1 ",
-            got.stderr,
-        )
+        self.assertEqual((got.returncode, got.stdout), (1, b"accepted\t" + os.fsencode(self.paths[0]) + b"\n"))
+        self.assertIn(b"1.db is of the library " + library_key().encode() + b", and 2.db of form1 ", got.stderr)
         got = self.command("--drift", "2.db", "1.db")
-        self.assertEqual(
-            (got.returncode, got.stdout),
-            (1, b"refused\t" + os.fsencode(self.paths[0]) + b"\n"),
-        )
+        self.assertEqual((got.returncode, got.stdout), (1, b"refused\t" + os.fsencode(self.paths[0]) + b"\n"))
 
     def test_drift_between_two_forms_is_not_told(self):
         self.filled("1.db", self.paths)
@@ -547,31 +410,18 @@ class Libraries(Folder):
         for key in ("form2 2.0 0", "100"):
             self.changed("2.db", f"UPDATE library SET version = '{key}'")
             got = self.command("--drift", "1.db", "2.db")
-            self.assertEqual(
-                (got.returncode, got.stdout, key.encode() in got.stderr), (3, b"", True)
-            )
+            self.assertEqual((got.returncode, got.stdout, key.encode() in got.stderr), (3, b"", True))
 
     def test_a_bag_of_another_library_is_not_taken(self):
-        bag = os.path.join(
-            os.path.dirname(os.path.dirname(HERE)), "examples", "dask_bag.py"
-        )
+        bag = os.path.join(os.path.dirname(os.path.dirname(HERE)), "examples", "dask_bag.py")
         if not os.path.exists(bag):
             self.skipTest("the examples are not here")
         got = []
         for library in (yamlcanon._library_file, self.later):
             words = [sys.executable, "-c", BAG, bag, self.room, *self.paths]
-            done = subprocess.run(
-                words,
-                capture_output=True,
-                env={**ENVIRONMENT, "YAMLCANON_LIBRARY": library},
-                timeout=120,
-            )
-            self.assertEqual(
-                (done.returncode, done.stdout.count(b"\n")), (0, 1), done.stderr
-            )
-            got.append(
-                {name for name in os.listdir(self.room) if name.endswith(".csv")}
-            )
+            done = subprocess.run(words, capture_output=True, env={**ENVIRONMENT, "YAMLCANON_LIBRARY": library}, timeout=120)
+            self.assertEqual((done.returncode, done.stdout.count(b"\n")), (0, 1), done.stderr)
+            got.append({name for name in os.listdir(self.room) if name.endswith(".csv")})
         self.assertEqual([len(names) for names in got], [1, 2])
 
 
@@ -626,24 +476,8 @@ class Questions(Folder):
         )
 
     def test_drift_tells_what_became_of_each_file(self):
-        before = {
-            "same": b"a: 1",
-            "spelled": b"a: 1",
-            "meant": b"a: 1",
-            "gone": b"a",
-            "broken": b"a",
-            "mended": b"{",
-            "bad": b"{",
-        }
-        after = {
-            "same": b"a: 1",
-            "spelled": b"{a: 1}",
-            "meant": b"a: 2",
-            "new": b"a",
-            "broken": b"{",
-            "mended": b"a",
-            "bad": b"{",
-        }
+        before = {"same": b"a: 1", "spelled": b"a: 1", "meant": b"a: 1", "gone": b"a", "broken": b"a", "mended": b"{", "bad": b"{"}
+        after = {"same": b"a: 1", "spelled": b"{a: 1}", "meant": b"a: 2", "new": b"a", "broken": b"{", "mended": b"a", "bad": b"{"}
         for name, files in (("old.db", before), ("new.db", after)):
             for path, data in files.items():
                 self.write(path, data)
@@ -651,114 +485,57 @@ class Questions(Folder):
         got = self.command("--drift", "old.db", "new.db")
         self.assertEqual(
             sorted(got.stdout.splitlines()),
-            [
-                b"accepted\tmended",
-                b"gone\tgone",
-                b"meaning\tmeant",
-                b"new\tnew",
-                b"refused\tbroken",
-                b"spelling\tspelled",
-            ],
+            [b"accepted\tmended", b"gone\tgone", b"meaning\tmeant", b"new\tnew", b"refused\tbroken", b"spelling\tspelled"],
         )
-        self.assertEqual(
-            (got.returncode, got.stderr),
-            (
-                1,
-                b"1 accepted, 1 gone, 1 meaning, 1 new, 1 refused, 2 same, 1 spelling\n",
-            ),
-        )
+        self.assertEqual((got.returncode, got.stderr), (1, b"1 accepted, 1 gone, 1 meaning, 1 new, 1 refused, 2 same, 1 spelling\n"))
         got = self.command("--drift", "old.db", "old.db")
-        self.assertEqual(
-            (got.returncode, got.stdout, got.stderr), (0, b"", b"7 same\n")
-        )
+        self.assertEqual((got.returncode, got.stdout, got.stderr), (0, b"", b"7 same\n"))
 
     def test_an_unread_file_is_no_change_of_meaning(self):
-        done, unread = Row("a", 0, "d", None, None, 1, "r"), Row(
-            "a", 3, None, None, "No", None, None
-        )
-        self.assertEqual(
-            [change(done, unread), change(unread, done), change(unread, unread)],
-            ["unread"] * 3,
-        )
+        done, unread = Row("a", 0, "d", None, None, 1, "r"), Row("a", 3, None, None, "No", None, None)
+        self.assertEqual([change(done, unread), change(unread, done), change(unread, unread)], ["unread"] * 3)
 
     def test_a_table_that_is_none_is_told(self):
         for name in ("none.db", "cache.db"):
             self.write(name, b"no table\n" * 1000)
-        for words in (
-            ("none.db",),
-            ("--duplicates", "none.db"),
-            ("--drift", "none.db", "none.db"),
-            ("no/folder.db",),
-        ):
+        for words in (("none.db",), ("--duplicates", "none.db"), ("--drift", "none.db", "none.db"), ("no/folder.db",)):
             got = self.command(*words)
-            self.assertEqual(
-                (got.returncode, got.stderr.count(b"\n")), (3, 1), got.stderr
-            )
+            self.assertEqual((got.returncode, got.stderr.count(b"\n")), (3, 1), got.stderr)
         got = self.filled("a.db", [self.write("a", b"a")], "--cache", "cache.db")
-        self.assertEqual(
-            (got.returncode, b"Traceback" in got.stderr), (3, False), got.stderr
-        )
+        self.assertEqual((got.returncode, b"Traceback" in got.stderr), (3, False), got.stderr)
 
     def test_a_table_is_not_changed_by_a_question(self):
         name = "a?b#c%41.db"
-        self.filled(
-            name,
-            [self.write(str(number), b"a: %d" % (number % 2)) for number in range(4)],
-        )
+        self.filled(name, [self.write(str(number), b"a: %d" % (number % 2)) for number in range(4)])
         before, files = self.read(name), sorted(os.listdir(self.room))
         for words in (("--duplicates", name), ("--drift", name, name)):
             got = self.command(*words)
-            self.assertEqual(
-                (got.returncode, got.stdout.count(b"#")),
-                (0, 2 if "--duplicates" in words else 0),
-                got.stderr,
-            )
-        self.assertEqual(
-            (sorted(os.listdir(self.room)), self.read(name) == before), (files, True)
-        )
+            self.assertEqual((got.returncode, got.stdout.count(b"#")), (0, 2 if "--duplicates" in words else 0), got.stderr)
+        self.assertEqual((sorted(os.listdir(self.room)), self.read(name) == before), (files, True))
 
     def test_a_table_that_is_being_filled_is_read(self):
         filled = self.table("table.db")
         filled.add([Row(name, 0, "d", None, None, 1, "r") for name in "ab"])
         got = self.command("--duplicates", "table.db")
-        self.assertEqual(
-            (got.returncode, got.stdout),
-            (0, b"# 2 files mean the same, in 1 spelling\n=\ta\n=\tb\n"),
-            got.stderr,
-        )
+        self.assertEqual((got.returncode, got.stdout), (0, b"# 2 files mean the same, in 1 spelling\n=\ta\n=\tb\n"), got.stderr)
 
     def test_the_database_of_another_program_is_left_alone(self):
         self.filled("own.db", [self.write("a", b"a")])
-        for statement in (
-            "CREATE TABLE users (name)",
-            "CREATE TABLE file (path)",
-            "CREATE TABLE meaning (raw)",
-        ):
-            before = self.changed(
-                "other.db",
-                "DROP TABLE IF EXISTS users",
-                "DROP TABLE IF EXISTS file",
-                statement,
-            )
+        for statement in ("CREATE TABLE users (name)", "CREATE TABLE file (path)", "CREATE TABLE meaning (raw)"):
+            before = self.changed("other.db", "DROP TABLE IF EXISTS users", "DROP TABLE IF EXISTS file", statement)
             for words, what in (
                 (("--duplicates", "other.db"), b"table"), (("--drift", "own.db", "other.db"), b"table"), (("--drift", "other.db", "own.db"), b"table"),
                 (("other.db",), b"table"), (("new.db", "--cache", "other.db"), b"cache"),
             ):  # fmt: skip
                 got = self.command(*words, given=b"a\0")
-                self.assertEqual(
-                    (got.returncode, got.stderr, got.stdout),
-                    (3, b"other.db: no %s of yamlcanon.many\n" % what, b""),
-                )
+                self.assertEqual((got.returncode, got.stderr, got.stdout), (3, b"other.db: no %s of yamlcanon.many\n" % what, b""))
                 self.assertEqual(self.read("other.db"), before)
 
     def test_an_output_that_is_closed_ends_the_command(self):
         self.filled("table.db", [self.write(name, b"a: 1") for name in "abc"])
         open_end, closed = os.pipe()
         os.close(open_end)
-        for words in (
-            ("--duplicates", "table.db"),
-            ("--drift", "empty.db", "table.db"),
-        ):
+        for words in (("--duplicates", "table.db"), ("--drift", "empty.db", "table.db")):
             self.filled("empty.db", [])
             got = subprocess.run(
                 [sys.executable, "-m", "yamlcanon.many", *words], stdout=closed, stderr=subprocess.PIPE, cwd=self.room, env=ENVIRONMENT, timeout=120
@@ -767,12 +544,7 @@ class Questions(Folder):
         os.close(closed)
 
     def test_words_that_ask_for_nothing(self):
-        for words in (
-            (),
-            ("--duplicates", "none.db"),
-            ("a.db", "--jobs", "0"),
-            ("a.db", "--drift", "a.db", "b.db"),
-        ):
+        for words in ((), ("--duplicates", "none.db"), ("a.db", "--jobs", "0"), ("a.db", "--drift", "a.db", "b.db")):
             self.assertEqual(self.command(*words).returncode, 2)
         self.assertEqual(os.listdir(self.room), [])
 

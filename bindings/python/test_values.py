@@ -13,57 +13,27 @@ from yamlcanon import Refused, Tagged, TooManyNodes, Unhashable, budget, load, l
 
 def unfolding(levels):
     """Sequences of two aliases of the one before: 2 to the power of so many scalars."""
-    return "".join(
-        f"- &a{level} [{f'*a{level - 1}, *a{level - 1}' if level else 'x, x'}]\n"
-        for level in range(levels)
-    )
+    return "".join(f"- &a{level} [{f'*a{level - 1}, *a{level - 1}' if level else 'x, x'}]\n" for level in range(levels))
 
 
 class Values(unittest.TestCase):
     def test_each_kind(self):
         data = "[~, true, 0x10, -5, 1.50, .inf, -.Inf, .nan, a, '1', !t u, !t [v], !t {w: x}, [], {}]"
         (values,) = load(data)
-        self.assertEqual(
-            values[:7],
-            [
-                None,
-                True,
-                16,
-                -5,
-                Decimal("1.5"),
-                Decimal("Infinity"),
-                Decimal("-Infinity"),
-            ],
-        )
+        self.assertEqual(values[:7], [None, True, 16, -5, Decimal("1.5"), Decimal("Infinity"), Decimal("-Infinity")])
         self.assertTrue(values[7].is_nan())
-        self.assertEqual(
-            values[8:],
-            [
-                "a",
-                "1",
-                Tagged("!t", "u"),
-                Tagged("!t", ["v"]),
-                Tagged("!t", {"w": "x"}),
-                [],
-                {},
-            ],
-        )
-        self.assertEqual(
-            [type(value) for value in values[1:5]], [bool, int, int, Decimal]
-        )
+        self.assertEqual(values[8:], ["a", "1", Tagged("!t", "u"), Tagged("!t", ["v"]), Tagged("!t", {"w": "x"}), [], {}])
+        self.assertEqual([type(value) for value in values[1:5]], [bool, int, int, Decimal])
 
     def test_all_digits_of_a_number_are_kept(self):
         self.assertEqual(
-            load_one("123456789012345678901234567890.1234567890123456789"),
-            Decimal("123456789012345678901234567890.1234567890123456789"),
+            load_one("123456789012345678901234567890.1234567890123456789"), Decimal("123456789012345678901234567890.1234567890123456789")
         )
         self.assertEqual(load_one(str(2**127 - 1)), 2**127 - 1)
         self.assertEqual(load_one("1e1000000"), Decimal("1e1000000"))
 
     def test_floats_are_made_by_what_is_asked_for(self):
-        self.assertEqual(
-            load("[1.5, .inf, -.inf]", floats=float), [[1.5, math.inf, -math.inf]]
-        )
+        self.assertEqual(load("[1.5, .inf, -.inf]", floats=float), [[1.5, math.inf, -math.inf]])
         self.assertTrue(math.isnan(load_one(".nan", floats=float)))
         self.assertEqual(load_one("1.50", floats=str), load_one("15.0e-1", floats=str))
 
@@ -75,17 +45,12 @@ class Values(unittest.TestCase):
                 load_one(data)
 
     def test_what_means_the_same_has_the_same_values(self):
-        self.assertEqual(
-            repr(load("{b: 0x1, a: &x [q], c: *x}")),
-            repr(load("c:\n  - q\na: [q]\nb: 1\n")),
-        )
+        self.assertEqual(repr(load("{b: 0x1, a: &x [q], c: *x}")), repr(load("c:\n  - q\na: [q]\nb: 1\n")))
 
     def test_each_place_has_an_object_of_its_own(self):
         values = load_one("{a: &x [{b: c}], d: *x, e: [{b: c}]}")
         values["a"][0]["b"] = "changed"
-        self.assertEqual(
-            values, {"a": [{"b": "changed"}], "d": [{"b": "c"}], "e": [{"b": "c"}]}
-        )
+        self.assertEqual(values, {"a": [{"b": "changed"}], "d": [{"b": "c"}], "e": [{"b": "c"}]})
 
     def test_a_key_that_a_dict_cannot_have(self):
         for data, key, document, path in (
@@ -97,26 +62,14 @@ class Values(unittest.TestCase):
         ):
             with self.assertRaises(Unhashable) as raised:
                 load(data)
-            self.assertEqual(
-                (
-                    raised.exception.key,
-                    raised.exception.document,
-                    raised.exception.path,
-                ),
-                (key, document, path),
-            )
-        self.assertEqual(
-            load_one("{!t a: b, a: c}"), {Tagged("!t", "a"): "b", "a": "c"}
-        )
+            self.assertEqual((raised.exception.key, raised.exception.document, raised.exception.path), (key, document, path))
+        self.assertEqual(load_one("{!t a: b, a: c}"), {Tagged("!t", "a"): "b", "a": "c"})
 
     def test_the_limit_of_nodes(self):
         for levels in (10, 60):
             with self.assertRaises(TooManyNodes) as raised:
                 load(unfolding(levels), limit=100)
-            self.assertEqual(
-                raised.exception.nodes,
-                1 + sum(2 ** (level + 2) - 1 for level in range(levels)),
-            )
+            self.assertEqual(raised.exception.nodes, 1 + sum(2 ** (level + 2) - 1 for level in range(levels)))
         with self.assertRaises(TooManyNodes):
             load(unfolding(60))
         self.assertEqual(load("[a, b]", limit=3), [["a", "b"]])
@@ -131,9 +84,7 @@ class Values(unittest.TestCase):
         told = []
         threading.stack_size(128 << 10)
         try:
-            thread = threading.Thread(
-                target=lambda: told.append(load("{a: " * 1023 + "x" + "}" * 1023))
-            )
+            thread = threading.Thread(target=lambda: told.append(load("{a: " * 1023 + "x" + "}" * 1023)))
             thread.start()
             thread.join()
         finally:
@@ -143,10 +94,7 @@ class Values(unittest.TestCase):
     def test_rejections_and_bounds(self):
         with self.assertRaises(Refused) as raised:
             load("port: 80\nhost:\tweb\n")
-        self.assertEqual(
-            (raised.exception.line, raised.exception.column, raised.exception.number),
-            (2, 6, 5),
-        )
+        self.assertEqual((raised.exception.line, raised.exception.column, raised.exception.number), (2, 6, 5))
         with self.assertRaises(Refused):
             load("{a: 1, 0x1: b, 1: c}")
         with self.assertRaises(MemoryError):

@@ -38,22 +38,13 @@ from yamlcanon import (
 from yamlcanon.library import message_of, position_of
 
 # A command finds the module where these tests have found it.
-ENVIRONMENT = {
-    **os.environ,
-    "PYTHONPATH": os.path.dirname(
-        os.path.dirname(os.path.realpath(yamlcanon.__file__))
-    ),
-}
+ENVIRONMENT = {**os.environ, "PYTHONPATH": os.path.dirname(os.path.dirname(os.path.realpath(yamlcanon.__file__)))}
 
 
 def blocks(levels):
     """Block mappings, each with a tag and an anchor on lines of their own."""
     dents = (b" " * level for level in range(levels))
-    return (
-        b"".join(b"%sa:\n%s !x\n%s &y\n" % (dent, dent, dent) for dent in dents)
-        + b" " * levels
-        + b"x"
-    )
+    return b"".join(b"%sa:\n%s !x\n%s &y\n" % (dent, dent, dent) for dent in dents) + b" " * levels + b"x"
 
 
 # Flow mappings in one another: what takes the most stack.
@@ -71,11 +62,7 @@ def position_by_definition(data, at):
     """Line and column by counting: a line more for each break that ends before, a column more for each character of the line before."""
     text = data[3:] if data.startswith(b"\xef\xbb\xbf") else data
     at = max(at - (len(data) - len(text)), 0)
-    ends = [
-        k
-        for k in range(at)
-        if text[k] == 10 or text[k] == 13 and text[k + 1 : k + 2] != b"\n"
-    ]
+    ends = [k for k in range(at) if text[k] == 10 or text[k] == 13 and text[k + 1 : k + 2] != b"\n"]
     start = ends[-1] + 1 if ends else 0
     return 1 + len(ends), 1 + sum(byte < 128 or byte >= 192 for byte in text[start:at])
 
@@ -108,10 +95,7 @@ def on_thread(stack, work):
 
 class Calls(unittest.TestCase):
     def test_texts(self):
-        self.assertEqual(
-            canonical(b"{b: 0x1, a: [~]}"),
-            b'--- {"a" : [!!null "null"], "b" : !!int "1"}\n',
-        )
+        self.assertEqual(canonical(b"{b: 0x1, a: [~]}"), b'--- {"a" : [!!null "null"], "b" : !!int "1"}\n')
         self.assertEqual(canonical(b""), b"")
         self.assertEqual(events(b"a"), b"+STR\n+DOC\n=VAL :a\n-DOC\n-STR\n")
 
@@ -127,14 +111,7 @@ class Calls(unittest.TestCase):
             self.assertEqual(seen.exception.line, wanted.exception.line)
 
     def test_readable_texts_mean_the_same(self):
-        for data in (
-            b"",
-            b"{b: 0x1, a: [~]}",
-            "é: &x [yes, 'a b']\nf: *x\n--- |\n x\n",
-            b"- \n" * 10_000,
-            DEEPEST,
-            blocks(1023),
-        ):
+        for data in (b"", b"{b: 0x1, a: [~]}", "é: &x [yes, 'a b']\nf: *x\n--- |\n x\n", b"- \n" * 10_000, DEEPEST, blocks(1023)):
             text = show(data)
             self.assertTrue(same(data, text))
             self.assertEqual(show(text), text)
@@ -149,9 +126,7 @@ class Calls(unittest.TestCase):
                 self.assertEqual(seen.exception.line, wanted.exception.line)
 
     def test_a_text_with_aliases_written_out_is_too_long(self):
-        data = b"a0: &a0 x\n" + b"".join(
-            b"a%d: &a%d [*a%d, *a%d]\n" % (k, k, k - 1, k - 1) for k in range(1, 40)
-        )
+        data = b"a0: &a0 x\n" + b"".join(b"a%d: &a%d [*a%d, *a%d]\n" % (k, k, k - 1, k - 1) for k in range(1, 40))
         self.assertLess(len(canonical(data)), 2000)
         for call in (show, to_json):
             with self.assertRaises(Refused) as seen:
@@ -159,49 +134,25 @@ class Calls(unittest.TestCase):
             self.assertEqual(seen.exception.kind, Kind.TextTooLong)
 
     def test_json_has_the_values(self):
-        data = (
-            b'b: 0x1F\na: [~, .5, yes, "\\u2028", 1e3]\n--- &x "l\\r\\n"\n--- {c: {}}\n'
-        )
+        data = b'b: 0x1F\na: [~, .5, yes, "\\u2028", 1e3]\n--- &x "l\\r\\n"\n--- {c: {}}\n'
         values = [json.loads(line) for line in to_json(data).split(b"\n")[:-1]]
-        self.assertEqual(
-            values,
-            [{"a": [None, 0.5, "yes", "\u2028", 1000.0], "b": 31}, "l\r\n", {"c": {}}],
-        )
+        self.assertEqual(values, [{"a": [None, 0.5, "yes", "\u2028", 1000.0], "b": 31}, "l\r\n", {"c": {}}])
         self.assertEqual(to_json(b""), b"")
-        self.assertEqual(
-            json.loads(to_json(b"[" * 900 + b"]" * 900)),
-            json.loads("[" * 900 + "]" * 900),
-        )
+        self.assertEqual(json.loads(to_json(b"[" * 900 + b"]" * 900)), json.loads("[" * 900 + "]" * 900))
 
     def test_what_json_cannot_express(self):
-        for data in (
-            b"{1: a}",
-            b"{[a]: b}",
-            b"{~: b}",
-            b"- .inf",
-            b"- -.inf",
-            b"- .nan",
-            b"- !x a",
-            b"!x {}",
-            b"- a\n--- {!x b: c}",
-        ):
+        for data in (b"{1: a}", b"{[a]: b}", b"{~: b}", b"- .inf", b"- -.inf", b"- .nan", b"- !x a", b"!x {}", b"- a\n--- {!x b: c}"):
             self.assertTrue(same(show(data), data))
             with self.assertRaisesRegex(NoJson, "^JSON cannot express this stream$"):
                 to_json(data)
-        self.assertTrue(
-            issubclass(NoJson, ValueError) and not issubclass(NoJson, Refused)
-        )
+        self.assertTrue(issubclass(NoJson, ValueError) and not issubclass(NoJson, Refused))
         with self.assertRaises(NoJson) as seen:
             to_json("{1: a}")
-        self.assertEqual(
-            str(pickle.loads(pickle.dumps(seen.exception))), str(seen.exception)
-        )
+        self.assertEqual(str(pickle.loads(pickle.dumps(seen.exception))), str(seen.exception))
 
     def test_events_one_by_one(self):
         data = "- a\n- |\n  \u2028b\x85\n---\n&x {}"
-        self.assertEqual(
-            "".join(event + "\n" for event in iter_events(data)), events(data).decode()
-        )
+        self.assertEqual("".join(event + "\n" for event in iter_events(data)), events(data).decode())
         with self.assertRaises(Refused):
             iter_events("[a")
 
@@ -225,13 +176,7 @@ class Calls(unittest.TestCase):
                     self.assertEqual(call(), answer_without)
                 self.assertRaises(MemoryError, call)
                 # The call is handed to another thread, and its limit with it.
-                self.assertIs(
-                    on_thread(
-                        128 << 10,
-                        lambda call=call: or_memory(lambda: call(memory=10_000)),
-                    ),
-                    MemoryError,
-                )
+                self.assertIs(on_thread(128 << 10, lambda call=call: or_memory(lambda: call(memory=10_000))), MemoryError)
             self.assertEqual(call(), answer_without)
         for wrong in (-1, 1 << 64):
             self.assertRaises(ValueError, canonical, b"a", memory=wrong)
@@ -240,9 +185,7 @@ class Calls(unittest.TestCase):
     def test_a_limit_is_one_thread_s_and_one_task_s(self):
         data = b"- a\n" * 10_000
         with budget(10_000):
-            self.assertEqual(
-                on_thread(0, lambda: canonical(data)), canonical(data, memory=0)
-            )
+            self.assertEqual(on_thread(0, lambda: canonical(data)), canonical(data, memory=0))
 
         async def task(memory):
             with budget(memory):
@@ -266,27 +209,13 @@ class Calls(unittest.TestCase):
         self.assertTrue(same(many, text))
 
     def test_bytes_and_text_are_taken(self):
-        for data in (
-            b"a",
-            bytearray(b"a"),
-            memoryview(b"a"),
-            memoryview(b"abc")[:1],
-            "a",
-        ):
+        for data in (b"a", bytearray(b"a"), memoryview(b"a"), memoryview(b"abc")[:1], "a"):
             self.assertEqual(canonical(data), b'--- "a"\n')
         self.assertEqual(canonical("\ufeffé"), canonical(b"\xef\xbb\xbf\xc3\xa9"))
         self.assertTrue(same("é", b"\xc3\xa9"))
         for data in (5, None, [97], pathlib.Path("a")):
-            for call in (
-                canonical,
-                events,
-                lambda it: same(it, b"a"),
-                lambda it: same(b"a", it),
-            ):
-                with self.assertRaisesRegex(
-                    TypeError,
-                    "^yamlcanon: an input is bytes, .* not %s; " % type(data).__name__,
-                ):
+            for call in (canonical, events, lambda it: same(it, b"a"), lambda it: same(b"a", it)):
+                with self.assertRaisesRegex(TypeError, "^yamlcanon: an input is bytes, .* not %s; " % type(data).__name__):
                     call(data)
         with self.assertRaises(UnicodeEncodeError):
             canonical("\ud800")
@@ -312,19 +241,12 @@ class Calls(unittest.TestCase):
             same(b"a", b"- a\n\t- b")
         fault = seen.exception
         self.assertEqual(str(fault), "right: 5 Tab at byte 4")
-        self.assertEqual(
-            (fault.number, fault.name, fault.place, fault.side), (5, "Tab", 4, "right")
-        )
+        self.assertEqual((fault.number, fault.name, fault.place, fault.side), (5, "Tab", 4, "right"))
         self.assertEqual((fault.kind, fault.line, fault.column), (Kind.Tab, 2, 1))
 
     def test_each_kind_has_the_name_that_the_library_gives(self):
         found = {}
-        for data in (
-            *REFUSED,
-            b"a" * 67_108_865,
-            b"- " * 1024 + b"x",
-            b"a" * 67_108_860,
-        ):
+        for data in (*REFUSED, b"a" * 67_108_865, b"- " * 1024 + b"x", b"a" * 67_108_860):
             with self.assertRaises(Refused) as seen:
                 canonical(data)
             found[seen.exception.number] = seen.exception
@@ -354,34 +276,16 @@ class Calls(unittest.TestCase):
 
     def test_lines_and_columns_are_those_of_the_definition(self):
         chance = random.Random(1)
-        parts = [
-            b"\n",
-            b"\r",
-            b"\r\n",
-            b"a",
-            "é".encode(),
-            "\u2028".encode(),
-            "\U0001f600".encode(),
-            b"\x85",
-        ]
+        parts = [b"\n", b"\r", b"\r\n", b"a", "é".encode(), "\u2028".encode(), "\U0001f600".encode(), b"\x85"]
         for number in range(3000):
-            data = (b"\xef\xbb\xbf" if number % 3 == 0 else b"") + b"".join(
-                chance.choice(parts) for _ in range(number % 12)
-            )
+            data = (b"\xef\xbb\xbf" if number % 3 == 0 else b"") + b"".join(chance.choice(parts) for _ in range(number % 12))
             for at in range(len(data) + 1):
-                self.assertEqual(
-                    position_of(data, 4, at),
-                    position_by_definition(data, at),
-                    (data, at),
-                )
+                self.assertEqual(position_of(data, 4, at), position_by_definition(data, at), (data, at))
             self.assertIsNone(position_of(data, 4, len(data) + 1))
             self.assertIsNone(position_of(data, 12, 0))
 
     def test_a_place_is_found_in_the_input_that_is_rejected(self):
-        left, right = (
-            b"a:\r\n  b: \xc3\xa9\xc3\xa9\r\n  c: 1\r\n\td: 2",
-            b"\xef\xbb\xbf- a\n- %",
-        )
+        left, right = b"a:\r\n  b: \xc3\xa9\xc3\xa9\r\n  c: 1\r\n\td: 2", b"\xef\xbb\xbf- a\n- %"
         for words, wanted in (
             ((canonical, left), (4, 1)),
             ((same, left, b"a"), (4, 1)),
@@ -392,34 +296,24 @@ class Calls(unittest.TestCase):
         ):
             with self.assertRaises(Refused) as seen:
                 words[0](*words[1:])
-            self.assertEqual(
-                (seen.exception.line, seen.exception.column), wanted, words
-            )
+            self.assertEqual((seen.exception.line, seen.exception.column), wanted, words)
 
     def test_a_refusal_comes_back_from_pickle(self):
         with self.assertRaises(Refused) as seen:
             same(b"a", b"{1: a, 0x1: b}")
         again = pickle.loads(pickle.dumps(seen.exception))
-        self.assertEqual(
-            (str(again), vars(again)), (str(seen.exception), vars(seen.exception))
-        )
+        self.assertEqual((str(again), vars(again)), (str(seen.exception), vars(seen.exception)))
 
     def test_a_refusal_comes_back_from_a_pool(self):
         # What can't be unpickled ends the one, and the other waits for ever.
         with concurrent.futures.ProcessPoolExecutor(1) as executor:
             with self.assertRaises(Refused) as seen:
                 executor.submit(canonical, b"{1: a, 0x1: b}").result(60)
-        self.assertEqual(
-            (str(seen.exception), seen.exception.number),
-            ("19 EqualKeys in node 4, entries 0 and 1", 19),
-        )
+        self.assertEqual((str(seen.exception), seen.exception.number), ("19 EqualKeys in node 4, entries 0 and 1", 19))
         with multiprocessing.Pool(1) as pool:
             with self.assertRaises(Refused) as seen:
                 pool.apply_async(same, (b"a", b"- a\n\t- b")).get(60)
-        self.assertEqual(
-            (str(seen.exception), seen.exception.side),
-            ("right: 5 Tab at byte 4", "right"),
-        )
+        self.assertEqual((str(seen.exception), seen.exception.side), ("right: 5 Tab at byte 4", "right"))
 
     def test_the_version_of_the_library(self):
         self.assertEqual(library_version(), 101)
@@ -428,49 +322,22 @@ class Calls(unittest.TestCase):
         self.assertEqual(library_release(), yamlcanon.__version__)
 
     def test_deep_inputs_on_threads_with_a_small_stack(self):
-        deep = [
-            b"[" * 1000 + b"]" * 1000,
-            blocks(1023),
-            b"- " * 3000,
-            b"{a: " * 2000,
-            DEEPEST,
-        ]
+        deep = [b"[" * 1000 + b"]" * 1000, blocks(1023), b"- " * 3000, b"{a: " * 2000, DEEPEST]
         want, shown = [answer(data) for data in deep], show(DEEPEST)
         self.assertEqual(want[1][:4], b"--- ")
         least = 64 << 10 if os.uname().machine == "x86_64" else 128 << 10
         for stack in (least, 512 << 10, 2 << 20, 0):  # 0 is the default
-            self.assertEqual(
-                on_thread(stack, lambda: [answer(data) for data in deep]), want
-            )
+            self.assertEqual(on_thread(stack, lambda: [answer(data) for data in deep]), want)
             self.assertTrue(on_thread(stack, lambda: same(deep[1], deep[1])))
             self.assertEqual(on_thread(stack, lambda: show(DEEPEST)), shown)
-            self.assertEqual(
-                on_thread(stack, lambda: to_json(DEEPEST).count(b"{")), 1023
-            )
+            self.assertEqual(on_thread(stack, lambda: to_json(DEEPEST).count(b"{")), 1023)
 
     def test_deep_inputs_where_a_part_of_the_stack_is_used(self):
-        for stack, left in (
-            (2 << 20, 1 << 20),
-            (4 << 20, 1 << 20),
-            (8 << 20, 1 << 20),
-            (8 << 20, 6 << 20),
-        ):
+        for stack, left in ((2 << 20, 1 << 20), (4 << 20, 1 << 20), (8 << 20, 1 << 20), (8 << 20, 6 << 20)):
             # ctypes puts an argument on the stack twice.
-            words = [
-                sys.executable,
-                "-c",
-                PARTLY_USED,
-                str(stack),
-                str((stack - left) // 2),
-            ]
-            done = subprocess.run(
-                words, capture_output=True, env=ENVIRONMENT, timeout=120
-            )
-            self.assertEqual(
-                (done.returncode, done.stdout),
-                (0, b"True True\n"),
-                (stack, left, done.stderr),
-            )
+            words = [sys.executable, "-c", PARTLY_USED, str(stack), str((stack - left) // 2)]
+            done = subprocess.run(words, capture_output=True, env=ENVIRONMENT, timeout=120)
+            self.assertEqual((done.returncode, done.stdout), (0, b"True True\n"), (stack, left, done.stderr))
 
     def test_what_is_left_of_the_stack(self):
         left = on_thread(1 << 20, lambda: yamlcanon._thread.stack_left())
@@ -480,12 +347,7 @@ class Calls(unittest.TestCase):
         texts = [b"{a: [%d, b], c: 0x%x}" % (number, number) for number in range(200)]
         want = [answer(data) for data in texts]
         got = []
-        threads = [
-            threading.Thread(
-                target=lambda: got.append([answer(data) for data in texts])
-            )
-            for _ in range(8)
-        ]
+        threads = [threading.Thread(target=lambda: got.append([answer(data) for data in texts])) for _ in range(8)]
         for thread in threads:
             thread.start()
         for thread in threads:
@@ -497,10 +359,7 @@ class Calls(unittest.TestCase):
         want, inner, is_inside = canonical(b"outer: 1"), [], []
 
         def tracer(frame, _event, _word):
-            if (
-                frame.f_code.co_name in ("_text_here", "keep_room", "take_room")
-                and not is_inside
-            ):
+            if frame.f_code.co_name in ("_text_here", "keep_room", "take_room") and not is_inside:
                 is_inside.append(True)
                 inner.append(canonical(b"inner: 2"))
                 is_inside.pop()
@@ -539,15 +398,7 @@ OTHER = (
     + "".join(
         f"uint32_t yamlcanon_{name}(void) {{ return 0; }}\n"
         for name in (
-            *(
-                "canonical_within",
-                "diff_within",
-                "events_within",
-                "json_within",
-                "same_within",
-                "sha256_within",
-                "show_within",
-            ),
+            *("canonical_within", "diff_within", "events_within", "json_within", "same_within", "sha256_within", "show_within"),
             *("values_within", "message", "position", "release"),
         )
     )
@@ -563,28 +414,14 @@ class Libraries(unittest.TestCase):
     def imported(self, library):
         """What the import of the module over a library says, in its last line."""
         env = {**ENVIRONMENT, "YAMLCANON_LIBRARY": library}
-        done = subprocess.run(
-            [sys.executable, "-c", "import yamlcanon"],
-            stderr=subprocess.PIPE,
-            env=env,
-            timeout=60,
-        )
+        done = subprocess.run([sys.executable, "-c", "import yamlcanon"], stderr=subprocess.PIPE, env=env, timeout=60)
         return done.stderr.decode().rpartition("\n")[0].rpartition("\n")[2]
 
     def other(self, version, form):
         """A library that says that it has this version, and gives texts of this form."""
         with open(f"{self.room}/other.c", "w", encoding="ascii") as file:
             file.write(OTHER)
-        words = [
-            "cc",
-            f"-DVERSION={version}",
-            f"-DFORM={form}",
-            "-shared",
-            "-fPIC",
-            "-o",
-            "other.so",
-            "other.c",
-        ]
+        words = ["cc", f"-DVERSION={version}", f"-DFORM={form}", "-shared", "-fPIC", "-o", "other.so", "other.c"]
         subprocess.run(words, check=True, cwd=self.room)
         return f"{self.room}/other.so"
 
@@ -595,15 +432,10 @@ class Libraries(unittest.TestCase):
         for version, told in ((99, "0.99"), (100, "1.0"), (200, "2.0"), (201, "2.1")):
             other = self.other(version, 1)
             needs = "of the interface, and this module needs 1.1 or a later 1.x"
-            self.assertEqual(
-                self.imported(other),
-                f"ImportError: yamlcanon: {other} has version {told} {needs}",
-            )
+            self.assertEqual(self.imported(other), f"ImportError: yamlcanon: {other} has version {told} {needs}")
         other = self.other(101, 2)
         needs = "gives texts of form 2, and this module needs a library of form 1"
-        self.assertEqual(
-            self.imported(other), f"ImportError: yamlcanon: {other} {needs}"
-        )
+        self.assertEqual(self.imported(other), f"ImportError: yamlcanon: {other} {needs}")
 
     def test_another_library_is_not_loaded(self):
         told = "ImportError: yamlcanon: libc.so.6 is not libyamlcanon: it has no yamlcanon_version"

@@ -42,14 +42,7 @@ from yamlcanon.library import lib as _lib
 from yamlcanon.nojson import NoJson, unwritten as _unwritten
 from yamlcanon.refused import Kind, Refused
 from yamlcanon.stack import elsewhere, thread as _thread
-from yamlcanon.values import (
-    Tagged,
-    TooManyNodes,
-    Unhashable,
-    limit_for,
-    records_of,
-    values_in,
-)
+from yamlcanon.values import Tagged, TooManyNodes, Unhashable, limit_for, records_of, values_in
 
 __all__ = [
     "Difference",
@@ -87,16 +80,12 @@ _DIGEST, _OUT_OF_MEMORY = 32, 21
 # The greatest number of bytes that a call takes for a limit.
 _MOST = c_size_t(-1).value
 # The limit of the calls inside a `with budget(..)`, on each thread and in each task.
-_limit: "contextvars.ContextVar[int]" = contextvars.ContextVar(
-    "yamlcanon.budget", default=0
-)
+_limit: "contextvars.ContextVar[int]" = contextvars.ContextVar("yamlcanon.budget", default=0)
 
 
 def _checked(memory: int) -> int:
     if not 0 <= memory <= _MOST:
-        raise ValueError(
-            f"yamlcanon: a memory limit is a number of bytes from 0 to {_MOST}, not {memory}"
-        )
+        raise ValueError(f"yamlcanon: a memory limit is a number of bytes from 0 to {_MOST}, not {memory}")
     return memory
 
 
@@ -110,9 +99,7 @@ def _raised(fault: Fault, *inputs: bytes) -> Exception:
     if fault.number == _OUT_OF_MEMORY:
         return MemoryError("yamlcanon: 21 OutOfMemory")
     side = ("left", "right")[fault.side] if len(inputs) > 1 else None
-    refused = Refused(
-        fault.number, fault.name.decode(), fault.place, fault.first, fault.second, side
-    )
+    refused = Refused(fault.number, fault.name.decode(), fault.place, fault.first, fault.second, side)
     return refused.locate(inputs[fault.side])
 
 
@@ -144,9 +131,7 @@ def _text_here(call: Any, data: bytes, memory: int) -> bytes:
     status = call(data, len(data), room, len(room), byref(length), byref(fault), memory)
     if status == SHORT:
         room = _thread.take_room(length.value)
-        status = call(
-            data, len(data), room, len(room), byref(length), byref(fault), memory
-        )
+        status = call(data, len(data), room, len(room), byref(length), byref(fault), memory)
     if status == REFUSED:
         raise _raised(fault, data)
     if status != DONE:
@@ -158,9 +143,7 @@ def _text_here(call: Any, data: bytes, memory: int) -> bytes:
 
 def _same_here(left: bytes, right: bytes, memory: int) -> bool:
     fault = Fault()
-    status = _lib.yamlcanon_same_within(
-        left, len(left), right, len(right), byref(fault), memory
-    )
+    status = _lib.yamlcanon_same_within(left, len(left), right, len(right), byref(fault), memory)
     if status == REFUSED:
         raise _raised(fault, left, right)
     return bool(status == DONE)
@@ -168,10 +151,7 @@ def _same_here(left: bytes, right: bytes, memory: int) -> bool:
 
 def _sha256_here(data: bytes, memory: int) -> bytes:
     digest, fault = ctypes.create_string_buffer(_DIGEST), Fault()
-    if (
-        _lib.yamlcanon_sha256_within(data, len(data), digest, byref(fault), memory)
-        != DONE
-    ):
+    if _lib.yamlcanon_sha256_within(data, len(data), digest, byref(fault), memory) != DONE:
         raise _raised(fault, data)
     return digest.raw
 
@@ -214,9 +194,7 @@ def canonical(data: Data, *, memory: Optional[int] = None) -> bytes:
     return _text(_lib.yamlcanon_canonical_within, data, memory)
 
 
-def canonical_file(
-    path: Union[str, bytes, "os.PathLike[Any]"], *, memory: Optional[int] = None
-) -> bytes:
+def canonical_file(path: Union[str, bytes, "os.PathLike[Any]"], *, memory: Optional[int] = None) -> bytes:
     r"""The canonical text of a file. A file that is longer than an input may be is rejected, and not read to its end.
 
     >>> import os, tempfile
@@ -266,14 +244,10 @@ def same(left: Data, right: Data, *, memory: Optional[int] = None) -> bool:
     yamlcanon.Refused: right: 4 Syntax at byte 5
     """
     left, right = _bytes(left), _bytes(right)
-    return bool(
-        _here(max(len(left), len(right)), _same_here, left, right, _memory(memory))
-    )
+    return bool(_here(max(len(left), len(right)), _same_here, left, right, _memory(memory)))
 
 
-def diff(
-    left: Data, right: Data, *, lines: int = 1000, memory: Optional[int] = None
-) -> List[Difference]:
+def diff(left: Data, right: Data, *, lines: int = 1000, memory: Optional[int] = None) -> List[Difference]:
     """Where two streams differ, as `yamlreview diff --format=json` prints it; an empty list if they mean the same.
 
     lines: how many differences are told at most. If there are more, a Difference of kind 'more' is behind them.
@@ -290,9 +264,7 @@ def diff(
     if not 0 <= lines <= _MOST:
         raise ValueError(f"yamlcanon: lines is a number from 0 to {_MOST}, not {lines}")
     left, right = _bytes(left), _bytes(right)
-    text, fault = _here(
-        max(len(left), len(right)), lines_of, left, right, lines, _memory(memory)
-    )
+    text, fault = _here(max(len(left), len(right)), lines_of, left, right, lines, _memory(memory))
     if text is None:
         raise _raised(fault, left, right)
     return differences_in(text)
@@ -341,13 +313,7 @@ def to_json(data: Data, *, memory: Optional[int] = None) -> bytes:
     return _text(_lib.yamlcanon_json_within, data, memory)
 
 
-def load(
-    data: Data,
-    *,
-    memory: Optional[int] = None,
-    floats: Callable[[str], Any] = Decimal,
-    limit: Optional[int] = None,
-) -> List[Any]:
+def load(data: Data, *, memory: Optional[int] = None, floats: Callable[[str], Any] = Decimal, limit: Optional[int] = None) -> List[Any]:
     r"""The values of the documents of a stream: None, bool, int, Decimal, str, list, dict, and Tagged for every other tag.
 
     They are made from what the library gives, with no reader of YAML in between: two streams have the same values if they mean the
@@ -379,13 +345,7 @@ def load(
     return values_in(records, floats, limit_for(own) if limit is None else limit)
 
 
-def load_one(
-    data: Data,
-    *,
-    memory: Optional[int] = None,
-    floats: Callable[[str], Any] = Decimal,
-    limit: Optional[int] = None,
-) -> Any:
+def load_one(data: Data, *, memory: Optional[int] = None, floats: Callable[[str], Any] = Decimal, limit: Optional[int] = None) -> Any:
     """The value of the only document of a stream; ValueError if there are none or several.
 
     >>> load_one("port: 0x50")
@@ -396,9 +356,7 @@ def load_one(
     """
     values = load(data, memory=memory, floats=floats, limit=limit)
     if len(values) != 1:
-        raise ValueError(
-            f"yamlcanon: the stream has {len(values)} documents, and not one"
-        )
+        raise ValueError(f"yamlcanon: the stream has {len(values)} documents, and not one")
     return values[0]
 
 

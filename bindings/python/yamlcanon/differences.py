@@ -42,14 +42,7 @@ def _difference(line: bytes) -> Difference:
     told = json.loads(line)
     if told["kind"] == "more":
         return Difference("more")
-    return Difference(
-        told["kind"],
-        told["path"],
-        told["left"],
-        told["right"],
-        _place(told["left_place"]),
-        _place(told["right_place"]),
-    )
+    return Difference(told["kind"], told["path"], told["left"], told["right"], _place(told["left_place"]), _place(told["right_place"]))
 
 
 def differences_in(text: bytes) -> List[Difference]:
@@ -57,19 +50,13 @@ def differences_in(text: bytes) -> List[Difference]:
     return [_difference(line) for line in text.split(b"\n")[:-1]]
 
 
-def lines_of(
-    left: bytes, right: bytes, lines: int, memory: int
-) -> Tuple[Optional[bytes], Fault]:
+def lines_of(left: bytes, right: bytes, lines: int, memory: int) -> Tuple[Optional[bytes], Fault]:
     """The lines of JSON of two streams, or the fault for which one is rejected."""
     length, fault = c_size_t(), Fault()
 
     def called(room: Any) -> int:
         inputs = (left, len(left), right, len(right), lines)
-        return int(
-            lib.yamlcanon_diff_within(
-                *inputs, room, len(room), byref(length), byref(fault), memory
-            )
-        )
+        return int(lib.yamlcanon_diff_within(*inputs, room, len(room), byref(length), byref(fault), memory))
 
     room = thread.take_room(_ROOM)
     status = called(room)

@@ -2,32 +2,10 @@
 
 import ctypes
 import os
-from ctypes import (
-    POINTER,
-    Structure,
-    byref,
-    c_char,
-    c_char_p,
-    c_size_t,
-    c_uint32,
-    c_uint64,
-    c_void_p,
-)
+from ctypes import POINTER, Structure, byref, c_char, c_char_p, c_size_t, c_uint32, c_uint64, c_void_p
 from typing import Optional, Tuple
 
-__all__ = [
-    "DONE",
-    "FORM",
-    "NO_JSON",
-    "REFUSED",
-    "SHORT",
-    "Fault",
-    "file",
-    "lib",
-    "libc",
-    "message_of",
-    "position_of",
-]
+__all__ = ["DONE", "FORM", "NO_JSON", "REFUSED", "SHORT", "Fault", "file", "lib", "libc", "message_of", "position_of"]
 
 # The form of the texts: yamlcanon-form-1. Another form has another soname, and with it another version of each exported name.
 FORM = 1
@@ -55,22 +33,13 @@ class Fault(Structure):
 class _Named(Structure):
     """Dl_info: the file of an address in a library, and the name that the address has there."""
 
-    _fields_ = [
-        ("file", c_char_p),
-        ("base", c_void_p),
-        ("name", c_char_p),
-        ("at", c_void_p),
-    ]
+    _fields_ = [("file", c_char_p), ("base", c_void_p), ("name", c_char_p), ("at", c_void_p)]
 
 
 def _file_of(own: ctypes.CDLL, named: str) -> str:
     """The file that a library was loaded from; what it was named by, where the system does not tell."""
     found = _Named()
-    if (
-        hasattr(libc, "dladdr")
-        and libc.dladdr(ctypes.cast(own.yamlcanon_version, c_void_p), byref(found))
-        and found.file
-    ):
+    if hasattr(libc, "dladdr") and libc.dladdr(ctypes.cast(own.yamlcanon_version, c_void_p), byref(found)) and found.file:
         return os.path.abspath(os.fsdecode(found.file))
     return os.path.abspath(named)
 
@@ -81,9 +50,7 @@ def _interface_of(own: ctypes.CDLL, named: str) -> int:
         own.yamlcanon_version.restype = c_uint32
         own.yamlcanon_version.argtypes = []
     except AttributeError:
-        raise ImportError(
-            f"yamlcanon: {named} is not libyamlcanon: it has no yamlcanon_version"
-        ) from None
+        raise ImportError(f"yamlcanon: {named} is not libyamlcanon: it has no yamlcanon_version") from None
     return int(own.yamlcanon_version())
 
 
@@ -104,77 +71,34 @@ def _look_at(own: ctypes.CDLL, named: str) -> str:
         )
     form = _form_of(own)
     if form != FORM:
-        raise ImportError(
-            f"yamlcanon: {told} gives texts of form {form}, and this module needs a library of form {FORM}"
-        )
+        raise ImportError(f"yamlcanon: {told} gives texts of form {form}, and this module needs a library of form {FORM}")
     return told
 
 
 def _load() -> Tuple[ctypes.CDLL, str]:
     """The library, and the file that it was loaded from."""
     beside = os.path.join(os.path.dirname(__file__), "libyamlcanon.so.1")
-    named = os.environ.get("YAMLCANON_LIBRARY") or (
-        beside if os.path.exists(beside) else "libyamlcanon.so.1"
-    )
+    named = os.environ.get("YAMLCANON_LIBRARY") or (beside if os.path.exists(beside) else "libyamlcanon.so.1")
     own = ctypes.CDLL(named)
     told = _look_at(own, named)
     for call in (getattr(own, f"yamlcanon_{name}_within") for name in _TEXT_CALLS):
         call.restype = c_uint32
-        call.argtypes = [
-            c_void_p,
-            c_size_t,
-            c_void_p,
-            c_size_t,
-            POINTER(c_size_t),
-            POINTER(Fault),
-            c_size_t,
-        ]
+        call.argtypes = [c_void_p, c_size_t, c_void_p, c_size_t, POINTER(c_size_t), POINTER(Fault), c_size_t]
     own.yamlcanon_same_within.restype = c_uint32
-    own.yamlcanon_same_within.argtypes = [
-        c_void_p,
-        c_size_t,
-        c_void_p,
-        c_size_t,
-        POINTER(Fault),
-        c_size_t,
-    ]
+    own.yamlcanon_same_within.argtypes = [c_void_p, c_size_t, c_void_p, c_size_t, POINTER(Fault), c_size_t]
     own.yamlcanon_diff_within.restype = c_uint32
     own.yamlcanon_diff_within.argtypes = [
         *(c_void_p, c_size_t, c_void_p, c_size_t, c_size_t),
         *(c_void_p, c_size_t, POINTER(c_size_t), POINTER(Fault), c_size_t),
     ]
     own.yamlcanon_sha256_within.restype = c_uint32
-    own.yamlcanon_sha256_within.argtypes = [
-        c_void_p,
-        c_size_t,
-        c_void_p,
-        POINTER(Fault),
-        c_size_t,
-    ]
+    own.yamlcanon_sha256_within.argtypes = [c_void_p, c_size_t, c_void_p, POINTER(Fault), c_size_t]
     own.yamlcanon_values_within.restype = c_uint32
-    own.yamlcanon_values_within.argtypes = [
-        c_void_p,
-        c_size_t,
-        c_void_p,
-        c_void_p,
-        POINTER(Fault),
-        c_size_t,
-    ]
+    own.yamlcanon_values_within.argtypes = [c_void_p, c_size_t, c_void_p, c_void_p, POINTER(Fault), c_size_t]
     own.yamlcanon_message.restype = c_uint32
-    own.yamlcanon_message.argtypes = [
-        POINTER(Fault),
-        c_void_p,
-        c_size_t,
-        POINTER(c_size_t),
-    ]
+    own.yamlcanon_message.argtypes = [POINTER(Fault), c_void_p, c_size_t, POINTER(c_size_t)]
     own.yamlcanon_position.restype = c_uint32
-    own.yamlcanon_position.argtypes = [
-        c_void_p,
-        c_size_t,
-        POINTER(Fault),
-        POINTER(c_size_t),
-        POINTER(c_size_t),
-    ]
+    own.yamlcanon_position.argtypes = [c_void_p, c_size_t, POINTER(Fault), POINTER(c_size_t), POINTER(c_size_t)]
     own.yamlcanon_release.restype = c_char_p
     own.yamlcanon_release.argtypes = []
     return own, told
@@ -185,11 +109,7 @@ lib, file = _load()
 
 def message_of(number: int, place: int, first: int, second: int) -> Optional[str]:
     """The message of an error, as the programs print it; None if the library has no such error."""
-    fault, room, length = (
-        Fault(number, 0, place, first, second),
-        ctypes.create_string_buffer(_MESSAGE),
-        c_size_t(),
-    )
+    fault, room, length = Fault(number, 0, place, first, second), ctypes.create_string_buffer(_MESSAGE), c_size_t()
     if lib.yamlcanon_message(byref(fault), room, len(room), byref(length)) != DONE:
         return None
     return room.value.decode()
@@ -204,11 +124,6 @@ def position_of(data: bytes, number: int, place: int) -> Optional[Tuple[int, int
     (2, 5)
     """
     fault, line, column = Fault(number, 0, place), c_size_t(), c_size_t()
-    if (
-        lib.yamlcanon_position(
-            data, len(data), byref(fault), byref(line), byref(column)
-        )
-        != DONE
-    ):
+    if lib.yamlcanon_position(data, len(data), byref(fault), byref(line), byref(column)) != DONE:
         return None
     return line.value, column.value

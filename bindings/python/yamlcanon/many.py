@@ -29,30 +29,10 @@ import os
 import sqlite3
 import sys
 import time
-from typing import (
-    Any,
-    BinaryIO,
-    Dict,
-    Iterator,
-    List,
-    NoReturn,
-    Optional,
-    Sequence,
-    Tuple,
-)
+from typing import Any, BinaryIO, Dict, Iterator, List, NoReturn, Optional, Sequence, Tuple
 
 import yamlcanon
-from yamlcanon.table import (
-    REFUSED,
-    UNREAD,
-    Judge,
-    NoTable,
-    OtherLibrary,
-    Row,
-    Table,
-    keep,
-    packed,
-)
+from yamlcanon.table import REFUSED, UNREAD, Judge, NoTable, OtherLibrary, Row, Table, keep, packed
 from yamlcanon.workers import Killed, Workers
 
 _FAILED = 3
@@ -69,11 +49,7 @@ _ON_TERMINAL, _ELSEWHERE = 0.5, 10.0
 
 def names(data: bytes) -> List[str]:
     """The names of a list."""
-    return [
-        name
-        for name in os.fsdecode(data).split("\0" if b"\0" in data else "\n")
-        if name
-    ]
+    return [name for name in os.fsdecode(data).split("\0" if b"\0" in data else "\n") if name]
 
 
 def batches(paths: Sequence[str], size: int) -> Iterator[Sequence[str]]:
@@ -110,12 +86,7 @@ class Progress:
         rate = self.done / spent if spent else 0.0
         left = (self.whole - self.done) / rate if rate else 0.0
         line = f"{self.done:,} of {self.whole:,} files, {rate:,.0f} a second, {left:,.0f} s left"
-        print(
-            f"\r{line}  " if self.is_terminal else line,
-            end="" if self.is_terminal else "\n",
-            file=sys.stderr,
-            flush=True,
-        )
+        print(f"\r{line}  " if self.is_terminal else line, end="" if self.is_terminal else "\n", file=sys.stderr, flush=True)
 
     def end(self) -> None:
         self.tell()
@@ -123,29 +94,17 @@ class Progress:
             say("")
 
 
-def fill(
-    table: Table, paths: Sequence[str], jobs: int, batch: int, cache: Optional[str]
-) -> int:
+def fill(table: Table, paths: Sequence[str], jobs: int, batch: int, cache: Optional[str]) -> int:
     """Adds a row for each path, by so many processes, and tells for how many contents the library was asked. The processes are
-    forked, so each has the names and what was taken of the cache already, if they are few.
-    """
-    progress, some, judge, asked = (
-        Progress(len(paths)),
-        list(batches(paths, batch)),
-        Judge(cache),
-        0,
-    )
+    forked, so each has the names and what was taken of the cache already, if they are few."""
+    progress, some, judge, asked = Progress(len(paths)), list(batches(paths, batch)), Judge(cache), 0
     if jobs <= _TAKEN_JOBS:
         judge.take(min(_TAKEN_A_FILE * len(paths), _TAKEN))
 
     def answer(number: int) -> Tuple[Any, int, int]:
         """The rows of a batch, how many they are, and for how many contents the library was asked."""
         before = judge.asked
-        return (
-            packed(judge.batch(some[number])),
-            len(some[number]),
-            judge.asked - before,
-        )
+        return packed(judge.batch(some[number])), len(some[number]), judge.asked - before
 
     with Workers(jobs, answer) as workers:
         for answers in workers.answers(len(some)):
@@ -175,9 +134,7 @@ def run(name: str, data: bytes, jobs: int, batch: int, cache: Optional[str]) -> 
         say("a worker was killed: the same command goes on from here")
         return _FAILED
     except MemoryError:
-        say(
-            "a worker wanted more memory than there is: the same command goes on from here, with fewer --jobs"
-        )
+        say("a worker wanted more memory than there is: the same command goes on from here, with fewer --jobs")
         return _FAILED
     finally:
         table.close()
@@ -186,18 +143,13 @@ def run(name: str, data: bytes, jobs: int, batch: int, cache: Optional[str]) -> 
 def finish(table: Table) -> int:
     """Tells how many files were done, and gives the status."""
     done, refused, unread, contents, meanings = table.summary()
-    say(
-        f"{done:,} done, {refused:,} refused, {unread:,} unread; {contents:,} contents, {meanings:,} meanings"
-    )
+    say(f"{done:,} done, {refused:,} refused, {unread:,} unread; {contents:,} contents, {meanings:,} meanings")
     return 1 if refused or unread else 0
 
 
 def tell_duplicates(name: str, out: BinaryIO) -> int:
     """Tells the groups of files that mean the same."""
-    heads = {
-        hashlib.sha256(yamlcanon.canonical(data)).hexdigest(): head
-        for data, head in _HOLD_NOTHING
-    }
+    heads = {hashlib.sha256(yamlcanon.canonical(data)).hexdigest(): head for data, head in _HOLD_NOTHING}
     apart: List[Tuple[str, List[Tuple[str, str]]]] = []
     for digest, group in Table(name, to_read=True).duplicates():
         count = len({raw for _, raw in group})
@@ -228,11 +180,7 @@ def change(old: Optional[Row], new: Optional[Row]) -> str:
     if UNREAD in (old.status, new.status):
         return "unread"
     # Two libraries may answer otherwise to the same bytes.
-    if old.raw is not None and (old.raw, old.status, old.digest) == (
-        new.raw,
-        new.status,
-        new.digest,
-    ):
+    if old.raw is not None and (old.raw, old.status, old.digest) == (new.raw, new.status, new.digest):
         return "same"
     if new.status == REFUSED:
         return "refused"
@@ -265,10 +213,7 @@ def tell_drift(old_name: str, new_name: str, out: BinaryIO) -> int:
         if became != "same":
             out.write(b"%s\t%s\n" % (became.encode(), shown(path)))
     out.flush()
-    say(
-        ", ".join(f"{count:,} {became}" for became, count in sorted(counts.items()))
-        or "no files"
-    )
+    say(", ".join(f"{count:,} {became}" for became, count in sorted(counts.items())) or "no files")
     return 0 if counts.keys() <= {"same", "spelling"} else 1
 
 
@@ -278,22 +223,16 @@ def do(given: argparse.Namespace) -> int:
         return tell_duplicates(given.duplicates, sys.stdout.buffer)
     if given.drift:
         return tell_drift(*given.drift, sys.stdout.buffer)
-    return run(
-        given.table, sys.stdin.buffer.read(), given.jobs, given.batch, given.cache
-    )
+    return run(given.table, sys.stdin.buffer.read(), given.jobs, given.batch, given.cache)
 
 
 def main(words: Optional[Sequence[str]] = None) -> int:
     parser = argparse.ArgumentParser(
-        prog="python3 -m yamlcanon.many",
-        description=__doc__,
-        formatter_class=argparse.RawDescriptionHelpFormatter,
+        prog="python3 -m yamlcanon.many", description=__doc__, formatter_class=argparse.RawDescriptionHelpFormatter
     )
     parser.add_argument("table", nargs="?", metavar="TABLE")
     parser.add_argument("--cache", metavar="FILE")
-    parser.add_argument(
-        "--jobs", type=int, default=len(os.sched_getaffinity(0)), metavar="N"
-    )
+    parser.add_argument("--jobs", type=int, default=len(os.sched_getaffinity(0)), metavar="N")
     parser.add_argument("--batch", type=int, default=_BATCH, metavar="N")
     what = parser.add_mutually_exclusive_group()
     what.add_argument("--duplicates", metavar="TABLE")
@@ -301,9 +240,7 @@ def main(words: Optional[Sequence[str]] = None) -> int:
     given = parser.parse_args(words)
     asked = [given.table, given.duplicates, given.drift]
     if sum(one is not None for one in asked) != 1 or given.jobs < 1 or given.batch < 1:
-        parser.error(
-            "one TABLE, --duplicates TABLE or --drift OLD NEW; at least one job and one file a batch"
-        )
+        parser.error("one TABLE, --duplicates TABLE or --drift OLD NEW; at least one job and one file a batch")
     for name in [given.duplicates] if given.duplicates else given.drift or []:
         if not os.path.isfile(name):
             parser.error(f"there is no table {name}")

@@ -18,6 +18,4 @@ def unwritten(status: int) -> Exception:
     """What is raised for a status of yamlcanon_json that is neither a text nor a fault of the input."""
     if status == NO_JSON:
         return NoJson("JSON cannot express this stream")
-    return RuntimeError(
-        "yamlcanon: the lines of JSON did not pass their check; this is a bug of the library"
-    )
+    return RuntimeError("yamlcanon: the lines of JSON did not pass their check; this is a bug of the library")

@@ -61,15 +61,7 @@ class Refused(ValueError):
 
     __module__ = "yamlcanon"
 
-    def __init__(
-        self,
-        number: int,
-        name: str,
-        place: int = 0,
-        first: int = 0,
-        second: int = 0,
-        side: Optional[str] = None,
-    ) -> None:
+    def __init__(self, number: int, name: str, place: int = 0, first: int = 0, second: int = 0, side: Optional[str] = None) -> None:
         super().__init__(number, name, place, first, second, side)
         self.number, self.name, self.place = number, name, place
         self.first, self.second, self.side = first, second, side
@@ -96,8 +88,5 @@ class Refused(ValueError):
         return hash(self.args)
 
     def __str__(self) -> str:
-        told = (
-            message_of(self.number, self.place, self.first, self.second)
-            or f"{self.number} {self.name}"
-        )
+        told = message_of(self.number, self.place, self.first, self.second) or f"{self.number} {self.name}"
         return f"{self.side}: {told}" if self.side else told

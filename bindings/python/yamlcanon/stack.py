@@ -64,11 +64,7 @@ class _Thread(threading.local):
     def take_room(self, size: int) -> Any:
         """A room that is this call's alone: a signal's handler or a finalizer may call in the midst of it."""
         room, self.room = self.room, None
-        return (
-            room
-            if room is not None and size <= len(room)
-            else ctypes.create_string_buffer(max(size, _ROOM_LEAST))
-        )
+        return room if room is not None and size <= len(room) else ctypes.create_string_buffer(max(size, _ROOM_LEAST))
 
     def keep_room(self, room: Any) -> None:
         if len(room) <= _ROOM_KEPT:

@@ -16,20 +16,7 @@ import stat
 import time
 from functools import lru_cache
 from itertools import chain, groupby
-from typing import (
-    Any,
-    Collection,
-    Dict,
-    Iterable,
-    Iterator,
-    List,
-    NamedTuple,
-    Optional,
-    Sequence,
-    Set,
-    Tuple,
-    Union,
-)
+from typing import Any, Collection, Dict, Iterable, Iterator, List, NamedTuple, Optional, Sequence, Set, Tuple, Union
 
 import yamlcanon
 
@@ -110,9 +97,7 @@ def library_key() -> str:
 def meaning(data: bytes) -> Meaning:
     """It raises for want of memory alone, which says nothing of the bytes."""
     try:
-        return Meaning(
-            DONE, hashlib.sha256(yamlcanon.canonical(data)).hexdigest(), None, None
-        )
+        return Meaning(DONE, hashlib.sha256(yamlcanon.canonical(data)).hexdigest(), None, None)
     except yamlcanon.Refused as fault:
         return Meaning(REFUSED, None, fault.number, str(fault))
 
@@ -160,9 +145,7 @@ class Judge:
     def __init__(self, cache: Optional[str] = None) -> None:
         self.cache = cache
         self.base: Optional[sqlite3.Connection] = None
-        self.is_whole = (
-            cache is None
-        )  # whether nothing is to be looked up that was not taken
+        self.is_whole = cache is None  # whether nothing is to be looked up that was not taken
         self.taken: Dict[str, str] = {}  # the digests of what is accepted
         self.refused: Dict[str, _Known] = {}
         self.met: Dict[str, _Known] = {}  # in this batch
@@ -170,23 +153,13 @@ class Judge:
 
     def take(self, most: int) -> None:
         """Takes the cache whole, where its file has no more than so many bytes: to look up one by one takes thrice as long."""
-        if (
-            self.cache is None
-            or not os.path.exists(self.cache)
-            or os.path.getsize(self.cache) > most
-        ):
+        if self.cache is None or not os.path.exists(self.cache) or os.path.getsize(self.cache) > most:
             return
         base = _opened(self.cache)
         # Two values a row, of which SQLite's rows are made into a dictionary as they are, take half the time of five.
-        self.taken = dict(
-            base.execute(
-                "SELECT raw, digest FROM meaning WHERE version = ? AND status = 0",
-                (library_key(),),
-            )
-        )
+        self.taken = dict(base.execute("SELECT raw, digest FROM meaning WHERE version = ? AND status = 0", (library_key(),)))
         others = base.execute(
-            "SELECT raw, status, digest, number, message FROM meaning WHERE version = ? AND status <> 0",
-            (library_key(),),
+            "SELECT raw, status, digest, number, message FROM meaning WHERE version = ? AND status <> 0", (library_key(),)
         )
         self.refused = {one[0]: one[1:] for one in others}
         self.is_whole = True
@@ -195,25 +168,14 @@ class Judge:
     def batch(self, paths: Sequence[str]) -> List[_Plain]:
         """The rows of a batch. The cache is asked for many files at once, and these held until then have few bytes."""
         found: List[_Plain] = [()] * len(paths)
-        waiting, held, sha256, taken, refused, met = (
-            [],
-            0,
-            hashlib.sha256,
-            self.taken,
-            self.refused,
-            self.met,
-        )
+        waiting, held, sha256, taken, refused, met = [], 0, hashlib.sha256, self.taken, self.refused, self.met
         met.clear()
         for place, path in enumerate(paths):
             try:
                 data = _read(path)
             except (OSError, ValueError) as fault:
                 # Python's words for a null byte inside a name changed, and a row does not.
-                why = (
-                    "embedded null byte"
-                    if "\0" in path
-                    else getattr(fault, "strerror", None) or str(fault)
-                )
+                why = "embedded null byte" if "\0" in path else getattr(fault, "strerror", None) or str(fault)
                 found[place] = (path, UNREAD, None, None, why, None, None)
                 continue
             if len(data) > _LONGEST:
@@ -226,12 +188,7 @@ class Judge:
                 continue
             known = refused.get(raw) or met.get(raw)
             if known is not None or self.is_whole:
-                found[place] = (
-                    path,
-                    *(known or self._meaning(raw, data)),
-                    len(data),
-                    raw,
-                )
+                found[place] = (path, *(known or self._meaning(raw, data)), len(data), raw)
                 continue
             waiting.append((place, path, raw, data))
             held += len(data)
@@ -241,18 +198,11 @@ class Judge:
         self._settle(waiting, found)
         return found
 
-    def _settle(
-        self, waiting: Sequence[Tuple[int, str, str, bytes]], found: List[_Plain]
-    ) -> None:
+    def _settle(self, waiting: Sequence[Tuple[int, str, str, bytes]], found: List[_Plain]) -> None:
         """Puts the rows of files that were read into their places."""
         self._look_up({one[2] for one in waiting})
         for place, path, raw, data in waiting:
-            found[place] = (
-                path,
-                *(self.met.get(raw) or self._meaning(raw, data)),
-                len(data),
-                raw,
-            )
+            found[place] = (path, *(self.met.get(raw) or self._meaning(raw, data)), len(data), raw)
 
     def _meaning(self, raw: str, data: bytes) -> _Known:
         self.asked += 1
@@ -261,11 +211,7 @@ class Judge:
 
     def _look_up(self, raws: Collection[str]) -> None:
         """Meets what the cache has of these."""
-        if (
-            not raws
-            or self.cache is None
-            or not (self.base or os.path.exists(self.cache))
-        ):
+        if not raws or self.cache is None or not (self.base or os.path.exists(self.cache)):
             return
         if self.base is None:
             self.base = _opened(self.cache)
@@ -316,52 +262,33 @@ def _storable(some: Sequence[_Plain]) -> Sequence[_Plain]:
 def packed(some: Sequence[_Plain]) -> _Packed:
     """Rows, each a Row or what it is a tuple of, in fewer values: those of accepted files have no number and no message."""
     some = _storable(some)
-    done = [
-        (path, digest, size, raw)
-        for path, status, digest, _, _, size, raw in some
-        if status == DONE
-    ]
-    others = (
-        [tuple(one) for one in some if one[1] != DONE] if len(done) < len(some) else []
-    )
+    done = [(path, digest, size, raw) for path, status, digest, _, _, size, raw in some if status == DONE]
+    others = [tuple(one) for one in some if one[1] != DONE] if len(done) < len(some) else []
     return [*chain.from_iterable(done)], others
 
 
 @lru_cache(maxsize=None)
 def _adding(count: int) -> str:
     """The statement that adds so many rows of accepted files."""
-    return "INSERT INTO file VALUES " + ",".join(
-        ["(?, 0, ?, NULL, NULL, ?, ?)"] * count
-    )
+    return "INSERT INTO file VALUES " + ",".join(["(?, 0, ?, NULL, NULL, ?, ?)"] * count)
 
 
-def _has(
-    base: sqlite3.Connection, table: str, columns: Tuple[str, ...], schema: str = "main"
-) -> bool:
+def _has(base: sqlite3.Connection, table: str, columns: Tuple[str, ...], schema: str = "main") -> bool:
     """Whether a database has a table with these columns and no others."""
-    return (
-        tuple(row[1] for row in base.execute(f"PRAGMA {schema}.table_info({table})"))
-        == columns
-    )
+    return tuple(row[1] for row in base.execute(f"PRAGMA {schema}.table_info({table})")) == columns
 
 
 def _is_empty(base: sqlite3.Connection, schema: str = "main") -> bool:
-    return (
-        base.execute(f"SELECT 1 FROM {schema}.sqlite_master LIMIT 1").fetchone() is None
-    )
+    return base.execute(f"SELECT 1 FROM {schema}.sqlite_master LIMIT 1").fetchone() is None
 
 
 def _opened_to_read(name: str) -> sqlite3.Connection:
     """A database that is not changed. SQLite would put two files next to one that has a log (WAL), and leave them there, so it is
-    read as one that nobody writes, unless a file next to it shows that somebody does, or was ended while doing so.
-    """
+    read as one that nobody writes, unless a file next to it shows that somebody does, or was ended while doing so."""
     from urllib.parse import quote  # only here, since it takes its time to load
 
     is_written = any(os.path.exists(name + end) for end in ("-wal", "-journal"))
-    where = "file:%s?mode=ro%s" % (
-        quote(os.fsencode(os.path.abspath(name))),
-        "" if is_written else "&immutable=1",
-    )
+    where = "file:%s?mode=ro%s" % (quote(os.fsencode(os.path.abspath(name))), "" if is_written else "&immutable=1")
     return sqlite3.connect(where, uri=True)
 
 
@@ -392,13 +319,7 @@ class _Counts:
 
     def summary(self) -> Tuple[int, int, int, int, int]:
         contents, meanings = len(self.raws - {None}), len(self.digests - {None})
-        return (
-            self.statuses[DONE],
-            self.statuses[REFUSED],
-            self.statuses[UNREAD],
-            contents,
-            meanings,
-        )
+        return self.statuses[DONE], self.statuses[REFUSED], self.statuses[UNREAD], contents, meanings
 
 
 class Table:
@@ -424,15 +345,11 @@ class Table:
             raise
         self.key = str(self.base.execute("SELECT version FROM library").fetchone()[0])
         self.others = self._changed_by_others()
-        self.was_empty = (
-            self.base.execute("SELECT 1 FROM file LIMIT 1").fetchone() is None
-        )
+        self.was_empty = self.base.execute("SELECT 1 FROM file LIMIT 1").fetchone() is None
 
     def _look(self) -> None:
         """Looks whether this module made the table."""
-        if not (
-            _has(self.base, "file", _FILE) and _has(self.base, "library", _LIBRARY)
-        ):
+        if not (_has(self.base, "file", _FILE) and _has(self.base, "library", _LIBRARY)):
             raise NoTable(f"{self.name}: no table of yamlcanon.many")
 
     def _begin(self) -> None:
@@ -449,25 +366,19 @@ class Table:
                 "CREATE TABLE IF NOT EXISTS file (path NOT NULL, status INTEGER NOT NULL, digest TEXT, number INTEGER,"
                 " message TEXT, size INTEGER, raw TEXT)"
             )
-            self.base.execute(
-                "CREATE TABLE IF NOT EXISTS library (version TEXT NOT NULL)"
-            )
+            self.base.execute("CREATE TABLE IF NOT EXISTS library (version TEXT NOT NULL)")
             if self.base.execute("SELECT 1 FROM library").fetchone() is None:
                 self.base.execute("INSERT INTO library VALUES (?)", (library_key(),))
 
     def missing(self, paths: Iterable[str]) -> List[str]:
         """Those of the paths that have no row, each once. What could not be read is tried again."""
         if self.key != library_key():
-            raise OtherLibrary(
-                f"{self.name} is of the library {self.key}, and this is {library_key()}"
-            )
+            raise OtherLibrary(f"{self.name} is of the library {self.key}, and this is {library_key()}")
         with self.base:
             self.base.execute("DELETE FROM file WHERE status = ?", (UNREAD,))
         has = {path for (path,) in self.base.execute("SELECT path FROM file")}
         each = dict.fromkeys(paths)
-        return (
-            [path for path in each if _stored(path) not in has] if has else list(each)
-        )
+        return [path for path in each if _stored(path) not in has] if has else list(each)
 
     def add(self, some: Sequence[_Plain]) -> None:
         """Adds rows, each a Row or what it is a tuple of."""
@@ -477,17 +388,11 @@ class Table:
         """Adds the rows of batches, all or none."""
         if not self.waits and time.monotonic() - self.since > _UNWAITED:
             self._wait()
-        done = (
-            some[0][0]
-            if len(some) == 1
-            else [*chain.from_iterable(batch[0] for batch in some)]
-        )
+        done = some[0][0] if len(some) == 1 else [*chain.from_iterable(batch[0] for batch in some)]
         others = [*chain.from_iterable(batch[1] for batch in some)]
         with self.base:
             self._insert_done(done)
-            self.base.executemany(
-                "INSERT INTO file VALUES (?, ?, ?, ?, ?, ?, ?)", others
-            )
+            self.base.executemany("INSERT INTO file VALUES (?, ?, ?, ?, ?, ?, ?)", others)
         self.counts.add(done, others)
 
     def _wait(self) -> None:
@@ -508,9 +413,7 @@ class Table:
 
     def rows(self) -> Iterator[Row]:
         """All rows, by path."""
-        for stored, *rest in self.base.execute(
-            "SELECT * FROM file ORDER BY CAST(path AS BLOB)"
-        ):
+        for stored, *rest in self.base.execute("SELECT * FROM file ORDER BY CAST(path AS BLOB)"):
             yield Row(_path(stored), *rest)
 
     def duplicates(self) -> Iterator[Tuple[str, List[Tuple[str, str]]]]:
@@ -529,11 +432,7 @@ class Table:
 
     def has_counted_all(self) -> bool:
         """Whether its rows are those that were added and counted here."""
-        return (
-            self.was_empty
-            and self.counts.rows <= _MOST_COUNTED
-            and self._changed_by_others() == self.others
-        )
+        return self.was_empty and self.counts.rows <= _MOST_COUNTED and self._changed_by_others() == self.others
 
     def summary(self) -> Tuple[int, int, int, int, int]:
         """How many files: done, refused, unread; how many contents and meanings they have."""
@@ -566,10 +465,7 @@ def keep(cache: str, table: Table) -> None:
     """Adds the meanings of a table to a cache, in the order of its key, in which it grows quickest."""
     table.base.execute("ATTACH ? AS cache", (cache,))
     try:
-        if not (
-            _is_empty(table.base, "cache")
-            or _has(table.base, "meaning", _MEANING, "cache")
-        ):
+        if not (_is_empty(table.base, "cache") or _has(table.base, "meaning", _MEANING, "cache")):
             raise NoTable(f"{cache}: no cache of yamlcanon.many")
         with table.base:
             table.base.execute(_CACHE)

@@ -7,15 +7,7 @@ from typing import Any, Callable, Dict, Iterator, List, Optional, Tuple
 
 from yamlcanon.library import DONE, REFUSED, Fault, lib
 
-__all__ = [
-    "Records",
-    "Tagged",
-    "TooManyNodes",
-    "Unhashable",
-    "limit_for",
-    "records_of",
-    "values_in",
-]
+__all__ = ["Records", "Tagged", "TooManyNodes", "Unhashable", "limit_for", "records_of", "values_in"]
 
 # The kinds of values, by the numbers of the header.
 _NULL, _BOOL, _INT, _FLOAT, _STR, _TAGGED, _SEQUENCE, _MAPPING = range(8)
@@ -42,12 +34,7 @@ class Rooms(Structure):
 
 
 class Lengths(Structure):
-    _fields_ = [
-        ("values", c_size_t),
-        ("parts", c_size_t),
-        ("texts", c_size_t),
-        ("documents", c_size_t),
-    ]
+    _fields_ = [("values", c_size_t), ("parts", c_size_t), ("texts", c_size_t), ("documents", c_size_t)]
 
 
 @dataclass(frozen=True)
@@ -98,23 +85,14 @@ class TooManyNodes(ValueError):
 class Records:
     """What the library gives of a stream: a record for each different value, each behind its parts."""
 
-    def __init__(
-        self, values: List[int], parts: List[int], texts: bytes, documents: int
-    ) -> None:
-        self.values, self.parts, self.texts, self.documents = (
-            values,
-            parts,
-            texts,
-            documents,
-        )
+    def __init__(self, values: List[int], parts: List[int], texts: bytes, documents: int) -> None:
+        self.values, self.parts, self.texts, self.documents = values, parts, texts, documents
         self.kinds = values[::_FIELDS]
 
     def spans(self, at: int) -> Tuple[int, int, int, int]:
         """Where the tag of a value starts and ends, and its content or its parts."""
         start = at * _FIELDS
-        tag_start, tag_end, own_start, own_end = self.values[
-            start + 1 : start + _FIELDS
-        ]
+        tag_start, tag_end, own_start, own_end = self.values[start + 1 : start + _FIELDS]
         return tag_start, tag_end, own_start, own_end
 
     def tag(self, at: int) -> str:
@@ -146,39 +124,17 @@ class Records:
 def records_of(data: bytes, memory: int) -> Tuple[Optional[Records], Fault]:
     """The records of a stream, or the fault for which it is rejected."""
     # Enough for most inputs. Where it is not, the library says what is.
-    lengths, fault = (
-        Lengths(len(data) // 8 + 64, len(data) // 8 + 64, len(data) + 1024, 0),
-        Fault(),
-    )
+    lengths, fault = Lengths(len(data) // 8 + 64, len(data) // 8 + 64, len(data) + 1024, 0), Fault()
     while True:
-        values, parts = (c_uint32 * (_FIELDS * lengths.values))(), (
-            c_uint32 * lengths.parts
-        )()
+        values, parts = (c_uint32 * (_FIELDS * lengths.values))(), (c_uint32 * lengths.parts)()
         texts = ctypes.create_string_buffer(lengths.texts)
-        rooms = Rooms(
-            values,
-            lengths.values,
-            parts,
-            lengths.parts,
-            ctypes.cast(texts, POINTER(c_uint8)),
-            lengths.texts,
-        )
-        status = lib.yamlcanon_values_within(
-            data, len(data), byref(rooms), byref(lengths), byref(fault), memory
-        )
+        rooms = Rooms(values, lengths.values, parts, lengths.parts, ctypes.cast(texts, POINTER(c_uint8)), lengths.texts)
+        status = lib.yamlcanon_values_within(data, len(data), byref(rooms), byref(lengths), byref(fault), memory)
         if status == REFUSED:
             return None, fault
         if status == DONE:
             own = bytes(memoryview(texts)[: lengths.texts])
-            return (
-                Records(
-                    values[: _FIELDS * lengths.values],
-                    parts[: lengths.parts],
-                    own,
-                    lengths.documents,
-                ),
-                fault,
-            )
+            return Records(values[: _FIELDS * lengths.values], parts[: lengths.parts], own, lengths.documents), fault
 
 
 class _NoKey(Exception):
@@ -212,9 +168,7 @@ class _Maker:
 
     def scalar(self, at: int) -> Any:
         if at not in self.scalars:
-            self.scalars[at] = self.scalar_of(
-                self.records.kinds[at], self.records.content(at), at
-            )
+            self.scalars[at] = self.scalar_of(self.records.kinds[at], self.records.content(at), at)
         return self.scalars[at]
 
     def scalar_of(self, kind: int, content: str, at: int) -> Any:
@@ -238,21 +192,13 @@ class _Maker:
     def step(self, at: int, made: List[Any]) -> Any:
         """What leads to the part that comes next: its place, or the key of its value."""
         is_value = self.records.kinds[at] == _MAPPING and len(made) % 2
-        return (
-            made[-1]
-            if is_value
-            else len(made)
-            if self.records.kinds[at] == _SEQUENCE
-            else len(made) // 2
-        )
+        return made[-1] if is_value else len(made) if self.records.kinds[at] == _SEQUENCE else len(made) // 2
 
     def document(self, root: int, number: int) -> Any:
         """The value of a document. Values may lie in one another up to 1,023 times, so they are kept on a list and not on the stack."""
         if self.records.kinds[root] < _SEQUENCE:
             return self.scalar(root)
-        opened: List[Tuple[int, Iterator[int], List[Any]]] = [
-            (root, iter(self.records.parts_of(root)), [])
-        ]
+        opened: List[Tuple[int, Iterator[int], List[Any]]] = [(root, iter(self.records.parts_of(root)), [])]
         while True:
             at, rest, made = opened[-1]
             for part in rest:
@@ -265,11 +211,7 @@ class _Maker:
                 try:
                     value = self.collection(at, made)
                 except _NoKey as fault:
-                    raise Unhashable(
-                        fault.key,
-                        number,
-                        tuple(self.step(above, before) for above, _, before in opened),
-                    ) from None
+                    raise Unhashable(fault.key, number, tuple(self.step(above, before) for above, _, before in opened)) from None
                 if not opened:
                     return value
                 opened[-1][2].append(value)

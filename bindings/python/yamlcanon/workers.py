@@ -77,9 +77,7 @@ def _answer(work: Callable[[int], Any], number: int) -> bytes:
     return b"".join((kind, len(told).to_bytes(_LENGTH, "little"), told))
 
 
-def _serve(
-    work: Callable[[int], Any], parent: int, asked: int, answers: int
-) -> NoReturn:
+def _serve(work: Callable[[int], Any], parent: int, asked: int, answers: int) -> NoReturn:
     """Answers what is asked until this process is killed, by the kernel where the one that asks has ended. Ctrl-C reaches every
     process of a terminal, and only the one that asks takes it."""
     try:
@@ -101,12 +99,7 @@ class _Worker:
     """A process that was forked, as the one sees it that asks."""
 
     def __init__(self, work: Callable[[int], Any]) -> None:
-        parent, (asked, self.asks), (self.answers, answers), self.owes = (
-            os.getpid(),
-            os.pipe(),
-            os.pipe(),
-            0,
-        )
+        parent, (asked, self.asks), (self.answers, answers), self.owes = os.getpid(), os.pipe(), os.pipe(), 0
         self.process = os.fork()
         if self.process == 0:
             os.close(self.asks)
@@ -154,12 +147,7 @@ class Workers:
     def __enter__(self) -> "Workers":
         return self
 
-    def __exit__(
-        self,
-        kind: Optional[Type[BaseException]],
-        fault: Optional[BaseException],
-        at: Optional[TracebackType],
-    ) -> None:
+    def __exit__(self, kind: Optional[Type[BaseException]], fault: Optional[BaseException], at: Optional[TracebackType]) -> None:
         for worker in self.all:
             worker.end()
         for worker in self.all:
@@ -168,11 +156,7 @@ class Workers:
     def answers(self, count: int) -> Iterator[List[Any]]:
         """What the work gives for each number below the count, in whatever order it comes: all that has come, again and again."""
         self._begin(min(self.jobs, count))
-        numbers, of_pipe, poll = (
-            iter(range(count)),
-            {worker.answers: worker for worker in self.all},
-            select.poll(),
-        )
+        numbers, of_pipe, poll = iter(range(count)), {worker.answers: worker for worker in self.all}, select.poll()
         for pipe in of_pipe:
             poll.register(pipe, select.POLLIN)
         for worker in self.all * _AHEAD:
