@@ -19,7 +19,7 @@ use Rattle.review_command.specs.Statuses.{fault_status, unread_status}
 use Rattle.review_command.specs.declared.diff.NoDiff.{NoDiff}
 use Rattle.review_command.specs.declared.diff.NoDiff.TheVariants as no
 use Rattle.review_command.specs.declared.files.NotBoth.{NotBoth}
-use Rattle.review_command.specs.declared.files.NotBoth.TheVariants as not
+use Rattle.review_command.specs.declared.files.NotBoth.TheVariants as unread_pair
 use Rattle.review_command.specs.declared.reports.Kind.TheVariants.{Faults}
 use Rattle.review_command.specs.declared.rejected.Named.{Named}
 use Rattle.review_command.specs.declared.unread.Unread.{Unread}
@@ -82,8 +82,8 @@ pub record IsAnswer (holds : List ℕ → Option (List ℕ)) (rest : Option (Lis
 
 -- why two files are not both read: both are the input, or one at least is not read
 abbrev pub AreNotBoth : (List ℕ → Option (List ℕ)) → Option (List ℕ) → List ℕ → List ℕ → NotBoth → Type 0
-AreNotBoth holds rest left right not.OneInput = (left ≡ codes "-") × (right ≡ codes "-")
-AreNotBoth holds rest left right (not.Unread first second) = IsAnswer holds rest left first × IsAnswer holds rest right second × NotBothRead first second
+AreNotBoth holds rest left right unread_pair.OneInput = (left ≡ codes "-") × (right ≡ codes "-")
+AreNotBoth holds rest left right (unread_pair.Unread first second) = IsAnswer holds rest left first × IsAnswer holds rest right second × NotBothRead first second
 
 -- Both files, what reading each gave, and what is told of them. Either they are not both read, or they are read and not compared.
 pub record TellsRejected (holds : List ℕ → Option (List ℕ)) (rest : Option (List ℕ)) (asked : Diff) (text : List ℕ) (status : ℕ) : Type 0 where

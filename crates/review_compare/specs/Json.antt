@@ -13,6 +13,8 @@ pub record AsksJson (lines : ℕ) (asked : Diff) : Type 0 where
   pub no_changes : asked.context ≡ 0
   pub plain : asked.color ≡ false
   pub each : asked.stat ≡ false
+  pub by_rules : asked.by_position ≡ false
+  pub no_keys : asked.by.now ≡ []
 
 -- The text is the lines of JSON of the differences of two streams of these bytes, of at most so many; and whether there are none.
 pub record JsonLines (left right : List ℕ) (lines : ℕ) (none : Bool) (text : List ℕ) : Type 0 where

@@ -30,6 +30,8 @@ fn asked_json(lines: usize) -> Diff<'static>
         context: 0,
         color: false,
         stat: false,
+        by_position: false,
+        by: "",
     }
 }
 
