@@ -41,6 +41,18 @@ fn put_place(out: &mut String, place: Option<Place>) -> Result<(), Fault> {
     }
 }
 
+/// Writes the title, behind which the message stands.
+fn put_title(out: &mut String, rule: &str) -> Result<(), Fault> {
+    put_pieces(
+        out,
+        &[
+            Piece::Raw(",title=yamlreview "),
+            property(rule),
+            Piece::Raw("::"),
+        ],
+    )
+}
+
 /// Writes the command of a finding, which is one line.
 fn put_finding(out: &mut String, finding: &Finding) -> Result<(), Fault> {
     put_pieces(
@@ -51,14 +63,7 @@ fn put_finding(out: &mut String, finding: &Finding) -> Result<(), Fault> {
         ],
     )?;
     put_place(out, finding.place)?;
-    put_pieces(
-        out,
-        &[
-            Piece::Raw(",title=yamlreview "),
-            property(finding.rule),
-            Piece::Raw("::"),
-        ],
-    )?;
+    put_title(out, finding.rule)?;
     if let Some(path) = text_of(&finding.path) {
         put_pieces(out, &[message(path), Piece::Raw(": ")])?;
     }
