@@ -11,6 +11,7 @@ pub struct Host<'a, T> {
 }
 
 impl<'a, T> Host<'a, T> {
+    /// The files of this runtime.
     pub fn new(rt: &'a T) -> Host<'a, T> {
         Host { rt }
     }

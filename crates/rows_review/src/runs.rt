@@ -108,6 +108,7 @@ impl Ran {
     }
 }
 
+/// Runs the program on what is given.
 pub fn run(alloc: Global, given: Given<'_>) -> Result<Ran, Fail> {
     let mut words = Vec::new(alloc);
     for word in given.words {

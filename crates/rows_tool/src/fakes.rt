@@ -29,6 +29,7 @@ pub const NONE: Source<'static> = Source {
 };
 
 impl<'a> Source<'a> {
+    /// These bytes, which are read at once and without a fault.
     pub fn over(bytes: &'a [u8]) -> Source<'a> {
         Source {
             bytes,
@@ -84,6 +85,7 @@ pub struct Narrow<'a> {
 }
 
 impl<'a> Narrow<'a> {
+    /// Goes wrong at the call `bad`, in this way, and adds to the bytes that are held.
     pub fn new(held: &'a mut Vec<u8>, bad: u32, how: Broken) -> Narrow<'a> {
         Narrow {
             held,

@@ -15,6 +15,7 @@ pub struct Ran {
 }
 
 impl Ran {
+    /// A run with this status, which wrote this.
     pub fn new(status: u8, out: Vec<u8>, err: Vec<u8>) -> Result<Ran, Fail> {
         Ok(Ran {
             status,
@@ -42,6 +43,7 @@ impl Ran {
     }
 }
 
+/// The words as they are passed to the program.
 pub fn owned(alloc: Global, words: &[&str]) -> Result<Vec<String>, Fail> {
     let mut list = Vec::new(alloc);
     for word in words {

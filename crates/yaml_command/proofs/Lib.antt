@@ -2,4 +2,5 @@ pub mod FileLaws
 mod EventLaws
 mod PageLaws
 mod LineLaws
+pub mod MessageLaws
 mod Answering

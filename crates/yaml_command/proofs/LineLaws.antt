@@ -1,21 +1,18 @@
 -- What a writer has of a line, piece by piece.
-use Rattle.std.proofs.Common.{◌≡◌, ◌⊎◌, inl, inr, ℕ, ◌+◌, ◌-◌, ◌^◌, ◌<◌, List, [], ◌∷◌, ◌++◌, Option, take, drop, length, get_or, refl, sym, ◌∙◌, ap, subst, arith, append_assoc, take-append-drop}
+use Rattle.std.proofs.Common.{◌≡◌, inl, inr, ℕ, ◌+◌, ◌-◌, ◌^◌, ◌<◌, List, [], ◌∷◌, ◌++◌, Option, take, drop, length, get_or, sym, ◌∙◌, ap, subst, arith, append_assoc, take-append-drop}
 use Rattle.std.specs.Prelude.{Result, Ok, Err, OnOk, IfErr, flat_map}
 use Rattle.std.proofs.lemmas.List.{append-nil, take_more}
 use Rattle.std.proofs.lemmas.Grind.{flat_map-append}
-use Rattle.std.specs.Io.KnownBytes.{Appends}
-use Rattle.yaml_text.specs.Count.{one_more}
-use Rattle.yaml_text.specs.CountedModel.{inner_of, faults_of}
+use Rattle.yaml_text.specs.CountedModel.{faults_of}
 use Rattle.yaml_text.specs.declared.fault.Fault.{Fault}
 use Rattle.yaml_text.specs.declared.fault.Fault.TheVariants.{WriteFault}
 use Rattle.yaml_text.specs.declared.counted.Counted.{Counted}
 use Rattle.yaml_spell.specs.Writers.{Sent, CutOff}
-use Rattle.yaml_text.specs.Writers.{Printed, Broken}
-use Rattle.yaml_spell.proofs.Streams.{appends_more}
+use Rattle.yaml_text.specs.Writers.{Printed}
 use Rattle.yaml_command.specs.Printing.{PrintFails}
 use Rattle.yaml_command.specs.Refusals.{line_text, Told}
 use Rattle.yaml_command.specs.declared.refusal.Refusal.{Refusal}
-use Rattle.yaml_command.proofs.PageLaws.{begins, take_within, one_higher}
+use Rattle.yaml_command.proofs.PageLaws.{begins, one_higher}
 
 -- ---- pieces behind one another
 
@@ -34,40 +31,6 @@ module _ {W : Type 0} (contents : W → Option (List ℕ)) where
     cut_at_piece o u v fault few h s k =
         let b = begins contents o u v (flat_map f (take i xs)) (f (get_or xs i d)) (flat_map f (drop (i + 1) xs)) (flat_map f xs) k.count s k.took (pieces_cut f xs i d h) in
         subst (PrintFails contents o v (flat_map f xs)) (sym k.is) (record { count = b.0; took = b.1; counted = k.counted ∙ one_higher (faults_of o) (faults_of u) few s.counted })
-
-  -- a further text behind what was sent
-  pub printed_behind : (o u v : Counted W) (xs ys all : List ℕ) → all ≡ xs ++ ys → Sent contents o u xs → Printed contents u v ys → Printed contents o v all
-  printed_behind o u v xs ys all e s p = record {
-    took = subst (Appends (contents (inner_of o)) (contents (inner_of v))) (sym e) (appends_more _ _ _ xs ys s.took p.took);
-    flushed = p.flushed;
-    counted = p.counted ∙ s.counted;
-  }
-
-  pub fails_behind : (o u v : Counted W) (xs ys all : List ℕ) (fault : Fault) → all ≡ xs ++ ys → Sent contents o u xs → PrintFails contents u v ys fault → PrintFails contents o v all fault
-  fails_behind o u v xs ys all WriteFault e s k =
-      let b = begins contents o u v xs ys [] all k.count s k.took (e ∙ ap (λ z. xs ++ z) (sym (append-nil ys))) in
-      record { count = b.0; took = b.1; counted = k.counted ∙ ap (λ n. n + 1) s.counted }
-  fails_behind o u v xs ys all _ e s k = absurd k
-
-  -- the writer fails before a further text
-  pub fails_front : (o u : Counted W) (xs ys all : List ℕ) (fault : Fault) → all ≡ xs ++ ys → PrintFails contents o u xs fault → PrintFails contents o u all fault
-  fails_front o u xs ys all WriteFault e k =
-      let w = take_within xs ys k.count in
-      record {
-        count = w.0;
-        took = subst (Appends (contents (inner_of o)) (contents (inner_of u))) (sym (ap (take w.0) e ∙ w.1)) k.took;
-        counted = k.counted;
-      }
-  fails_front o u xs ys all _ e k = absurd k
-
--- a text and six pieces behind it
-pub six_behind : (xs a b c d e f : List ℕ) → (((((xs ++ a) ++ b) ++ c) ++ d) ++ e) ++ f ≡ xs ++ (((((a ++ b) ++ c) ++ d) ++ e) ++ f)
-six_behind xs a b c d e f =
-    let two : (xs ++ a) ++ b ≡ xs ++ (a ++ b) = append_assoc xs a b in
-    let three : ((xs ++ a) ++ b) ++ c ≡ xs ++ ((a ++ b) ++ c) = ap (λ z. z ++ c) two ∙ append_assoc xs (a ++ b) c in
-    let four : (((xs ++ a) ++ b) ++ c) ++ d ≡ xs ++ (((a ++ b) ++ c) ++ d) = ap (λ z. z ++ d) three ∙ append_assoc xs ((a ++ b) ++ c) d in
-    let five : ((((xs ++ a) ++ b) ++ c) ++ d) ++ e ≡ xs ++ ((((a ++ b) ++ c) ++ d) ++ e) = ap (λ z. z ++ e) four ∙ append_assoc xs (((a ++ b) ++ c) ++ d) e in
-    ap (λ z. z ++ f) five ∙ append_assoc xs ((((a ++ b) ++ c) ++ d) ++ e) f
 
 -- ---- the line of a refusal
 

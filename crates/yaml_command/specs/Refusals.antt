@@ -1,5 +1,5 @@
 -- Which refusals there are of reading a file, and the line that tells each on standard error.
-use Rattle.std.specs.Prelude.{◌≡◌, ◌++◌, ◌⊎◌, ℕ, List, [], Option, codes}
+use Rattle.std.specs.Prelude.{◌≡◌, ◌++◌, ◌⊎◌, ℕ, List, Option, codes}
 use Rattle.std.specs.Fmt.{decimal}
 use Rattle.yaml_text.specs.Fault.{fault_number, fault_name}
 use Rattle.yaml_text.specs.declared.fault.Fault.{Fault}
@@ -12,8 +12,6 @@ use Rattle.yaml_text.specs.declared.side.Side.{Side}
 use Rattle.yaml_text.specs.declared.side.Side.TheVariants.{Left, Right}
 use Rattle.yaml_events.specs.declared.fault.EventFault.TheVariants.{BadLine, OutOfMemory as NoRoom}
 use Rattle.yaml_args.specs.declared.words.WordsFault.TheVariants.{Usage, OutOfMemory as NoMemory}
-use Rattle.yaml_command.specs.declared.line.Place.{Place}
-use Rattle.yaml_command.specs.declared.line.Place.TheVariants.{Nowhere, At, Entries}
 use Rattle.yaml_command.specs.declared.refusal.Refusal.{Refusal}
 use Rattle.yaml_command.specs.declared.refusal.Refusal.TheVariants.{Words, CannotOpen, Input, OneSide, EventText, EventLines}
 
@@ -42,12 +40,6 @@ place_end (fault.FloatRange at) = codes " at event " ++ decimal at ++ codes "\n"
 place_end (fault.TooHigh at) = codes " in document " ++ decimal at ++ codes "\n"
 place_end (fault.EqualKeys at i j) = codes " in node " ++ decimal at ++ codes ", entries " ++ decimal i ++ codes " and " ++ decimal j ++ codes "\n"
 place_end _ = codes "\n"
-
--- a place as `line::tell` has it
-abbrev pub place_text : Place → List ℕ
-place_text Nowhere = codes "\n"
-place_text (At words at) = words.now ++ decimal at ++ codes "\n"
-place_text (Entries at i j) = codes " in node " ++ decimal at ++ codes ", entries " ++ decimal i ++ codes " and " ++ decimal j ++ codes "\n"
 
 -- the line of a fault, which begins with this text before the fault's number
 abbrev pub fault_line : List ℕ → Fault → List ℕ

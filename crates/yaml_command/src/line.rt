@@ -5,13 +5,14 @@ ghost use Rattle.yaml_spell.specs.Writers.{Sent};
 ghost use Rattle.yaml_text.specs.Writers.{Printed};
 ghost use Rattle.yaml_command.specs.Printing.{PrintFails};
 ghost use Rattle.yaml_command.specs.declared.refusal.Refusal.TheVariants.{Words, EventLines};
-ghost use Rattle.yaml_command.specs.Refusals.{side_text, place_text, place_end, fault_line, line_text};
+ghost use Rattle.yaml_command.specs.Refusals.{side_text, fault_line, line_text};
 
 use crate::refusal::Refusal;
 use itoa::Buffer;
 use std::io::Write;
 use yaml_args::WordsFault;
 use yaml_events::EventFault;
+use yaml_message::message_of;
 use yaml_spell::page::write_whole;
 use yaml_text::Side;
 use yaml_text::counted::Counted;
@@ -54,124 +55,6 @@ fn side_text(side: Side) -> &'static str
     }
 }
 
-/// The place of a fault, as its line tells it.
-#[derive(Clone, Copy)]
-enum Place {
-    Nowhere,
-    /// These words and a number.
-    At(&'static str, usize),
-    /// A mapping and two of its entries.
-    Entries(usize, usize, usize),
-}
-
-/// Where a fault stands.
-fn place_of(fault: Fault) -> Place
-    ensures { place_text result ≡ place_end fault }
-{
-    match fault {
-        Fault::NotUtf8(at)
-        | Fault::NotPrintable(at)
-        | Fault::Syntax(at)
-        | Fault::Tab(at)
-        | Fault::KeyTooLong(at)
-        | Fault::TooDeep(at)
-        | Fault::BadEscape(at)
-        | Fault::BadDirective(at)
-        | Fault::UnknownHandle(at)
-        | Fault::BadTag(at) => Place::At(" at byte ", at),
-        Fault::UndefinedAlias(event)
-        | Fault::CyclicAlias(event)
-        | Fault::WrongKind(event)
-        | Fault::BadContent(event)
-        | Fault::IntRange(event)
-        | Fault::FloatRange(event) => Place::At(" at event ", event),
-        Fault::TooHigh(document) => Place::At(" in document ", document),
-        Fault::EqualKeys(node, first, second) => Place::Entries(node, first, second),
-        Fault::TooLong
-        | Fault::TextTooLong
-        | Fault::OutOfMemory
-        | Fault::ReadFault
-        | Fault::WriteFault => Place::Nowhere,
-    }
-}
-
-/// Writes the line of a fault without a place.
-fn tell_nowhere<'a, E: Write>(
-    front: &'a str,
-    number: &'a str,
-    name: &'a str,
-    err: &mut Counted<E>,
-) -> Result<(), Fault>
-    requires { faults_of err.old < 2 ^ 64 - 1 }
-    ensures ok { OnOk result (Printed E.contents err.old err.new (front.now ++ number.now ++ codes " " ++ name.now ++ codes "\n")) }
-    ensures err { IfErr result (PrintFails E.contents err.old err.new (front.now ++ number.now ++ codes " " ++ name.now ++ codes "\n")) }
-{
-    write_pieces(&[front, number, " ", name, "\n"], err)
-}
-
-/// Writes the line of a fault at a place of one number.
-fn tell_at<'a, E: Write>(
-    front: &'a str,
-    number: &'a str,
-    name: &'a str,
-    words: &'a str,
-    at: &'a str,
-    err: &mut Counted<E>,
-) -> Result<(), Fault>
-    requires { faults_of err.old < 2 ^ 64 - 1 }
-    ensures ok { OnOk result (Printed E.contents err.old err.new (front.now ++ number.now ++ codes " " ++ name.now ++ words.now ++ at.now ++ codes "\n")) }
-    ensures err { IfErr result (PrintFails E.contents err.old err.new (front.now ++ number.now ++ codes " " ++ name.now ++ words.now ++ at.now ++ codes "\n")) }
-{
-    write_pieces(&[front, number, " ", name, words, at, "\n"], err)
-}
-
-/// Writes the line of a fault up to these words of its place.
-fn tell_front<'a, E: Write>(
-    front: &'a str,
-    number: &'a str,
-    name: &'a str,
-    words: &'a str,
-    err: &mut Counted<E>,
-) -> Result<(), Fault>
-    requires { faults_of err.old < 2 ^ 64 - 1 }
-    ensures ok { OnOk result (Sent E.contents err.old err.new (front.now ++ number.now ++ codes " " ++ name.now ++ words.now)) }
-    ensures err { IfErr result (PrintFails E.contents err.old err.new (front.now ++ number.now ++ codes " " ++ name.now ++ words.now)) }
-{
-    send_pieces(&[front, number, " ", name, words], err)
-}
-
-/// Writes the rest of the line of a fault at two entries of a node.
-fn tell_node<'a, E: Write>(
-    node: &'a str,
-    first: &'a str,
-    second: &'a str,
-    err: &mut Counted<E>,
-) -> Result<(), Fault>
-    requires { faults_of err.old < 2 ^ 64 - 1 }
-    ensures ok { OnOk result (Printed E.contents err.old err.new (node.now ++ codes ", entries " ++ first.now ++ codes " and " ++ second.now ++ codes "\n")) }
-    ensures err { IfErr result (PrintFails E.contents err.old err.new (node.now ++ codes ", entries " ++ first.now ++ codes " and " ++ second.now ++ codes "\n")) }
-{
-    write_pieces(&[node, ", entries ", first, " and ", second, "\n"], err)
-}
-
-/// Writes the line of a fault at two entries of a node.
-fn tell_entries<E: Write>(
-    front: &str,
-    number: &str,
-    name: &str,
-    node: &str,
-    first: &str,
-    second: &str,
-    err: &mut Counted<E>,
-) -> Result<(), Fault>
-    requires { faults_of err.old < 2 ^ 64 - 1 }
-    ensures ok { OnOk result (Printed E.contents err.old err.new (front.now ++ number.now ++ codes " " ++ name.now ++ codes " in node " ++ node.now ++ codes ", entries " ++ first.now ++ codes " and " ++ second.now ++ codes "\n")) }
-    ensures err { IfErr result (PrintFails E.contents err.old err.new (front.now ++ number.now ++ codes " " ++ name.now ++ codes " in node " ++ node.now ++ codes ", entries " ++ first.now ++ codes " and " ++ second.now ++ codes "\n")) }
-{
-    tell_front(front, number, name, " in node ", err)?;
-    tell_node(node, first, second, err)
-}
-
 /// Writes the line of a fault, which begins with this text before the fault's number, and flushes. It takes no memory, and fails as
 /// `tell` does.
 pub fn tell_fault<E: Write>(front: &str, fault: Fault, err: &mut Counted<E>) -> Result<(), Fault>
@@ -179,20 +62,8 @@ pub fn tell_fault<E: Write>(front: &str, fault: Fault, err: &mut Counted<E>) -> 
     ensures ok { OnOk result (Printed E.contents err.old err.new (fault_line front.now fault)) }
     ensures err { IfErr result (PrintFails E.contents err.old err.new (fault_line front.now fault)) }
 {
-    let mut digits = Buffer::new();
-    let number = digits.format(fault.number());
-    let name = fault.name();
-    let (mut one, mut two, mut three) = (Buffer::new(), Buffer::new(), Buffer::new());
-    match place_of(fault) {
-        Place::Nowhere => tell_nowhere(front, number, name, err),
-        Place::At(words, at) => tell_at(front, number, name, words, one.format(at), err),
-        Place::Entries(node, first, second) => {
-            let node = one.format(node);
-            let first = two.format(first);
-            let second = three.format(second);
-            tell_entries(front, number, name, node, first, second, err)
-        }
-    }
+    let message = message_of(fault);
+    write_pieces(&[front, message.as_str(), "\n"], err)
 }
 
 /// Writes the line of words that can't be read.

@@ -17,6 +17,7 @@ pub struct Regular<'a, 'b, T> {
 }
 
 impl<'a, 'b, T> Regular<'a, 'b, T> {
+    /// The files of this runtime, with the name of the list, if there is one.
     pub fn new(rt: &'a T, list: Option<&'b str>) -> Regular<'a, 'b, T> {
         Regular { rt, list }
     }

@@ -1,4 +1,4 @@
--- The line of a fault from its message.
+-- The line of a fault is its message, behind what the line begins with.
 use Rattle.std.proofs.Common.{◌≡◌, refl, sym, ◌∙◌, ap, ◌++◌, ℕ, List, codes, append_assoc}
 use Rattle.std.specs.Fmt.{decimal}
 use Rattle.yaml_text.specs.Fault.{fault_number, fault_name}
@@ -48,8 +48,8 @@ parts front d s n q = append_assoc (front ++ d ++ s) n q ∙ append_assoc (front
 fed : (d s n p feed : List ℕ) → (d ++ (s ++ (n ++ p))) ++ feed ≡ d ++ (s ++ (n ++ (p ++ feed)))
 fed d s n p feed = append_assoc d (s ++ (n ++ p)) feed ∙ ap (λ z. d ++ z) (append_assoc s (n ++ p) feed ∙ ap (λ z. s ++ z) (append_assoc n p feed))
 
-pub line : (front : List ℕ) (fault : Fault) → fault_line front fault ≡ front ++ (fault_message fault ++ codes "\n")
-line front fault =
+pub line-is-message : (front : List ℕ) (fault : Fault) → fault_line front fault ≡ front ++ (fault_message fault ++ codes "\n")
+line-is-message front fault =
     ap (λ z. front ++ decimal (fault_number fault) ++ codes " " ++ fault_name fault ++ z) (ends fault)
     ∙ parts front (decimal (fault_number fault)) (codes " ") (fault_name fault) (place_words fault ++ codes "\n")
     ∙ ap (λ z. front ++ z) (sym (fed (decimal (fault_number fault)) (codes " ") (fault_name fault) (place_words fault) (codes "\n")))
