@@ -262,7 +262,8 @@ fn ignored_of<'a>(alloc: Global, matches: &ArgMatches<'a>) -> Result<Vec<Pattern
 }
 
 /// What is wrong with `--stat` beside the form of a page.
-const NO_STAT: &str = "--stat is for --format=line and --format=json: a page has the numbers itself";
+const NO_STAT: &str =
+    "--stat is for --format=line and --format=json: a page has the numbers itself";
 
 /// What the words of `diff` ask for.
 fn diff_asked<'a>(
