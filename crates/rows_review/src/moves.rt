@@ -122,7 +122,7 @@ pub static ROWS: [Row; 13] = [
         left: b"- {name: a}\n",
         right: b"- {name: b}\n",
         status: 1,
-        out: "+\t[0]\t\t{\"name\": \"b\"}\n-\t[0]\t{\"name\": \"a\"}\t\n",
+        out: "+\t[0]\t\t{\"name\" : \"b\"}\n-\t[0]\t{\"name\" : \"a\"}\t\n",
         err: "",
     },
 ];
