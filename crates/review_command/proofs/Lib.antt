@@ -1,3 +1,4 @@
 mod PageLaws
 mod RejectionLaws
 mod ReportLaws
+mod RunLaws

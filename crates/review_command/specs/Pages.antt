@@ -1,5 +1,5 @@
 -- What `faults` and `warn` find in files, and what is written of it as a whole.
-use Rattle.std.specs.Prelude.{◌≡◌, ◌⊎◌, ◌==◌, ◌&&◌, ℕ, max, not, cond, List, [], ◌∷◌, ◌++◌, length, Option, codes, string_bytes}
+use Rattle.std.specs.Prelude.{◌≡◌, ◌⊎◌, ◌==◌, ◌&&◌, ℕ, max, not, cond, List, [], ◌∷◌, ◌++◌, length, Option, string_bytes}
 use Rattle.yaml_text.specs.Fault.{fault_name}
 use Rattle.yaml_text.specs.declared.fault.Fault.{Fault}
 use Rattle.yaml_text.specs.declared.fault.Fault.TheVariants.{TooLong}
@@ -43,6 +43,18 @@ FindsBytes kind name bytes list status =
     (IsAccepted bytes × FindsAccepted kind list status)
     ⊎ ((fault : Fault) × CanonicalRefuses bytes fault × TellsPlace bytes fault × FindsFault name bytes fault list × (status ≡ 2))
 
+-- ---- what is written
+
+module _ {W : Type 0} (contents : W → Option (List ℕ)) where
+  -- Some text was written of what was found, and the status is that; or the output fails behind a beginning of it, or nothing is written because of a fault.
+  abbrev pub WritesPage : Counted W → Counted W → ℕ → ℕ → Type 0
+  WritesPage out end found status =
+      ((text : List ℕ) × Printed contents out end text × (status ≡ found))
+      ⊎ (((text : List ℕ) × Broken contents out end text × (status ≡ max found 3))
+      ⊎ ((fault : Fault) × (end ≡ out) × (status ≡ max found (fault_status fault))))
+
+-- ---- a file
+
 module _ {R : Type 0} (holds : List ℕ → Option (List ℕ)) (remaining : R → Option (List ℕ)) where
   -- in a file, which has more bytes than a text may have or is read
   abbrev pub HasFound : Kind → List ℕ → R → R → List Finding → ℕ → Type 0
@@ -65,15 +77,8 @@ module _ {R : Type 0} (holds : List ℕ → Option (List ℕ)) (remaining : R �
       (next : R) × (found : List Finding) × (more : List Finding) × (first : ℕ) × (rest : ℕ) × FindsFile kind name old next found first × FindsFiles kind names next new more rest × (list ≡ found ++ more) × (status ≡ max first rest)
 
   module _ {W : Type 0} (contents : W → Option (List ℕ)) where
-    -- Some text was written of what was found, and the status is that; or the output fails behind a beginning of it, or nothing is written because of a fault.
-    abbrev pub WritesPage : Counted W → Counted W → ℕ → ℕ → Type 0
-    WritesPage out end found status =
-        ((text : List ℕ) × Printed contents out end text × (status ≡ found))
-        ⊎ (((text : List ℕ) × Broken contents out end text × (status ≡ max found 3))
-        ⊎ ((fault : Fault) × (end ≡ out) × (status ≡ max found (fault_status fault))))
-
     -- The files are looked at in turn and the page is written. Where memory for what was found is refused, nothing is written, and the status tells it.
     abbrev pub TellsPage : Kind → List (List ℕ) → R → R → Counted W → Counted W → ℕ → Type 0
     TellsPage kind names old new out end status =
-        ((list : List Finding) × (found : ℕ) × FindsFiles kind names old new list found × WritesPage out end found status)
+        ((list : List Finding) × (found : ℕ) × FindsFiles kind names old new list found × WritesPage contents out end found status)
         ⊎ ((fault : Fault) × (end ≡ out) × (status ≡ fault_status fault))

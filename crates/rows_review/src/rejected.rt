@@ -127,7 +127,7 @@ pub static WORDS: [Row; 3] = [
         left: b"",
         right: b"",
         status: 0,
-        out: "Prints what tools of YAML 1.1 read otherwise\n\nUsage: yamlreview warn [OPTIONS] [FILE]...\n\nArguments:\n  [FILE]...  A file; `-`, or none, is standard input\n\nOptions:\n      --lines <N>      Print at most N lines for each file, and then `...` if there are more; 0 for the status alone [default: 1000]\n      --format <FORM>  Lines of text, or one JSON object a line [default: line] [possible values: line, json]\n  -h, --help           Print help\n\nExit status (of several files the greatest):\n  0  no file is rejected, whether or not there are warnings\n  2  a file is rejected\n  3  the words, a file or a stream cannot be used\n",
+        out: "Prints what tools of YAML 1.1 read otherwise\n\nUsage: yamlreview warn [OPTIONS] [FILE]...\n\nArguments:\n  [FILE]...  A file; `-`, or none, is standard input\n\nOptions:\n      --strict         End with status 1 if there is a warning\n      --allow <WORD>   Do not warn of the plain scalar WORD, as `on`; repeatable\n      --lines <N>      Print at most N lines for each file, and then `...` if there are more; 0 for the status alone [default: 1000]\n      --format <FORM>  Lines of text, one JSON object a line, a page, a table, SARIF 2.1.0, or GitHub's annotations [default: line] [possible values: line, json, html, markdown, sarif, github]\n  -h, --help           Print help\n\nExit status (of several files the greatest):\n  0  no file is rejected, and with --strict there is no warning\n  1  with --strict: there is a warning\n  2  a file is rejected\n  3  the words, a file or a stream cannot be used\n",
         err: "",
     },
 ];

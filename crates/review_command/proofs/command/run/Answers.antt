@@ -1,6 +1,8 @@
-use Rattle.std.proofs.Common.{refl, sym, subst}
+use Rattle.std.proofs.Common.{Bor, refl, sym, subst}
+use Rattle.review_args.specs.declared.words.Warn.{Warn}
 use Rattle.review_command.specs.Runs.{Does}
 use Rattle.review_command.proofs.RejectionLaws.{diff_ends}
+use Rattle.review_command.proofs.RunLaws.{warns, warns_page}
 use Rattle.review_command.proofs.command.run.Goals as goal
 
 pub returns-in-Faults : goal.returns-in-Faults
@@ -18,18 +20,7 @@ returns-in-Faults g c =
 pub returns-in-Warn : goal.returns-in-Warn
 returns-in-Warn g c =
     subst (λ z. Does (g.S.Shelf.holds c.args.shelf.now) g.R.Read.remaining g.W.Write.contents g.E.Write.contents z c.args.input c.args.out c.args.err c.reports-in-Warn.result) (sym c.in-Warn.is)
-    ((
-      _,
-      refl,
-      record {
-        end = c.reports-in-Warn.new.input;
-        old = c.new-out-in-Warn.result;
-        new = c.reports-in-Warn.new.out;
-        writer = c.new-out-in-Warn.ensures.inner;
-        no_write = c.new-out-in-Warn.ensures.faults;
-        tells = c.reports-in-Warn.ensures.tells;
-      },
-    ))
+    (warns (g.S.Shelf.holds c.args.shelf.now) g.R.Read.remaining g.W.Write.contents g.E.Write.contents _ _ _ c.args.input c.args.out c.reports-in-Warn.result c.reports-in-Warn.new.input c.new-out-in-Warn.result c.reports-in-Warn.new.out c.reports-in-Warn.ensures.tells refl c.new-out-in-Warn.ensures.inner c.new-out-in-Warn.ensures.faults)
 
 pub returns-in-FaultsPage : goal.returns-in-FaultsPage
 returns-in-FaultsPage g c =
@@ -45,19 +36,9 @@ returns-in-FaultsPage g c =
 
 pub returns-in-WarnPage : goal.returns-in-WarnPage
 returns-in-WarnPage g c =
+    let w : Bor Warn = record { ref_ptr = (0, 0); now = c.in-WarnPage.warn } in
     subst (λ z. Does (g.S.Shelf.holds c.args.shelf.now) g.R.Read.remaining g.W.Write.contents g.E.Write.contents z c.args.input c.args.out c.args.err c.pages-in-WarnPage.result) (sym c.in-WarnPage.is)
-    ((
-      _,
-      refl,
-      record {
-        end = c.pages-in-WarnPage.new.input;
-        old = c.new-out-in-WarnPage.result;
-        new = c.pages-in-WarnPage.new.out;
-        writer = c.new-out-in-WarnPage.ensures.inner;
-        no_write = c.new-out-in-WarnPage.ensures.faults;
-        tells = c.pages-in-WarnPage.ensures;
-      },
-    ))
+    (warns_page (g.S.Shelf.holds c.args.shelf.now) g.R.Read.remaining g.W.Write.contents g.E.Write.contents c.in-WarnPage.asked c.in-WarnPage.warn w c.args.input c.args.out c.pages-in-WarnPage.result c.pages-in-WarnPage.new.input c.new-out-in-WarnPage.result c.pages-in-WarnPage.new.out c.pages-in-WarnPage.ensures refl c.new-out-in-WarnPage.ensures.inner c.new-out-in-WarnPage.ensures.faults)
 
 pub returns-in-Diff : goal.returns-in-Diff
 returns-in-Diff g c =

@@ -1,19 +1,14 @@
-use Rattle.std.proofs.Common.{Bor, List, ℕ, map, drop, refl, arith}
+use Rattle.std.proofs.Common.{Bor, List, ℕ, map, drop, arith}
 use Rattle.review_command.proofs.ReportLaws.{none_left}
-use Rattle.review_command.proofs.PageLaws.{begins, one_more_at, all_found}
+use Rattle.review_command.proofs.PageLaws.{one_more_at, all_found}
 use Rattle.review_command.proofs.pages.files_list.Goals as goal
-
-pub files-established : goal.files-established
-files-established g c =
-    let names : List (List ℕ) = map {A = Bor (List ℕ)} {B = List ℕ} (λ s. s.now) c.args.files.now in
-    begins (g.S.Shelf.holds c.args.shelf.now) g.R.Read.remaining c.args.kind names c.args.input.now _ c.new-list.ensures.items
 
 pub files-preserved : goal.files-preserved
 files-preserved g c =
     let xs = c.args.files.now in
     let names : List (List ℕ) = map {A = Bor (List ℕ)} {B = List ℕ} (λ s. s.now) xs in
     one_more_at (g.S.Shelf.holds c.args.shelf.now) g.R.Read.remaining c.args.kind names c.args.input.now {X = Bor (List ℕ)} (λ s. s.now) xs c.files.name-index _ (omega (arith, c.files-test.true))
-    c.files.input c.file_list.new.input c.files.list.items c.file_list.result.0.items _ c.files.status _ _ c.files.invariant c.file_list.ensures c.in_ok-add.ensures c.greater-status.ensures
+    c.files.input c.file_list-more.new.input c.files.list.items c.file_list-more.result.0.items _ c.files.status _ _ c.files.invariant c.file_list-more.ensures c.in_ok-add.ensures c.greater-status.ensures
 
 pub returns : goal.returns
 returns g c =
