@@ -8,7 +8,7 @@
 //! # Ok::<(), yamlcanon::Refused>(())
 //! ```
 //!
-//! [`Limits`] has the same calls under a limit of memory. A call may be made on any thread. A level of nesting is given 1.5 KiB of stack, 1,024 of them 1.5 MiB, and where less is
+//! [`Limits`] has the same calls under a limit of memory. A call may be made on any thread. A level of nesting is given 2 KiB of stack, 1,024 of them 2 MiB, and where less is
 //! left than an input of this length may take, the call is made on a thread of its own that has 8 MiB.
 #![warn(missing_docs)]
 
@@ -43,7 +43,7 @@ pub fn release() -> &'static str {
 
 // What a call on n bytes takes of the stack at most: a byte opens one level of nesting at most, up to 1,024.
 const STACK_BASE: usize = 256 << 10;
-const STACK_LEVEL: usize = 1536;
+const STACK_LEVEL: usize = 2048;
 const MOST_LEVELS: usize = 1024;
 const STACK_GIVEN: usize = 8 << 20;
 
