@@ -4,8 +4,10 @@
 pub mod arguments;
 pub mod command;
 pub mod diff;
+mod folder_page;
 mod folders;
 mod git;
 mod git_show;
 mod host;
+mod names;
 mod show;

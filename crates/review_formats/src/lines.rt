@@ -1,8 +1,8 @@
 //! The lines of a file, with links from those that differ.
 use crate::finding::{Finding, Shown};
 use crate::html::text;
-use crate::side::Side;
 use crate::piece::{Piece, put_pieces};
+use crate::side::Side;
 use std::alloc::Global;
 use yaml_place::Place;
 use yaml_text::fault::Fault;
@@ -66,13 +66,7 @@ fn front(line: &str) -> &str {
 }
 
 /// Writes a line: its number, which leads to the first finding at it if there is one, and its text.
-fn put_line(
-    out: &mut String,
-    side: Side,
-    at: usize,
-    line: &str,
-    mark: usize,
-) -> Result<(), Fault> {
+fn put_line(out: &mut String, side: Side, at: usize, line: &str, mark: usize) -> Result<(), Fault> {
     let number = at.saturating_add(1);
     out.push_str(if mark > 0 {
         "<li class=\"marked\" id=\""

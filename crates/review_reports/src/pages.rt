@@ -11,7 +11,7 @@ use review_compare::fault_of;
 use review_files::files::read_named;
 use review_files::telling::{tell_bare, tell_unread};
 use review_files::unread::{Unread, greater};
-use review_formats::{Finding, Findings, Shown, github_text, html_text, markdown_text, sarif_text};
+use review_formats::{Finding, Findings, Part, github_text, html_text, markdown_text, sarif_text};
 use review_lines::list_warnings;
 use std::alloc::Global;
 use std::io::{Read, Write};
@@ -25,15 +25,13 @@ const DONE: u8 = 0;
 /// The status of a file that is rejected.
 const REJECTED: u8 = 2;
 
-/// What is found as text. Only a page shows lines of the two files.
-pub fn page_text(
-    alloc: Global,
-    page: Page,
-    found: &Findings,
-    shown: Option<(&Shown, &Shown)>,
-) -> Result<String, Fault> {
+/// What is found as text.
+///
+/// # Errors
+/// 21: memory is refused.
+pub fn page_text(alloc: Global, page: Page, found: &Findings) -> Result<String, Fault> {
     match page {
-        Page::Html => html_text(alloc, found, shown),
+        Page::Html => html_text(alloc, found),
         Page::Markdown => markdown_text(alloc, found),
         Page::Sarif => sarif_text(alloc, found),
         Page::Github => github_text(alloc, found),
@@ -204,16 +202,32 @@ fn put_page<W: Write, E: Write>(
 }
 
 /// What a command found, of which all is listed.
-fn as_found(kind: Kind<'_>, list: Vec<Finding>) -> Findings {
-    Findings {
+fn as_found(alloc: Global, kind: Kind<'_>, list: Vec<Finding>) -> Result<Findings, Fault> {
+    let mut parts = Vec::new(alloc);
+    parts.push(Part {
+        name: None,
+        list,
+        shown: None,
+        whole: true,
+    })?;
+    Ok(Findings {
         command: match kind {
             Kind::Faults => "faults",
             Kind::Warnings(_) => "warn",
         },
         names: None,
-        list,
-        whole: true,
-    }
+        parts,
+    })
+}
+
+/// What a command found as text.
+fn found_text(
+    alloc: Global,
+    kind: Kind<'_>,
+    page: Page,
+    list: Vec<Finding>,
+) -> Result<String, Fault> {
+    page_text(alloc, page, &as_found(alloc, kind, list)?)
 }
 
 /// Looks at each file, and writes what is found as a whole. The status is the greatest of all.
@@ -232,7 +246,7 @@ pub fn pages<S: Shelf, R: Read, W: Write, E: Write>(
     let (kind, page) = told;
     match files_list(shelf, alloc, kind, &asked.files, input, err) {
         Ok((list, status)) => {
-            let text = page_text(alloc, page, &as_found(kind, list), None);
+            let text = found_text(alloc, kind, page, list);
             put_page(text, status, out, err)
         }
         Err(fault) => tell_bare(fault, err),
