@@ -442,7 +442,7 @@ class Libraries(unittest.TestCase):
         self.assertEqual(self.imported("libc.so.6"), told)
 
     def test_the_file_that_was_loaded_is_known(self):
-        with open(yamlcanon._library_file, "rb") as file:
+        with open(yamlcanon.library.file, "rb") as file:
             self.assertEqual(file.read(4), b"\x7fELF")
 
 
