@@ -8,8 +8,8 @@
 //! # Ok::<(), yamlcanon::Refused>(())
 //! ```
 //!
-//! [`Limits`] has the same calls under a limit of memory. A call may be made on any thread. A level of nesting is given 2 KiB of stack, 1,024 of them 2 MiB, and where less is
-//! left than an input of this length may take, the call is made on a thread of its own that has 8 MiB.
+//! [`Limits`] has the same calls under a limit of memory. A call may be made on any thread. Where the thread has less stack left than an
+//! input of this length may take, which is 2,304 KiB at most, the call is made on a thread of its own with 8 MiB.
 #![warn(missing_docs)]
 
 use std::ffi::{c_char, CStr};
