@@ -90,6 +90,8 @@ def elsewhere(work: Callable[..., _Answer], *words: Any) -> _Answer:
         try:
             other = threading.Thread(target=run)
             other.start()
+        except RuntimeError as fault:
+            raise MemoryError("yamlcanon: 21 OutOfMemory, since no thread can be had for the call") from fault
         finally:
             threading.stack_size(before)
     other.join()
