@@ -1,0 +1,3 @@
+pub mod RuleLaws
+pub mod ShownLaws
+pub mod ExistLaws
