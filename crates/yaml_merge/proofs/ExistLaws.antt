@@ -6,12 +6,12 @@ use lib.Pointwise.{bytes_decides}
 use Rattle.yaml_definitions.specs.model.Tree.{Tree, Trees, Pairs, scalar, sequence, mapping, end, item, done, entry}
 use Rattle.yaml_definitions.specs.model.Same.{same, keyed, keyed_trees, keyed_pairs, all_pairs}
 use Rattle.yaml_definitions.proofs.Members.{In, and_both, both_and, or_either, or_left, or_right, in_all}
-use Rattle.yaml_definitions.proofs.SameLaws.{keyed_parts, keyed_in}
-use Rattle.yaml_definitions.proofs.Equivalence.{same_refl, same_sym, same_like}
+use Rattle.yaml_definitions.proofs.SameLaws.{keyed_parts}
+use Rattle.yaml_definitions.proofs.Equivalence.{same_refl, same_like}
 use Rattle.yaml_path.specs.Path.{Path, Step, at_item, at_key, item_in, value_in, part_of}
 use Rattle.yaml_path.specs.Ways.{count_in}
 use Rattle.yaml_path.proofs.PathLaws.{found_in, in_found}
-use Rattle.yaml_merge.specs.Merge.{alike, is_ruled, opens, one_shape, Conflicts, IsMerge, IsKeyed}
+use Rattle.yaml_merge.specs.Merge.{is_ruled, opens, one_shape, Conflicts, IsMerge, IsKeyed}
 use Rattle.yaml_merge.proofs.RuleLaws.{alike-self, rule-by, ruled-by, true-false, opens-three, three-open, follows-merge, open-merge, no-merge, conflict-none}
 use Rattle.yaml_merge.proofs.ShownLaws.{part-keyed}
 

@@ -1,15 +1,14 @@
 -- What the rules say of one place.
-use Rattle.std.proofs.Common.{◌≡◌, ℕ, Bool, true, false, ◌&&◌, ◌||◌, ◌==◌, ◌⊎◌, [], ◌∷◌, inl, inr, refl, sym, ◌∙◌, ap, subst}
+use Rattle.std.proofs.Common.{◌≡◌, ℕ, Bool, true, false, ◌&&◌, ◌||◌, ◌==◌, ◌⊎◌, [], ◌∷◌, inl, inr, refl, ◌∙◌}
 use Rattle.std.specs.Prelude.{Option, Some, None, bytes_eq}
 use lib.Pointwise.{bytes_decides}
-use Rattle.std.proofs.lemmas.Bool.{eqb-true, eq-eqb}
+use Rattle.std.proofs.lemmas.Bool.{eq-eqb}
 use Rattle.yaml_definitions.specs.model.Tree.{Tree, scalar, sequence, mapping}
-use Rattle.yaml_definitions.specs.model.Same.{same}
 use Rattle.yaml_definitions.proofs.Members.{and_both, both_and, or_either, or_left, or_right}
 use Rattle.yaml_definitions.proofs.Equivalence.{same_refl, same_sym, same_trans}
 use Rattle.yaml_path.specs.Path.{Path, Step, part_of}
 use Rattle.yaml_path.specs.Ways.{count_in}
-use Rattle.yaml_merge.specs.Merge.{alike, follows, is_ruled, opens, one_shape, settled, Breaks, Conflicts, Strays, IsMerge}
+use Rattle.yaml_merge.specs.Merge.{alike, follows, is_ruled, opens, one_shape, Conflicts, Strays, IsMerge}
 
 -- ---- equal values
 

@@ -1,16 +1,16 @@
 -- What a merge shows at each path.
-use Rattle.std.proofs.Common.{◌≡◌, ◌≢◌, ℕ, Bool, true, false, ◌==◌, ◌⊎◌, [], ◌∷◌, inl, inr, refl, sym, ◌∙◌, ap, subst}
+use Rattle.std.proofs.Common.{◌≡◌, ◌≢◌, Bool, true, false, ◌==◌, [], ◌∷◌, inl, inr, refl, sym, ◌∙◌, ap}
 use Rattle.std.specs.Prelude.{Option, Some, None, bytes_eq}
 use lib.Pointwise.{bytes_decides}
 use Rattle.yaml_definitions.specs.model.Tree.{Tree, scalar, sequence, mapping}
-use Rattle.yaml_definitions.specs.model.Same.{same, keyed, Same, Keyed}
+use Rattle.yaml_definitions.specs.model.Same.{Same, Keyed}
 use Rattle.yaml_definitions.proofs.Members.{and_both}
 use Rattle.yaml_definitions.proofs.Equivalence.{same_refl}
-use Rattle.yaml_path.specs.Path.{Path, Step, Head, sequence_head, mapping_head, part_of, head_of, see}
+use Rattle.yaml_path.specs.Path.{Path, Step, sequence_head, mapping_head, part_of, head_of, see}
 use Rattle.yaml_path.specs.Ways.{count_in}
 use Rattle.yaml_path.proofs.PathLaws.{Match, match-seen, match-part, seen_same}
-use Rattle.yaml_merge.specs.Merge.{alike, follows, opens, one_shape, Strays, IsMerge, Shows, ShowsAt, IsKeyed}
-use Rattle.yaml_merge.proofs.RuleLaws.{by-rule, not-false, opens-three, true-false}
+use Rattle.yaml_merge.specs.Merge.{alike, follows, opens, one_shape, IsMerge, Shows, ShowsAt, IsKeyed}
+use Rattle.yaml_merge.proofs.RuleLaws.{by-rule, not-false, opens-three}
 
 -- ---- one place
 
