@@ -91,12 +91,7 @@ pub fn difference_found(alloc: Global, asked: &Diff<'_>, line: &Line) -> Result<
 }
 
 /// A fault of a file of this name and these bytes.
-pub fn fault_found(
-    alloc: Global,
-    name: &str,
-    bytes: &[u8],
-    fault: Fault,
-) -> Result<Finding, Fault>
+pub fn fault_found(alloc: Global, name: &str, bytes: &[u8], fault: Fault) -> Result<Finding, Fault>
     ensures { IfOk result (IsFault name.now bytes.now fault) }
 {
     let spotted = spot_fault(alloc, bytes, fault)?;
