@@ -91,7 +91,7 @@ pub fn difference_found(alloc: Global, asked: &Diff<'_>, line: &Line) -> Result<
 }
 
 /// A fault of a file of this name and these bytes.
-pub(crate) fn fault_found(
+pub fn fault_found(
     alloc: Global,
     name: &str,
     bytes: &[u8],
