@@ -38,17 +38,23 @@ fn on_stack(stack: &mut [u8]) -> usize {
     LENGTH.with(Cell::get)
 }
 
+// A stack, and what lies below it, where a call that takes too much of the stack would write.
+const STACK: usize = 256 << 10;
+const BELOW: usize = 4 << 20;
+
 #[test]
 fn a_deep_input_on_stacks_below_and_above_the_thread_s() {
-    let mut stacks = vec![vec![0; 256 << 10]];
+    let mut rooms = vec![vec![0; BELOW + STACK]];
     for _ in 0..4 {
-        // The stack of the next thread is mapped between those that are there and the next.
-        stacks = thread::spawn(move || {
-            stacks.push(vec![0; 256 << 10]);
-            for stack in &mut stacks {
-                assert!(on_stack(stack) > 9 * 1023);
+        // The stack of the next thread lies below the rooms that are there, and above the next one.
+        rooms = thread::spawn(move || {
+            rooms.push(vec![0; BELOW + STACK]);
+            let untouched = vec![0; BELOW];
+            for room in &mut rooms {
+                assert!(on_stack(&mut room[BELOW..]) > 9 * 1023);
+                assert!(room[..BELOW] == untouched[..], "the call has left its stack");
             }
-            stacks
+            rooms
         })
         .join()
         .unwrap();

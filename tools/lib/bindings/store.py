@@ -12,7 +12,7 @@ RUST = TOP + "/bindings/rust"
 
 
 def in_c(folder, room):
-    build(room, "store", EXAMPLES + "/store.c", folder + "/libyamlcanon.a")
+    build(room, "store", "-I" + folder, EXAMPLES + "/store.c", folder + "/libyamlcanon.a")
     return [room + "/store"], {}
 
 
