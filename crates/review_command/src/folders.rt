@@ -6,6 +6,7 @@ use review_compare::compare_sides;
 use review_files::files::read_file;
 use review_files::rejected::{Named, put_not_compared, put_rejection, put_rejections};
 use review_files::telling::{put_line, tell_bare};
+use review_lines::Compared;
 use review_patterns::Pattern;
 use review_text::json::{Said, put_object};
 use review_text::put_shown;
@@ -124,6 +125,25 @@ pub(crate) fn with_names<'n>(asked: &Diff<'n>, left: &'n str, right: &'n str) ->
     }
 }
 
+/// Adds what is printed of two files that are compared.
+fn put_compared(
+    alloc: Global,
+    told: &mut Told,
+    asked: &Diff<'_>,
+    name: &str,
+    compared: &Compared,
+) -> Result<(), Fault> {
+    if compared.same {
+        return Ok(());
+    }
+    told.status = DIFFERENT;
+    if has_lines(asked) {
+        put_name(alloc, &mut told.out, asked, name)?;
+    }
+    told.out.push_str(&compared.text)?;
+    Ok(())
+}
+
 /// What is printed of a file that both folders have.
 fn both_told<T: Files>(
     rt: &T,
@@ -150,17 +170,8 @@ fn both_told<T: Files>(
         told.status = put_rejections(alloc, &mut told.err, first, second, asked.form)?;
         return Ok(told);
     };
-    let of_name = with_names(asked, name, name);
-    match compare_sides(alloc, &of_name, ignored, one, other) {
-        Ok(compared) => {
-            if !compared.same {
-                told.status = DIFFERENT;
-                if has_lines(asked) {
-                    put_name(alloc, &mut told.out, asked, name)?;
-                }
-                told.out.push_str(&compared.text)?;
-            }
-        }
+    match compare_sides(alloc, &with_names(asked, name, name), ignored, one, other) {
+        Ok(compared) => put_compared(alloc, &mut told, asked, name, &compared)?,
         Err(refused) => {
             told.status = put_not_compared(
                 alloc,
