@@ -6,6 +6,7 @@ use review_files::files::read_file;
 use review_files::rejected::{Named, put_not_compared, put_rejection, put_rejections};
 use review_files::telling::{put_line, tell_bare, tell_unread};
 use review_files::unread::Unread;
+use review_lines::Compared;
 use review_patterns::Pattern;
 use review_text::json::{Said, put_object};
 use review_text::put_shown;
@@ -216,6 +217,42 @@ fn one_told<T: Files>(
     Ok(told)
 }
 
+/// What is asked of the files of a name in both folders.
+fn of_name<'n>(asked: &Diff<'n>, name: &'n str) -> Diff<'n> {
+    Diff {
+        left: name,
+        right: name,
+        places: asked.places,
+        whole: asked.whole,
+        lines: asked.lines,
+        form: asked.form,
+        context: asked.context,
+        color: asked.color,
+        stat: asked.stat,
+        by_position: asked.by_position,
+        by: asked.by,
+    }
+}
+
+/// Adds what is printed of two files that are compared.
+fn put_compared(
+    alloc: Global,
+    told: &mut Told,
+    asked: &Diff<'_>,
+    name: &str,
+    compared: &Compared,
+) -> Result<(), Fault> {
+    if compared.same {
+        return Ok(());
+    }
+    told.status = DIFFERENT;
+    if has_lines(asked) {
+        put_name(alloc, &mut told.out, asked, name)?;
+    }
+    told.out.push_str(&compared.text)?;
+    Ok(())
+}
+
 /// What is printed of a file that both folders have.
 fn both_told<T: Files>(
     rt: &T,
@@ -242,29 +279,8 @@ fn both_told<T: Files>(
         told.status = put_rejections(alloc, &mut told.err, first, second, asked.form)?;
         return Ok(told);
     };
-    let of_name = Diff {
-        left: name,
-        right: name,
-        places: asked.places,
-        whole: asked.whole,
-        lines: asked.lines,
-        form: asked.form,
-        context: asked.context,
-        color: asked.color,
-        stat: asked.stat,
-        by_position: asked.by_position,
-        by: asked.by,
-    };
-    match compare_sides(alloc, &of_name, ignored, one, other) {
-        Ok(compared) => {
-            if !compared.same {
-                told.status = DIFFERENT;
-                if has_lines(asked) {
-                    put_name(alloc, &mut told.out, asked, name)?;
-                }
-                told.out.push_str(&compared.text)?;
-            }
-        }
+    match compare_sides(alloc, &of_name(asked, name), ignored, one, other) {
+        Ok(compared) => put_compared(alloc, &mut told, asked, name, &compared)?,
         Err(refused) => {
             told.status = put_not_compared(
                 alloc,
