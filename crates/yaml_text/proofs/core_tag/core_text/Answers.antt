@@ -2,7 +2,7 @@ use Rattle.std.proofs.Common.{refl, rules}
 use Rattle.std.specs.Char.{encode_utf8}
 use Rattle.yaml_definitions.specs.model.Tag.{core_tag}
 use Rattle.yaml_definitions.specs.canonical.TagText.{full_text}
-use Rattle.yaml_spell.proofs.parts.core_text.Goals as goal
+use Rattle.yaml_text.proofs.core_tag.core_text.Goals as goal
 
 pub returns-then-eq-clause-some : goal.returns-then-eq-clause-some
 unfolding encode_utf8 core_tag full_text
