@@ -119,7 +119,8 @@ class OfACrate(unittest.TestCase):
     def test_methods_have_the_module_of_their_type(self):
         self.put("src/deep/more.rt", OF_ANOTHER_MODULE)
         found = [
-            Mutant("x", f"m{n}", f"file: src/deep/more.rt\nold: plus({n}, 0)\nnew: plus({n}, 1)\n", self.crate).places[0] for n in (4, 5, 6, 7)
+            Mutant("x", f"m{n}", f"file: src/deep/more.rt\nold: plus({n}, 0)\nnew: plus({n}, 1)\n", self.crate).places[0]
+            for n in (4, 5, 6, 7)
         ]
         names = ["kind::Kind::four", "low::Room::five", "deep::more::KindSteps::six", "deep::more::Own::seven"]
         self.assertEqual([it.name for it in found], [f"x::{name}" for name in names])
