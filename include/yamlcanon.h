@@ -1,8 +1,9 @@
 /* yamlcanon.h: the canonical text of YAML 1.2 streams, and whether two streams mean the same.
  *
  * tools/library builds libyamlcanon.a, libyamlcanon.so.1 and yamlcanon.pc. What a call answers is proved against its
- * contract in crates/yaml_c/src (calls.rt, show.rt, diff.rt, values.rt), which say which text, which answer and which refusal. Not proved are the
- * bound of memory and yamlcanon_release; nothing checks this header against the contracts, nor what a caller passes.
+ * contract in crates/yaml_c/src (calls.rt, show.rt, diff.rt, values.rt), which say which text, which answer and which
+ * refusal. Not proved are the bound of memory and yamlcanon_release; nothing checks this header against the contracts,
+ * nor what a caller passes.
  *
  * A caller owes, for the time of the call:
  *   - input, left, right: readable for their lengths, which are at most PTRDIFF_MAX, and written by nobody;

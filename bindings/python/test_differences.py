@@ -2,6 +2,7 @@
 
 import base64
 import concurrent.futures
+import dataclasses
 import doctest
 import hashlib
 import json
@@ -17,6 +18,8 @@ CALLERS = 64
 # What callers have: no limit, enough for all vectors but large ones, and too little for any that has a node.
 BUDGETS = (0, 1 << 20, 500)
 VECTORS = os.environ.get("YAMLCANON_VECTORS") or os.path.join(os.path.dirname(__file__), "../../vectors/form-1.jsonl")
+# Pairs of streams with what `yamlreview diff --format=json` prints of them, a line of JSON each: tools/bindings writes it.
+DIFFERENCES = os.environ.get("YAMLCANON_DIFFERENCES")
 DEEPEST = b"{a: " * 1023 + b"x" + b"}" * 1023
 
 
@@ -118,6 +121,42 @@ class Callers(unittest.TestCase):
         work = [(vector, BUDGETS[number % len(BUDGETS)]) for number, vector in enumerate(rows * 3)]
         with concurrent.futures.ThreadPoolExecutor(CALLERS) as pool:
             wrong = [line for found in pool.map(answers_beside, *zip(*work)) for line in found]
+        self.assertEqual(wrong, [])
+
+
+def as_told(line):
+    """The numbers and texts of a line of JSON, in the order of a Difference."""
+    told = json.loads(line)
+    places = [told.get(side + "_place") for side in ("left", "right")]
+    places = [place and (place["line"], place["column"]) for place in places]
+    return (told["kind"], told.get("path", ""), told.get("left"), told.get("right"), *places)
+
+
+def diff_beside(row, memory):
+    """What a pair of streams is answered under a limit, if that is neither what the program prints nor that memory is lacking."""
+    told = json.loads(row)
+    left, right, lines = (base64.b64decode(told[name]) for name in ("left", "right", "lines"))
+    wanted = [as_told(line) for line in lines.split(b"\n")[:-1]]
+    try:
+        with budget(memory):
+            found = [dataclasses.astuple(one) for one in diff(left, right)]
+    except MemoryError:
+        return None if memory else (row, "MemoryError")
+    except Refused as fault:
+        return None if told["status"] == 2 else (row, str(fault))
+    return None if (found, bool(found)) == (wanted, told["status"] == 1) else (row, found)
+
+
+@unittest.skipUnless(DIFFERENCES, "YAMLCANON_DIFFERENCES names no file of pairs with the program's answers")
+class CallersOfDiff(unittest.TestCase):
+    def test_64_callers_are_told_what_the_program_prints(self):
+        with open(DIFFERENCES, encoding="utf-8") as file:
+            rows = file.read().splitlines()
+        self.assertGreater(len(rows), 2000)
+        self.assertEqual({json.loads(row)["status"] for row in rows}, {0, 1, 2})
+        with concurrent.futures.ThreadPoolExecutor(CALLERS) as pool:
+            work = [(row, BUDGETS[number % len(BUDGETS)]) for number, row in enumerate(rows + rows[1:] + rows[2:])]
+            wrong = [found for found in pool.map(diff_beside, *zip(*work)) if found is not None]
         self.assertEqual(wrong, [])
 
 

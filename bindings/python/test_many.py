@@ -64,7 +64,7 @@ class Folder(unittest.TestCase):
     def other_library(self):
         """A library of the same version with other bytes, as a later release is."""
         other = os.path.join(self.room, "later.so")
-        with open(yamlcanon._library_file, "rb") as file, open(other, "wb") as copy:
+        with open(yamlcanon.library.file, "rb") as file, open(other, "wb") as copy:
             copy.write(file.read() + b"later")
         return other
 
@@ -417,7 +417,7 @@ class Libraries(Folder):
         if not os.path.exists(bag):
             self.skipTest("the examples are not here")
         got = []
-        for library in (yamlcanon._library_file, self.later):
+        for library in (yamlcanon.library.file, self.later):
             words = [sys.executable, "-c", BAG, bag, self.room, *self.paths]
             done = subprocess.run(words, capture_output=True, env={**ENVIRONMENT, "YAMLCANON_LIBRARY": library}, timeout=120)
             self.assertEqual((done.returncode, done.stdout.count(b"\n")), (0, 1), done.stderr)

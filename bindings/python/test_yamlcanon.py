@@ -339,6 +339,10 @@ class Calls(unittest.TestCase):
             done = subprocess.run(words, capture_output=True, env=ENVIRONMENT, timeout=120)
             self.assertEqual((done.returncode, done.stdout), (0, b"True True\n"), (stack, left, done.stderr))
 
+    def test_memory_is_lacking_where_no_thread_can_be_had(self):
+        done = subprocess.run([sys.executable, "-c", NO_THREAD], capture_output=True, env=ENVIRONMENT, timeout=120)
+        self.assertEqual((done.returncode, done.stdout), (0, b"MemoryError True\n"), done.stderr)
+
     def test_what_is_left_of_the_stack(self):
         left = on_thread(1 << 20, lambda: yamlcanon._thread.stack_left())
         self.assertTrue(960 << 10 < left < 1 << 20, left)
@@ -373,6 +377,29 @@ class Calls(unittest.TestCase):
         self.assertEqual(got, want)
         self.assertTrue(inner)
 
+
+# Calls with a deep input on a thread with a small stack: while the process may have no more than 2 MiB more, which is less than the stack
+# of a thread for a call, and then. No call is made before, since the system would keep its thread's stack.
+NO_THREAD = """
+import resource, threading, yamlcanon
+deep, limits = "[" * 1000 + "]" * 1000, resource.getrlimit(resource.RLIMIT_AS)
+def answer():
+    try:
+        return yamlcanon.same(deep, deep)
+    except MemoryError as fault:
+        return type(fault).__name__
+def answers():
+    with open("/proc/self/statm") as file:
+        size = int(file.read().split()[0]) * resource.getpagesize()
+    resource.setrlimit(resource.RLIMIT_AS, (size + (2 << 20), limits[1]))
+    within = answer()
+    resource.setrlimit(resource.RLIMIT_AS, limits)
+    print(within, answer())
+threading.stack_size(256 << 10)
+thread = threading.Thread(target=answers)
+thread.start()
+thread.join()
+"""
 
 # Calls with a deep input on a thread, a part of whose stack holds an argument of so many bytes.
 PARTLY_USED = """
@@ -442,7 +469,7 @@ class Libraries(unittest.TestCase):
         self.assertEqual(self.imported("libc.so.6"), told)
 
     def test_the_file_that_was_loaded_is_known(self):
-        with open(yamlcanon._library_file, "rb") as file:
+        with open(yamlcanon.library.file, "rb") as file:
             self.assertEqual(file.read(4), b"\x7fELF")
 
 

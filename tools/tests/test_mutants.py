@@ -2,10 +2,11 @@
 import os
 import tempfile
 import unittest
+import unittest.mock
 
 from scripts import TOP, load, run
 from lib.crates import crates_of
-from lib.mutants import judging
+from lib.mutants import counted, judging
 from lib.mutants.mutant import Mutant, faults_of, mutants_of, texts_of
 from lib.mutants.recorded import line_of, told_by
 from lib.mutants.said import Refusal, Said
@@ -25,6 +26,39 @@ fn two(n: u32) -> u32 {
 
 pub fn three(n: u32) -> u32 {
     plus(n, 3)
+}
+"""
+OF_ANOTHER_MODULE = """\
+use crate::kind::Kind;
+use crate::low::{Room, Steps};
+
+impl Kind {
+    /// Four.
+    pub fn four(&self) -> u32
+        ensures { result ≡ 4 }
+    {
+        plus(4, 0)
+    }
+}
+
+impl<'a> Room<'a> {
+    pub fn five(&self) -> u32
+        ensures { result ≡ 5 }
+    {
+        plus(5, 0)
+    }
+}
+
+impl Steps for Kind {
+    fn six(&self) -> u32 {
+        plus(6, 0)
+    }
+}
+
+impl Own {
+    fn seven(&self) -> u32 {
+        plus(7, 0)
+    }
 }
 """
 BLOCKS = """\
@@ -81,6 +115,26 @@ class OfACrate(unittest.TestCase):
         self.assertEqual(one.changes(), [("src/lib.rt", "    plus(n, 1)", "    plus(n, 2)")])
         self.assertEqual(two.twin(), [("src/lib.rt", "    plus(n, 2)", "    if n > 0 { plus(n, 2) } else { plus(n, 2) }")])
         self.assertEqual((one.keeps_shape(), two.keeps_shape(), self.faults()), (True, False, []))
+
+    def test_methods_have_the_module_of_their_type(self):
+        self.put("src/deep/more.rt", OF_ANOTHER_MODULE)
+        found = [
+            Mutant("x", f"m{n}", f"file: src/deep/more.rt\nold: plus({n}, 0)\nnew: plus({n}, 1)\n", self.crate).places[0]
+            for n in (4, 5, 6, 7)
+        ]
+        names = ["kind::Kind::four", "low::Room::five", "deep::more::KindSteps::six", "deep::more::Own::seven"]
+        self.assertEqual([it.name for it in found], [f"x::{name}" for name in names])
+        self.assertEqual([it.folders for it in found], [[f"proofs/{name.replace('::', '/')}/"] for name in names])
+        with unittest.mock.patch.object(counted, "TOP", self.top):
+            self.assertEqual([*counted.functions_with_contracts("x")], ["x::kind::Kind::four", "x::low::Room::five", "x::one"])
+
+    def test_answers_of_a_method_are_its_own(self):
+        self.put("src/more.rt", OF_ANOTHER_MODULE)
+        four = Mutant("x", "four", "file: src/more.rt\nold: plus(4, 0)\nnew: plus(4, 1)\n", self.crate)
+        said = Said("fn x::kind::Kind::four: no proof\nproofs/kind/Kind/four/Answers.antt:3:1: error: `returns`: expected type\n").of(four)
+        self.assertEqual((said.goals, said.is_proved), (["returns"], False))
+        judging.conclude(four, said, None)
+        self.assertEqual(four.verdict, judging.OWN)
 
     def test_must_fail_is_read_too(self):
         self.put("must-fail/three.edit", "file: src/lib.rt\nold: plus(n, 3)\nnew: plus(n, 4)\n")

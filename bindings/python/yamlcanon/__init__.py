@@ -37,7 +37,6 @@ from typing import Any, Callable, Iterator, List, Optional, Union
 
 from yamlcanon.differences import Difference, differences_in, lines_of
 from yamlcanon.library import DONE, FORM, REFUSED, SHORT, Fault
-from yamlcanon.library import file as _library_file  # noqa: F401, for yamlcanon.table
 from yamlcanon.library import lib as _lib
 from yamlcanon.nojson import NoJson, unwritten as _unwritten
 from yamlcanon.refused import Kind, Refused

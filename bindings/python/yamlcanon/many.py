@@ -222,7 +222,8 @@ def do(given: argparse.Namespace) -> int:
     if given.duplicates:
         return tell_duplicates(given.duplicates, sys.stdout.buffer)
     if given.drift:
-        return tell_drift(*given.drift, sys.stdout.buffer)
+        old, new = given.drift
+        return tell_drift(old, new, sys.stdout.buffer)
     return run(given.table, sys.stdin.buffer.read(), given.jobs, given.batch, given.cache)
 
 

@@ -4,7 +4,7 @@ import ctypes
 import os
 import threading
 from ctypes import byref, c_size_t, c_uint64, c_void_p
-from typing import Any, Callable, List, Optional, Tuple, TypeVar
+from typing import Any, Callable, List, Tuple, TypeVar
 
 from yamlcanon.library import libc
 
@@ -76,23 +76,25 @@ thread = _Thread()
 
 def elsewhere(work: Callable[..., _Answer], *words: Any) -> _Answer:
     """The same call on a thread of its own, with a stack that holds an input of the greatest depth."""
-    answers: List[Tuple[Any, Optional[BaseException]]] = []
+    answers: List[_Answer] = []
+    faults: List[BaseException] = []
 
     def run() -> None:
         try:
-            answers.append((work(*words), None))
+            answers.append(work(*words))
         except BaseException as fault:  # it is raised where the call was made
-            answers.append((None, fault))
+            faults.append(fault)
 
     with _starting:
         before = threading.stack_size(_STACK_GIVEN)
         try:
             other = threading.Thread(target=run)
             other.start()
+        except RuntimeError as fault:
+            raise MemoryError("yamlcanon: 21 OutOfMemory, since no thread can be had for the call") from fault
         finally:
             threading.stack_size(before)
     other.join()
-    answer, fault = answers[0]
-    if fault is not None:
-        raise fault
-    return answer
+    if faults:
+        raise faults[0]
+    return answers[0]

@@ -19,6 +19,7 @@ from itertools import chain, groupby
 from typing import Any, Collection, Dict, Iterable, Iterator, List, NamedTuple, Optional, Sequence, Set, Tuple, Union
 
 import yamlcanon
+from yamlcanon.library import file as library_file
 
 __all__ = [
     "DONE", "REFUSED", "UNREAD", "Judge", "Meaning", "NoTable", "OtherLibrary", "Row", "Table", "keep", "library_key", "packed", "rows",
@@ -87,7 +88,7 @@ def library_key() -> str:
     differs for each release, and also where a release was built anew: then nothing is taken from the cache, which costs time alone.
     """
     over = hashlib.sha256()
-    with open(yamlcanon._library_file, "rb") as file:
+    with open(library_file, "rb") as file:
         for piece in iter(lambda: file.read(1 << 20), b""):
             over.update(piece)
     major, minor = divmod(yamlcanon.library_version(), 100)

@@ -1,5 +1,5 @@
 //! Why a stream is not written as JSON.
-use crate::{Fault, Refused};
+use crate::{Refused, Unwritten};
 use std::{error, fmt};
 
 /// Why a stream is not written as JSON.
@@ -16,10 +16,9 @@ pub enum JsonError {
 }
 
 impl JsonError {
-    /// The error of a call's status, with the fault that it tells if that is 2.
-    pub(crate) fn of((status, fault): (u32, Fault)) -> JsonError {
-        match status {
-            2 => JsonError::Refused(fault.refused(false)),
+    pub(crate) fn of(unwritten: Unwritten) -> JsonError {
+        match unwritten.status {
+            2 => JsonError::Refused(unwritten.fault.refused(false)),
             4 => JsonError::NoJson,
             _ => JsonError::Unlike,
         }

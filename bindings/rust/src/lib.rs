@@ -8,8 +8,8 @@
 //! # Ok::<(), yamlcanon::Refused>(())
 //! ```
 //!
-//! [`Limits`] has the same calls under a limit of memory. A call may be made on any thread. A level of nesting is given 2 KiB of stack, 1,024 of them 2 MiB, and where less is
-//! left than an input of this length may take, the call is made on a thread of its own that has 8 MiB.
+//! [`Limits`] has the same calls under a limit of memory. A call may be made on any thread. Where the thread has less stack left than an
+//! input of this length may take, which is 2,304 KiB at most, the call is made on a thread of its own with 8 MiB.
 #![warn(missing_docs)]
 
 use std::ffi::{c_char, CStr};
@@ -198,6 +198,18 @@ struct Fault {
     name: [u8; 16],
 }
 
+impl From<Fault> for Refused {
+    fn from(fault: Fault) -> Refused {
+        fault.refused(false)
+    }
+}
+
+impl From<Fault> for Unwritten {
+    fn from(fault: Fault) -> Unwritten {
+        Unwritten { status: 2, fault }
+    }
+}
+
 impl Fault {
     fn refused(self, of_two: bool) -> Refused {
         let side = if self.side == 0 { Side::Left } else { Side::Right };
@@ -265,7 +277,7 @@ extern "C" {
     fn yamlcanon_sha256_within(input: *const u8, n: usize, out: *mut [u8; 32], fault: *mut Fault, memory: usize) -> u32;
 }
 
-/// How many bytes of this thread's stack are left, or 0 where the system does not tell.
+/// How many bytes of this thread's stack are left, or 0 where that is not known, as on a stack that a program made by itself.
 #[cfg(all(target_os = "linux", target_env = "gnu"))]
 fn stack_left() -> usize {
     use std::os::raw::{c_int, c_void};
@@ -277,20 +289,21 @@ fn stack_left() -> usize {
         fn pthread_attr_getstack(attributes: *const Attributes, at: *mut *mut c_void, size: *mut usize) -> c_int;
         fn pthread_attr_destroy(attributes: *mut Attributes) -> c_int;
     }
-    thread_local!(static LOWEST: usize = {
+    thread_local!(static STACK: std::ops::Range<usize> = {
         let (mut attributes, mut at, mut size) = (Attributes([0; 256]), std::ptr::null_mut(), 0);
         // SAFETY: 256 bytes hold a pthread_attr_t (56 here), which is made before it is read.
         unsafe {
             if pthread_getattr_np(pthread_self(), &mut attributes) != 0 {
-                return usize::MAX;
+                return 0..0;
             }
             pthread_attr_getstack(&attributes, &mut at, &mut size);
             pthread_attr_destroy(&mut attributes);
         }
-        at as usize
+        at as usize..at as usize + size
     });
-    let here = 0u8;
-    LOWEST.with(|&lowest| (&here as *const u8 as usize).saturating_sub(lowest))
+    let local = 0u8;
+    let here = &local as *const u8 as usize;
+    STACK.with(|stack| if stack.contains(&here) { here - stack.start } else { 0 })
 }
 
 #[cfg(not(all(target_os = "linux", target_env = "gnu")))]
@@ -298,23 +311,28 @@ fn stack_left() -> usize {
     0
 }
 
-/// Does some work on inputs of at most so many bytes where there is stack enough for it.
-fn with_stack<T: Send>(size: usize, work: impl FnOnce() -> T + Send) -> T {
+/// Does some work on inputs of at most so many bytes where there is stack enough for it. If no thread can be had, memory is lacking.
+fn with_stack<T: Send, E: Send + From<Fault>>(size: usize, work: impl FnOnce() -> Result<T, E> + Send) -> Result<T, E> {
     if stack_left() >= STACK_BASE + STACK_LEVEL * size.min(MOST_LEVELS) {
         return work();
     }
-    thread::scope(|scope| {
-        let there = thread::Builder::new().stack_size(STACK_GIVEN).spawn_scoped(scope, work);
-        there.expect("a thread for the call").join().expect("the call does not unwind")
+    thread::scope(|scope| match thread::Builder::new().stack_size(STACK_GIVEN).spawn_scoped(scope, work) {
+        Ok(there) => there.join().expect("the call does not unwind"),
+        Err(_) => Err(Fault { number: OutOfMemory as u32, name: *b"OutOfMemory\0\0\0\0\0", ..Fault::default() }.into()),
     })
 }
 
 fn text(call: TextCall, input: &[u8], memory: usize) -> Result<Vec<u8>, Refused> {
-    written(call, input, memory).map_err(|(_, fault)| fault.refused(false))
+    written(call, input, memory).map_err(|unwritten| unwritten.fault.refused(false))
 }
 
-/// What a call writes; where it writes nothing, its status, and the fault that it tells if that is 2.
-fn written(call: TextCall, input: &[u8], memory: usize) -> Result<Vec<u8>, (u32, Fault)> {
+/// Why a call writes nothing: its status, and the fault that it tells if that is 2.
+struct Unwritten {
+    status: u32,
+    fault: Fault,
+}
+
+fn written(call: TextCall, input: &[u8], memory: usize) -> Result<Vec<u8>, Unwritten> {
     with_stack(input.len(), || {
         let mut out = vec![0; input.len() * 2 + 64];
         loop {
@@ -326,7 +344,7 @@ fn written(call: TextCall, input: &[u8], memory: usize) -> Result<Vec<u8>, (u32,
                     return Ok(out);
                 }
                 3 => out = vec![0; len],
-                status => return Err((status, fault)),
+                status => return Err(Unwritten { status, fault }),
             }
         }
     })

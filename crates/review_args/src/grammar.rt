@@ -190,6 +190,24 @@ const FORMATS: [&str; 2] = ["yaml", "json"];
 
 const COLORS: [&str; 3] = ["auto", "always", "never"];
 
+/// A number of lines, at most so many.
+fn number<'a>(arg: Arg<'a>, row: &Row, most: u64) -> Arg<'a> {
+    arg.long(row.id)
+        .value_name("N")
+        .value_parser(ValueParser::unsigned(0, most))
+}
+
+/// One of some words.
+fn one_of<'a>(arg: Arg<'a>, row: &Row, name: &'a str, words: &'a [&'a str]) -> Arg<'a> {
+    arg.long(row.id).value_name(name).value_parser(words)
+}
+
+/// A text, of which each use adds one.
+fn texts<'a>(arg: Arg<'a>, row: &Row, name: &'a str) -> Arg<'a> {
+    arg.long(row.id).value_name(name).action(ArgAction::Append)
+}
+
+/// The argument that a row describes.
 fn arg_of<'a>(alloc: Global, row: &Row) -> Result<Arg<'a>, AllocError> {
     let arg = Arg::new(alloc, row.id).help(row.help);
     match row.takes {
@@ -197,52 +215,16 @@ fn arg_of<'a>(alloc: Global, row: &Row) -> Result<Arg<'a>, AllocError> {
         Takes::Files => Ok(arg.num_args(0..).action(ArgAction::Append)),
         Takes::Flag => Ok(arg.long(row.id).action(ArgAction::SetTrue)),
         Takes::Letter(letter) => Ok(arg.long(row.id).short(letter).action(ArgAction::SetTrue)),
-        Takes::Lines => Ok(
-            arg.long(row.id)
-                .value_name("N")
-                .value_parser(ValueParser::unsigned(0, 1_000_000))
-                .default_value("1000"),
-        ),
-        Takes::Most => Ok(
-            arg.long(row.id)
-                .value_name("N")
-                .value_parser(ValueParser::unsigned(0, 1_000_000)),
-        ),
-        Takes::Around(letter) => Ok(
-            arg.long(row.id)
-                .short(letter)
-                .value_name("N")
-                .value_parser(ValueParser::unsigned(0, 1_000))
-                .default_value("0"),
-        ),
-        Takes::Color => Ok(
-            arg.long(row.id)
-                .value_name("WHEN")
-                .value_parser(COLORS.as_slice())
-                .default_value("auto"),
-        ),
-        Takes::Paths => Ok(
-            arg.long(row.id)
-                .value_name("PATH")
-                .action(ArgAction::Append),
-        ),
-        Takes::Spelled => Ok(
-            arg.long(row.id)
-                .value_name("WORD")
-                .action(ArgAction::Append),
-        ),
-        Takes::Form => Ok(
-            arg.long(row.id)
-                .value_name("FORM")
-                .value_parser(FORMS.as_slice())
-                .default_value(FORMS[0]),
-        ),
-        Takes::OneOf(name, words) => Ok(
-            arg.long(row.id)
-                .value_name(name)
-                .value_parser(words.as_slice())
-                .default_value(words[0]),
-        ),
+        Takes::Lines => Ok(number(arg, row, 1_000_000).default_value("1000")),
+        Takes::Most => Ok(number(arg, row, 1_000_000)),
+        Takes::Around(letter) => Ok(number(arg, row, 1_000).short(letter).default_value("0")),
+        Takes::Color => Ok(one_of(arg, row, "WHEN", COLORS.as_slice()).default_value("auto")),
+        Takes::Paths => Ok(texts(arg, row, "PATH")),
+        Takes::Spelled => Ok(texts(arg, row, "WORD")),
+        Takes::Form => Ok(one_of(arg, row, "FORM", FORMS.as_slice()).default_value(FORMS[0])),
+        Takes::OneOf(name, words) => {
+            Ok(one_of(arg, row, name, words.as_slice()).default_value(words[0]))
+        }
         Takes::Keys => Ok(arg.long(row.id).value_name("KEYS")),
         Takes::Names => arg.long(row.id).value_name("LIST").conflicts_with("FILE"),
         Takes::Digests => arg

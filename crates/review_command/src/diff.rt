@@ -1,21 +1,21 @@
 //! The command `diff`.
 ghost use Rattle.std.specs.Prelude.{◌≡◌, ◌<◌, ◌-◌, ◌^◌, ℕ, List, Option, cond, IfOk, IfErr};
 ghost use Rattle.yaml_text.specs.CountedModel.{faults_of};
+ghost use Rattle.review_files.specs.Named.{AreNamed, AreNotBoth};
 ghost use Rattle.review_command.specs.Diffs.{DiffTells, DiffShows};
-ghost use Rattle.review_command.specs.Named.{AreNamed};
-ghost use Rattle.review_command.specs.Rejections.{AreNotBoth, Refuses, DiffRefuses};
+ghost use Rattle.review_command.specs.Rejections.{Refuses, DiffRefuses};
 ghost use Rattle.review_command.specs.declared.diff.NoDiff.TheVariants.{Fault as NoText};
 
-use crate::files::{NotBoth, read_both};
-use crate::findings::difference_found;
-use crate::pages::page_text;
-use crate::rejected::{Named, put_not_compared, put_rejections};
-use crate::unread::Unread;
 use review_args::{Diff, Page};
 use review_compare::{compare_sides, list_sides};
-use review_formats::{Findings, Shown};
+use review_files::files::{NotBoth, read_both};
+use review_files::rejected::{Named, put_not_compared, put_rejections};
+use review_files::unread::Unread;
+use review_formats::{Finding, Findings, Part, Shown};
 use review_lines::Listed;
 use review_patterns::Pattern;
+use review_reports::findings::difference_found;
+use review_reports::pages::page_text;
 use review_text::put_visible;
 use std::alloc::Global;
 use std::io::{Read, Write};
@@ -125,7 +125,7 @@ pub fn diff<S: Shelf, R: Read, W: Write>(
 }
 
 /// What two files have differently, of a list.
-fn findings_of(alloc: Global, asked: &Diff<'_>, listed: &Listed) -> Result<Findings, Fault> {
+fn findings_of(alloc: Global, asked: &Diff<'_>, listed: &Listed) -> Result<Vec<Finding>, Fault> {
     let mut list = Vec::new(alloc);
     for line in &listed.lines {
         list.push(difference_found(alloc, asked, line)?)?;
@@ -133,12 +133,7 @@ fn findings_of(alloc: Global, asked: &Diff<'_>, listed: &Listed) -> Result<Findi
     for line in &listed.moves {
         list.push(difference_found(alloc, asked, line)?)?;
     }
-    Ok(Findings {
-        command: "diff",
-        names: Some((asked.left.to_string(alloc)?, asked.right.to_string(alloc)?)),
-        list,
-        whole: listed.whole,
-    })
+    Ok(list)
 }
 
 /// A file of which lines are shown, with escapes for the characters that would not be seen.
@@ -149,6 +144,44 @@ fn shown_of(alloc: Global, name: &str, bytes: &[u8]) -> Result<Shown, Fault> {
         name: name.to_string(alloc)?,
         text,
     })
+}
+
+/// What two files have differently, and the lines of both if the page shows them.
+pub(crate) fn part_of(
+    alloc: Global,
+    told: (&Diff<'_>, Page),
+    listed: &Listed,
+    left: &[u8],
+    right: &[u8],
+) -> Result<Part, Fault> {
+    let (asked, page) = told;
+    let shown = if page == Page::Html {
+        let first = shown_of(alloc, asked.left, left)?;
+        Some((first, shown_of(alloc, asked.right, right)?))
+    } else {
+        None
+    };
+    Ok(Part {
+        name: None,
+        list: findings_of(alloc, asked, listed)?,
+        shown,
+        whole: listed.whole,
+    })
+}
+
+/// What two files or folders have differently as a page.
+pub(crate) fn parts_text(
+    alloc: Global,
+    told: (&Diff<'_>, Page),
+    parts: Vec<Part>,
+) -> Result<String, Fault> {
+    let (asked, page) = told;
+    let found = Findings {
+        command: "diff",
+        names: Some((asked.left.to_string(alloc)?, asked.right.to_string(alloc)?)),
+        parts,
+    };
+    page_text(alloc, page, &found)
 }
 
 /// What two files have differently as a page; nothing where no line is asked for.
@@ -163,13 +196,9 @@ fn listed_text(
     if asked.lines == 0 {
         return Ok(String::new(alloc));
     }
-    let found = findings_of(alloc, asked, listed)?;
-    if page != Page::Html {
-        return page_text(alloc, page, &found, None);
-    }
-    let first = shown_of(alloc, asked.left, left)?;
-    let second = shown_of(alloc, asked.right, right)?;
-    page_text(alloc, page, &found, Some((&first, &second)))
+    let mut parts = Vec::new(alloc);
+    parts.push(part_of(alloc, (asked, page), listed, left, right)?)?;
+    parts_text(alloc, (asked, page), parts)
 }
 
 /// The same as `diff`, of which the list of differences is written as a page.

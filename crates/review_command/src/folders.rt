@@ -1,11 +1,12 @@
 //! The files of two folders, compared by their names.
-use crate::files::read_file;
 use crate::host::Host;
-use crate::rejected::{Named, put_not_compared, put_rejection, put_rejections};
-use crate::telling::{put_line, tell_bare, tell_unread};
-use crate::unread::Unread;
+use crate::names::{names_of, path_in};
 use review_args::{Diff, Form};
 use review_compare::compare_sides;
+use review_files::files::read_file;
+use review_files::rejected::{Named, put_not_compared, put_rejection, put_rejections};
+use review_files::telling::{put_line, tell_bare};
+use review_lines::Compared;
 use review_patterns::Pattern;
 use review_text::json::{Said, put_object};
 use review_text::put_shown;
@@ -13,122 +14,13 @@ use std::alloc::Global;
 use std::cmp::Ordering;
 use std::io::Write;
 use std::rt::Files;
-use std::{fs, io};
 use yaml_command::streams::write_out;
-use yaml_sum::reason::reason_of;
 use yaml_text::counted::Counted;
 use yaml_text::fault::Fault;
 
-const SAME: u8 = 0;
+pub(crate) const SAME: u8 = 0;
 
-const DIFFERENT: u8 = 1;
-
-/// Whether a name is that of a folder.
-fn is_folder<T: Files>(rt: &T, name: &str) -> bool {
-    match fs::metadata(rt, name) {
-        Ok(found) => found.is_dir(),
-        Err(_) => false,
-    }
-}
-
-/// Whether two folders are compared.
-pub(crate) fn are_folders<T: Files>(rt: &T, asked: &Diff<'_>) -> bool {
-    is_folder(rt, asked.left) && is_folder(rt, asked.right)
-}
-
-/// The path of what has this name in a folder.
-fn path_in(alloc: Global, folder: &str, name: &str) -> Result<String, Fault> {
-    let mut path = folder.to_string(alloc)?;
-    if !folder.ends_with('/') {
-        path.push('/')?;
-    }
-    path.push_str(name)?;
-    Ok(path)
-}
-
-/// Why a folder is not read.
-fn unread(name: &str, error: io::Error) -> Unread {
-    Unread::CannotOpen(reason_of(name.as_bytes(), error.kind()))
-}
-
-/// Why memory is refused, of what is read of a folder.
-fn refused<E: Drop>(_error: E) -> Unread {
-    Unread::Fault(Fault::OutOfMemory)
-}
-
-/// Names of a folder, each as its path from the folder.
-#[derive(Drop)]
-struct Names {
-    files: Vec<String>,
-    /// The folders in it that are still to be read, each with a slash behind it.
-    folders: Vec<String>,
-}
-
-/// Adds the names in a folder, which has this path from the first one. A link to a folder is not followed, and what is neither a
-/// regular file nor a folder is left out.
-fn add_names<T: Files + AllocGlobal + Clone + Drop>(
-    rt: &T,
-    alloc: Global,
-    top: &str,
-    below: &str,
-    names: &mut Names,
-) -> Result<(), Unread> {
-    let path = path_in(alloc, top, below).map_err(Unread::Fault)?;
-    let entries = match fs::read_dir(rt, path.as_str()) {
-        Ok(entries) => entries,
-        Err(error) => return Err(unread(top, error)),
-    };
-    for entry in entries {
-        let entry = match entry {
-            Ok(entry) => entry,
-            Err(error) => return Err(unread(top, error)),
-        };
-        let mut name = below.to_string(alloc).map_err(refused)?;
-        name.push_str(entry.file_name()).map_err(refused)?;
-        let is_folder = match entry.file_type() {
-            Ok(found) => found.is_dir(),
-            Err(_) => false,
-        };
-        if is_folder {
-            name.push('/').map_err(refused)?;
-            names.folders.push(name).map_err(refused)?;
-        } else if is_file(rt, alloc, top, name.as_str())? {
-            names.files.push(name).map_err(refused)?;
-        }
-    }
-    Ok(())
-}
-
-/// Whether a name in a folder is that of a regular file, or of a link to one.
-fn is_file<T: Files>(rt: &T, alloc: Global, top: &str, name: &str) -> Result<bool, Unread> {
-    let path = path_in(alloc, top, name).map_err(Unread::Fault)?;
-    match fs::metadata(rt, path.as_str()) {
-        Ok(found) => Ok(found.is_file()),
-        Err(_) => Ok(false),
-    }
-}
-
-/// The names of the files in a folder and in the folders in it, in order.
-fn names_in<T: Files + AllocGlobal + Clone + Drop>(
-    rt: &T,
-    alloc: Global,
-    top: &str,
-) -> Result<Vec<String>, Unread> {
-    let mut names = Names {
-        files: Vec::new(alloc),
-        folders: Vec::new(alloc),
-    };
-    add_names(rt, alloc, top, "", &mut names)?;
-    // The walk ends when no folder is left.
-    for _ in 0..usize::MAX {
-        let Some(below) = names.folders.pop() else {
-            break;
-        };
-        add_names(rt, alloc, top, below.as_str(), &mut names)?;
-    }
-    names.files.sort_unstable();
-    Ok(names.files)
-}
+pub(crate) const DIFFERENT: u8 = 1;
 
 /// What is printed of a file, on either stream, and its status.
 #[derive(Drop)]
@@ -216,6 +108,42 @@ fn one_told<T: Files>(
     Ok(told)
 }
 
+/// What is asked of two folders, for two files.
+pub(crate) fn with_names<'n>(asked: &Diff<'n>, left: &'n str, right: &'n str) -> Diff<'n> {
+    Diff {
+        left,
+        right,
+        places: asked.places,
+        whole: asked.whole,
+        lines: asked.lines,
+        form: asked.form,
+        context: asked.context,
+        color: asked.color,
+        stat: asked.stat,
+        by_position: asked.by_position,
+        by: asked.by,
+    }
+}
+
+/// Adds what is printed of two files that are compared.
+fn put_compared(
+    alloc: Global,
+    told: &mut Told,
+    asked: &Diff<'_>,
+    name: &str,
+    compared: &Compared,
+) -> Result<(), Fault> {
+    if compared.same {
+        return Ok(());
+    }
+    told.status = DIFFERENT;
+    if has_lines(asked) {
+        put_name(alloc, &mut told.out, asked, name)?;
+    }
+    told.out.push_str(&compared.text)?;
+    Ok(())
+}
+
 /// What is printed of a file that both folders have.
 fn both_told<T: Files>(
     rt: &T,
@@ -242,29 +170,8 @@ fn both_told<T: Files>(
         told.status = put_rejections(alloc, &mut told.err, first, second, asked.form)?;
         return Ok(told);
     };
-    let of_name = Diff {
-        left: name,
-        right: name,
-        places: asked.places,
-        whole: asked.whole,
-        lines: asked.lines,
-        form: asked.form,
-        context: asked.context,
-        color: asked.color,
-        stat: asked.stat,
-        by_position: asked.by_position,
-        by: asked.by,
-    };
-    match compare_sides(alloc, &of_name, ignored, one, other) {
-        Ok(compared) => {
-            if !compared.same {
-                told.status = DIFFERENT;
-                if has_lines(asked) {
-                    put_name(alloc, &mut told.out, asked, name)?;
-                }
-                told.out.push_str(&compared.text)?;
-            }
-        }
+    match compare_sides(alloc, &with_names(asked, name, name), ignored, one, other) {
+        Ok(compared) => put_compared(alloc, &mut told, asked, name, &compared)?,
         Err(refused) => {
             told.status = put_not_compared(
                 alloc,
@@ -277,24 +184,6 @@ fn both_told<T: Files>(
         }
     }
     Ok(told)
-}
-
-/// The next name of two lists in order: of the left one, of both, or of the right one.
-fn next_of<'n>(left: &'n [String], right: &'n [String]) -> Option<(&'n str, Ordering)> {
-    match (left.first(), right.first()) {
-        (Some(one), Some(other)) => {
-            let order = one.as_str().cmp(other.as_str());
-            let name = if order == Ordering::Greater {
-                other.as_str()
-            } else {
-                one.as_str()
-            };
-            Some((name, order))
-        }
-        (Some(one), None) => Some((one.as_str(), Ordering::Less)),
-        (None, Some(other)) => Some((other.as_str(), Ordering::Greater)),
-        (None, None) => None,
-    }
 }
 
 /// What is printed of the file of a name that the left folder has, or both, or the right one.
@@ -310,14 +199,6 @@ fn told_of<T: Files>(
         Ordering::Less => one_told(rt, alloc, asked, name, false),
         Ordering::Equal => both_told(rt, alloc, asked, ignored, name),
         Ordering::Greater => one_told(rt, alloc, asked, name, true),
-    }
-}
-
-/// A list without its first name.
-fn behind<'n>(names: &'n [String]) -> &'n [String] {
-    match names.split_first() {
-        Some((_, rest)) => rest,
-        None => names,
     }
 }
 
@@ -338,19 +219,14 @@ pub(crate) fn folders<T: Files + AllocGlobal + Clone + Drop, W: Write, E: Write>
     out: &mut W,
     err: &mut E,
 ) -> u8 {
-    let lefts = match names_in(rt, alloc, asked.left) {
+    let names = match names_of(rt, alloc, asked, err) {
         Ok(names) => names,
-        Err(unread) => return tell_unread(alloc, asked.left, unread, err),
+        Err(status) => return status,
     };
-    let rights = match names_in(rt, alloc, asked.right) {
-        Ok(names) => names,
-        Err(unread) => return tell_unread(alloc, asked.right, unread, err),
-    };
-    let mut left = lefts.as_slice();
-    let mut right = rights.as_slice();
+    let mut names = names.merged();
     let mut status = SAME;
     for _ in 0..usize::MAX {
-        let Some((name, order)) = next_of(left, right) else {
+        let Some((name, order)) = names.take() else {
             break;
         };
         let answer = match told_of(rt, alloc, asked, ignored, name, order) {
@@ -360,12 +236,6 @@ pub(crate) fn folders<T: Files + AllocGlobal + Clone + Drop, W: Write, E: Write>
         match answer {
             Ok(answer) => status = status.max(answer),
             Err(fault) => return status.max(tell_bare(fault, err)),
-        }
-        if order != Ordering::Greater {
-            left = behind(left);
-        }
-        if order != Ordering::Less {
-            right = behind(right);
         }
     }
     status

@@ -1,9 +1,9 @@
 //! Texts of files in pages, tables and commands.
 ghost use Rattle.std.specs.Prelude.{◌≡◌, ◌<◌, ◌++◌, ◌||◌, string_bytes, OnOk};
 ghost use Rattle.std.specs.Str.{encode_utf8_all};
-ghost use Rattle.yaml_definitions.specs.canonical.CharText.{hex_digit};
 ghost use Rattle.review_formats.specs.Escaped.{is_plain, is_of_reference, reference, percent, escape_of, escaped_char, escaped, HasNoMarkup};
 
+use yaml_text::digit::hex_digit;
 use yaml_text::fault::Fault;
 
 /// What a text stands in.
@@ -71,26 +71,14 @@ impl Escape {
     }
 }
 
-/// A digit of base 16, in upper case.
-fn hex_digit(digit: u32) -> char
-    requires { digit < 16 }
-    ensures { result ≡ hex_digit digit }
-{
-    if digit < 10 {
-        char::from(b'0' + digit as u8)
-    } else {
-        char::from(b'A' + (digit as u8 - 10))
-    }
-}
-
 /// Writes a reference to a character.
 fn put_reference(out: &mut String, code: u32) -> Result<(), Fault>
     requires { code < 256 }
     ensures { OnOk result (string_bytes out.new ≡ string_bytes out.old ++ encode_utf8_all (reference code)) }
 {
     out.push_str("&#x")?;
-    out.push(hex_digit(code / 16))?;
-    out.push(hex_digit(code % 16))?;
+    out.push(char::from(hex_digit(code / 16)))?;
+    out.push(char::from(hex_digit(code % 16)))?;
     out.push(';')?;
     Ok(())
 }
@@ -101,8 +89,8 @@ fn put_percent(out: &mut String, code: u32) -> Result<(), Fault>
     ensures { OnOk result (string_bytes out.new ≡ string_bytes out.old ++ encode_utf8_all (percent code)) }
 {
     out.push('%')?;
-    out.push(hex_digit(code / 16))?;
-    out.push(hex_digit(code % 16))?;
+    out.push(char::from(hex_digit(code / 16)))?;
+    out.push(char::from(hex_digit(code % 16)))?;
     Ok(())
 }
 

@@ -87,16 +87,42 @@ pub struct Shown {
     pub text: String,
 }
 
+/// What was found in files, or in one of two folders' files.
+#[derive(Drop)]
+pub struct Part {
+    /// The name that the file has in both folders, if folders were compared.
+    pub name: Option<String>,
+    pub list: Vec<Finding>,
+    /// The lines of both files, if a page shows them.
+    pub shown: Option<(Shown, Shown)>,
+    /// Whether all that was found is listed.
+    pub whole: bool,
+}
+
 /// What a command found.
 #[derive(Drop)]
 pub struct Findings {
     /// The command.
     pub command: &'static str,
-    /// The files that were compared, if two were.
+    /// The files or folders that were compared, if two were.
     pub names: Option<(String, String)>,
-    pub list: Vec<Finding>,
+    pub parts: Vec<Part>,
+}
+
+impl Findings {
+    /// How many places are listed.
+    pub(crate) fn count(&self) -> usize {
+        let mut count: usize = 0;
+        for part in &self.parts {
+            count = count.saturating_add(part.list.len());
+        }
+        count
+    }
+
     /// Whether all that was found is listed.
-    pub whole: bool,
+    pub(crate) fn is_whole(&self) -> bool {
+        self.parts.iter().all(|part| part.whole)
+    }
 }
 
 /// The text, if there is one.

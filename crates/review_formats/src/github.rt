@@ -73,10 +73,12 @@ fn put_finding(out: &mut String, finding: &Finding) -> Result<(), Fault> {
 /// What is found as annotations: a line for each.
 pub fn github_text(alloc: Global, found: &Findings) -> Result<String, Fault> {
     let mut out = String::new(alloc);
-    for finding in &found.list {
-        put_finding(&mut out, finding)?;
+    for part in &found.parts {
+        for finding in &part.list {
+            put_finding(&mut out, finding)?;
+        }
     }
-    if !found.whole {
+    if !found.is_whole() {
         out.push_str("::notice title=yamlreview::There is more than is listed.\n")?;
     }
     Ok(out)

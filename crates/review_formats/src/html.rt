@@ -1,8 +1,9 @@
 //! One page of HTML.
 use crate::escape::Escape;
-use crate::finding::{Finding, Findings, Level, Shown, Sides, Sign, text_of};
+use crate::finding::{Finding, Findings, Level, Part, Sides, Sign, text_of};
 use crate::lines::put_lines;
 use crate::piece::{Piece, put_pieces};
+use crate::side::Side;
 use crate::style::{HEAD, STYLE};
 use std::alloc::Global;
 use yaml_place::Place;
@@ -65,38 +66,67 @@ fn put_name(out: &mut String, finding: &Finding) -> Result<(), Fault> {
     Ok(())
 }
 
-/// Writes the links to all findings.
-fn put_links(out: &mut String, list: &[Finding]) -> Result<(), Fault> {
-    out.push_str("<nav aria-label=\"All that is found\"><ol>\n")?;
-    for (number, finding) in list.iter().enumerate() {
-        put_pieces(
+/// Writes the link to a finding.
+fn put_link(out: &mut String, number: usize, finding: &Finding) -> Result<(), Fault> {
+    put_pieces(
+        out,
+        &[
+            Piece::Raw("<li class=\""),
+            Piece::Raw(class_of(finding)),
+            Piece::Raw("\" value=\""),
+            Piece::Number(number),
+            Piece::Raw("\"><a href=\"#d"),
+            Piece::Number(number),
+            Piece::Raw("\">"),
+        ],
+    )?;
+    put_name(out, finding)?;
+    out.push_str("</a></li>\n")?;
+    Ok(())
+}
+
+/// Writes the name of the file that a part is of, if there are several.
+fn put_file(out: &mut String, part: &Part) -> Result<(), Fault> {
+    match &part.name {
+        Some(name) => put_pieces(
             out,
             &[
-                Piece::Raw("<li class=\""),
-                Piece::Raw(class_of(finding)),
-                Piece::Raw("\"><a href=\"#d"),
-                Piece::Number(number.saturating_add(1)),
-                Piece::Raw("\">"),
+                Piece::Raw("<h2 class=\"file\"><code>"),
+                text(name),
+                Piece::Raw("</code></h2>\n"),
             ],
-        )?;
-        put_name(out, finding)?;
-        out.push_str("</a></li>\n")?;
+        ),
+        None => Ok(()),
     }
-    out.push_str("</ol></nav>\n")?;
+}
+
+/// Writes the links to all findings.
+fn put_links(out: &mut String, parts: &[Part]) -> Result<(), Fault> {
+    let mut number: usize = 0;
+    out.push_str("<nav aria-label=\"All that is found\">\n")?;
+    for part in parts {
+        put_file(out, part)?;
+        out.push_str("<ol>\n")?;
+        for finding in &part.list {
+            number = number.saturating_add(1);
+            put_link(out, number, finding)?;
+        }
+        out.push_str("</ol>\n")?;
+    }
+    out.push_str("</nav>\n")?;
     Ok(())
 }
 
 /// Writes a place, as a link to its line.
-fn put_place(out: &mut String, side: &'static str, place: Option<Place>) -> Result<(), Fault> {
+fn put_place(out: &mut String, side: Side, place: Option<Place>) -> Result<(), Fault> {
     let Some(place) = place else {
         return Ok(());
     };
+    out.push_str(" <a href=\"#")?;
+    side.put_line_id(out, place.line)?;
     put_pieces(
         out,
         &[
-            Piece::Raw(" <a href=\"#"),
-            Piece::Raw(side),
-            Piece::Number(place.line),
             Piece::Raw("\">"),
             Piece::Number(place.line),
             Piece::Raw(":"),
@@ -109,11 +139,11 @@ fn put_place(out: &mut String, side: &'static str, place: Option<Place>) -> Resu
 /// Writes what one side has.
 fn put_side(
     out: &mut String,
-    title: &'static str,
-    id: &'static str,
+    side: Side,
     place: Option<Place>,
     value: Option<&str>,
 ) -> Result<(), Fault> {
+    let title = if side.is_left { "left" } else { "right" };
     put_pieces(
         out,
         &[
@@ -123,7 +153,7 @@ fn put_side(
             Piece::Raw(title),
         ],
     )?;
-    put_place(out, id, place)?;
+    put_place(out, side, place)?;
     out.push_str("</h3>")?;
     match value {
         Some(value) => put_pieces(
@@ -167,14 +197,22 @@ fn put_changes(out: &mut String, changes: &str) -> Result<(), Fault> {
     Ok(())
 }
 
-/// Writes what both sides have.
-fn put_sides(out: &mut String, sides: &Sides) -> Result<(), Fault> {
+/// Writes what both sides have, of a part of this number.
+fn put_sides(out: &mut String, sides: &Sides, part: usize) -> Result<(), Fault> {
+    let left = Side {
+        is_left: true,
+        part,
+    };
+    let right = Side {
+        is_left: false,
+        part,
+    };
     put_pieces(out, &[Piece::Raw("<p>"), Piece::Raw(sides.sign.says())])?;
     if sides.changes.is_some() || sides.sign == Sign::Moved {
         out.push_str(": left")?;
-        put_place(out, "l", sides.left_place)?;
+        put_place(out, left, sides.left_place)?;
         out.push_str(", right")?;
-        put_place(out, "r", sides.right_place)?;
+        put_place(out, right, sides.right_place)?;
     }
     out.push_str("</p>\n")?;
     if let Some(changes) = &sides.changes {
@@ -184,14 +222,19 @@ fn put_sides(out: &mut String, sides: &Sides) -> Result<(), Fault> {
         return Ok(());
     }
     out.push_str("<div class=\"both\">\n")?;
-    put_side(out, "left", "l", sides.left_place, text_of(&sides.left))?;
-    put_side(out, "right", "r", sides.right_place, text_of(&sides.right))?;
+    put_side(out, left, sides.left_place, text_of(&sides.left))?;
+    put_side(out, right, sides.right_place, text_of(&sides.right))?;
     out.push_str("</div>\n")?;
     Ok(())
 }
 
-/// Writes a finding.
-fn put_finding(out: &mut String, number: usize, finding: &Finding) -> Result<(), Fault> {
+/// Writes a finding of a part of this number.
+fn put_finding(
+    out: &mut String,
+    number: usize,
+    finding: &Finding,
+    part: usize,
+) -> Result<(), Fault> {
     put_pieces(
         out,
         &[
@@ -207,7 +250,7 @@ fn put_finding(out: &mut String, number: usize, finding: &Finding) -> Result<(),
     put_name(out, finding)?;
     out.push_str("</a></h2>\n")?;
     match &finding.sides {
-        Some(sides) => put_sides(out, sides)?,
+        Some(sides) => put_sides(out, sides, part)?,
         None => put_said(out, finding)?,
     }
     out.push_str("</section>\n")?;
@@ -250,7 +293,7 @@ fn put_header(out: &mut String, found: &Findings) -> Result<(), Fault> {
             ],
         )?;
     }
-    let count = found.list.len();
+    let count = found.count();
     match count {
         0 => out.push_str("<p>Nothing is found.</p>")?,
         1 => out.push_str("<p>1 place is found.</p>")?,
@@ -263,35 +306,68 @@ fn put_header(out: &mut String, found: &Findings) -> Result<(), Fault> {
             ],
         )?,
     }
-    if !found.whole {
+    if !found.is_whole() {
         out.push_str("<p><strong>There is more than is listed.</strong></p>")?;
     }
     out.push_str("</header>\n")?;
     Ok(())
 }
 
-/// What is found as one page, which asks for nothing else and runs no script, with the lines of the two files around what differs.
-pub fn html_text(
+/// Writes the lines of the two files around what differs, if they are shown. Before the part there are so many findings.
+fn put_files(
     alloc: Global,
-    found: &Findings,
-    shown: Option<(&Shown, &Shown)>,
-) -> Result<String, Fault> {
+    out: &mut String,
+    part: &Part,
+    number: usize,
+    before: usize,
+) -> Result<(), Fault> {
+    let Some((left, right)) = &part.shown else {
+        return Ok(());
+    };
+    let left_side = Side {
+        is_left: true,
+        part: number,
+    };
+    let right_side = Side {
+        is_left: false,
+        part: number,
+    };
+    out.push_str("<section class=\"files\"><div class=\"both\">\n")?;
+    put_lines(alloc, out, left_side, left, &part.list, before)?;
+    put_lines(alloc, out, right_side, right, &part.list, before)?;
+    out.push_str("</div></section>\n")?;
+    Ok(())
+}
+
+/// Writes what is found in each part, and the lines of its files.
+fn put_parts(alloc: Global, out: &mut String, parts: &[Part]) -> Result<(), Fault> {
+    let mut before: usize = 0;
+    for (at, part) in parts.iter().enumerate() {
+        let number = match part.name {
+            Some(_) => at.saturating_add(1),
+            None => 0,
+        };
+        put_file(out, part)?;
+        for (place, finding) in part.list.iter().enumerate() {
+            let shown = before.saturating_add(place).saturating_add(1);
+            put_finding(out, shown, finding, number)?;
+        }
+        put_files(alloc, out, part, number, before)?;
+        before = before.saturating_add(part.list.len());
+    }
+    Ok(())
+}
+
+/// What is found as one page, which asks for nothing else and runs no script, with the lines of the files around what differs.
+pub fn html_text(alloc: Global, found: &Findings) -> Result<String, Fault> {
     let mut out = String::new(alloc);
     out.push_str(HEAD)?;
     out.push_str(STYLE)?;
     out.push_str("</style>\n</head>\n<body>\n")?;
     put_header(&mut out, found)?;
-    put_links(&mut out, &found.list)?;
+    put_links(&mut out, &found.parts)?;
     out.push_str("<main>\n")?;
-    for (number, finding) in found.list.iter().enumerate() {
-        put_finding(&mut out, number.saturating_add(1), finding)?;
-    }
-    if let Some((left, right)) = shown {
-        out.push_str("<section class=\"files\"><div class=\"both\">\n")?;
-        put_lines(alloc, &mut out, "l", left, &found.list)?;
-        put_lines(alloc, &mut out, "r", right, &found.list)?;
-        out.push_str("</div></section>\n")?;
-    }
+    put_parts(alloc, &mut out, &found.parts)?;
     out.push_str("</main>\n</body>\n</html>\n")?;
     Ok(out)
 }

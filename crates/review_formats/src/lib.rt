@@ -9,9 +9,10 @@ mod lines;
 pub mod markdown;
 pub mod piece;
 pub mod sarif;
+mod side;
 mod style;
 
-pub use finding::{Finding, Findings, Level, Shown, Sides, Sign};
+pub use finding::{Finding, Findings, Level, Part, Shown, Sides, Sign};
 pub use github::github_text;
 pub use html::html_text;
 pub use markdown::markdown_text;

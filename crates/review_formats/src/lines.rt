@@ -2,6 +2,7 @@
 use crate::finding::{Finding, Shown};
 use crate::html::text;
 use crate::piece::{Piece, put_pieces};
+use crate::side::Side;
 use std::alloc::Global;
 use yaml_place::Place;
 use yaml_text::fault::Fault;
@@ -16,20 +17,21 @@ const AROUND: usize = 3;
 const WIDE: usize = 400;
 
 /// The place of a finding on a side.
-fn place_on(finding: &Finding, side: &'static str) -> Option<Place> {
+fn place_on(finding: &Finding, side: Side) -> Option<Place> {
     match &finding.sides {
-        Some(sides) if side == "l" => sides.left_place,
+        Some(sides) if side.is_left => sides.left_place,
         Some(sides) => sides.right_place,
         None => None,
     }
 }
 
-/// Of each line the number of the first finding at it, or 0. The lines count from 0.
+/// Of each line the number of the first finding at it, or 0. The lines count from 0. Before the list there are so many findings.
 fn marks_of(
     alloc: Global,
     lines: usize,
-    side: &'static str,
+    side: Side,
     list: &[Finding],
+    before: usize,
 ) -> Result<Vec<usize>, Fault> {
     let mut marks = vec![in alloc; 0usize; lines]?;
     for (number, finding) in list.iter().enumerate() {
@@ -38,7 +40,7 @@ fn marks_of(
         };
         if let Some(mark) = marks.get_mut(place.line.saturating_sub(1)) {
             if *mark == 0 {
-                *mark = number.saturating_add(1);
+                *mark = number.saturating_add(before).saturating_add(1);
             }
         }
     }
@@ -64,24 +66,17 @@ fn front(line: &str) -> &str {
 }
 
 /// Writes a line: its number, which leads to the first finding at it if there is one, and its text.
-fn put_line(
-    out: &mut String,
-    side: &'static str,
-    at: usize,
-    line: &str,
-    mark: usize,
-) -> Result<(), Fault> {
+fn put_line(out: &mut String, side: Side, at: usize, line: &str, mark: usize) -> Result<(), Fault> {
     let number = at.saturating_add(1);
+    out.push_str(if mark > 0 {
+        "<li class=\"marked\" id=\""
+    } else {
+        "<li id=\""
+    })?;
+    side.put_line_id(out, number)?;
     put_pieces(
         out,
         &[
-            Piece::Raw(if mark > 0 {
-                "<li class=\"marked\" id=\""
-            } else {
-                "<li id=\""
-            }),
-            Piece::Raw(side),
-            Piece::Number(number),
             Piece::Raw("\" value=\""),
             Piece::Number(number),
             Piece::Raw("\">"),
@@ -123,16 +118,17 @@ fn split_lines(alloc: Global, content: &str) -> Result<Vec<&str>, Fault> {
     Ok(lines)
 }
 
-/// Writes the lines of a file, or those that are near what differs.
+/// Writes the lines of a file, or those that are near what differs. Before the list there are so many findings.
 pub(crate) fn put_lines(
     alloc: Global,
     out: &mut String,
-    side: &'static str,
+    side: Side,
     shown: &Shown,
     list: &[Finding],
+    before: usize,
 ) -> Result<(), Fault> {
     let lines = split_lines(alloc, &shown.text)?;
-    let marks = marks_of(alloc, lines.len(), side, list)?;
+    let marks = marks_of(alloc, lines.len(), side, list, before)?;
     let all = lines.len() <= FEW;
     put_pieces(
         out,

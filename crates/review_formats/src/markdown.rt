@@ -1,6 +1,6 @@
 //! Tables in Markdown.
 use crate::escape::Escape;
-use crate::finding::{Finding, Findings, Sides, text_of};
+use crate::finding::{Finding, Findings, Part, Sides, text_of};
 use crate::piece::{Piece, put_pieces};
 use std::alloc::Global;
 use yaml_place::Place;
@@ -109,7 +109,7 @@ fn put_changes(out: &mut String, finding: &Finding) -> Result<(), Fault> {
     Ok(())
 }
 
-/// The head of the table.
+/// Writes what was compared.
 fn put_head(out: &mut String, found: &Findings) -> Result<(), Fault> {
     out.push_str("**yamlreview ")?;
     out.push_str(found.command)?;
@@ -121,32 +121,60 @@ fn put_head(out: &mut String, found: &Findings) -> Result<(), Fault> {
         put_code(out, right)?;
     }
     out.push_str("\n\n")?;
-    if found.list.is_empty() {
+    if found.count() == 0 {
         out.push_str("Nothing is found.\n")?;
-        return Ok(());
     }
-    out.push_str(if found.names.is_some() {
-        "| | path | left | right | left at | right at |\n|---|---|---|---|---|---|\n"
-    } else {
-        "| file | at | | path | |\n|---|---|---|---|---|\n"
-    })?;
     Ok(())
 }
 
-/// What is found as a table in Markdown, with changed lines below it.
+/// The head of a table.
+fn head_of(sides: bool) -> &'static str {
+    if sides {
+        "| | path | left | right | left at | right at |\n|---|---|---|---|---|---|\n"
+    } else {
+        "| file | at | | path | |\n|---|---|---|---|---|\n"
+    }
+}
+
+/// Writes the rows of a part that have two sides, or those that have none, if there are such.
+fn put_table(out: &mut String, list: &[Finding], sides: bool) -> Result<(), Fault> {
+    if !list.iter().any(|finding| finding.sides.is_some() == sides) {
+        return Ok(());
+    }
+    out.push_str(head_of(sides))?;
+    for finding in list {
+        match &finding.sides {
+            Some(both) if sides => put_difference(out, finding, both)?,
+            None if !sides => put_row(out, finding)?,
+            _ => {}
+        }
+    }
+    Ok(())
+}
+
+/// Writes a part: the name of the file if there are several, a table, and changed lines below it.
+fn put_part(out: &mut String, part: &Part) -> Result<(), Fault> {
+    if let Some(name) = &part.name {
+        out.push_str("\n")?;
+        put_code(out, name)?;
+        out.push_str("\n\n")?;
+    }
+    put_table(out, &part.list, true)?;
+    put_table(out, &part.list, false)?;
+    for finding in &part.list {
+        put_changes(out, finding)?;
+    }
+    Ok(())
+}
+
+/// What is found as tables in Markdown, each with changed lines below it.
 pub fn markdown_text(alloc: Global, found: &Findings) -> Result<String, Fault> {
     let mut out = String::new(alloc);
     put_head(&mut out, found)?;
-    for finding in &found.list {
-        match &finding.sides {
-            Some(sides) => put_difference(&mut out, finding, sides)?,
-            None => put_row(&mut out, finding)?,
-        }
+    for part in &found.parts {
+        put_part(&mut out, part)?;
     }
-    for finding in &found.list {
-        put_changes(&mut out, finding)?;
-    }
-    if !found.whole {
+    if !found.is_whole() {
         out.push_str("\nThere is more than is listed.\n")?;
     }
     Ok(out)

@@ -98,21 +98,23 @@ fn result_of(alloc: Global, finding: &Finding) -> Result<Value, Fault> {
 }
 
 /// The rules of the results, each once, in the order in which they come first.
-fn rules_of(alloc: Global, list: &[Finding]) -> Result<Vec<Value>, Fault> {
+fn rules_of(alloc: Global, found: &Findings) -> Result<Vec<Value>, Fault> {
     let mut seen: Vec<&'static str> = Vec::new(alloc);
     let mut rules = Vec::new(alloc);
-    for finding in list {
-        if !seen.iter().any(|rule| *rule == finding.rule) {
-            seen.push(finding.rule)?;
-            let id = finding.rule;
-            rules.push(json!(in alloc; {"id": id})?)?;
+    for part in &found.parts {
+        for finding in &part.list {
+            if !seen.iter().any(|rule| *rule == finding.rule) {
+                seen.push(finding.rule)?;
+                let id = finding.rule;
+                rules.push(json!(in alloc; {"id": id})?)?;
+            }
         }
     }
     Ok(rules)
 }
 
 /// The program, with the rules of the results.
-fn tool_of(alloc: Global, list: &[Finding]) -> Result<Value, Fault> {
+fn tool_of(alloc: Global, found: &Findings) -> Result<Value, Fault> {
     let mut driver = Map::new(alloc);
     put(
         &mut driver,
@@ -130,7 +132,7 @@ fn tool_of(alloc: Global, list: &[Finding]) -> Result<Value, Fault> {
         &mut driver,
         alloc,
         "rules",
-        Value::Array(rules_of(alloc, list)?),
+        Value::Array(rules_of(alloc, found)?),
     )?;
     let mut tool = Map::new(alloc);
     put(&mut tool, alloc, "driver", Value::Object(driver))?;
@@ -140,11 +142,13 @@ fn tool_of(alloc: Global, list: &[Finding]) -> Result<Value, Fault> {
 /// What is found as a log of SARIF 2.1.0. Its columns count characters.
 pub fn sarif_text(alloc: Global, found: &Findings) -> Result<String, Fault> {
     let mut results = Vec::new(alloc);
-    for finding in &found.list {
-        results.push(result_of(alloc, finding)?)?;
+    for part in &found.parts {
+        for finding in &part.list {
+            results.push(result_of(alloc, finding)?)?;
+        }
     }
     let mut run = Map::new(alloc);
-    put(&mut run, alloc, "tool", tool_of(alloc, &found.list)?)?;
+    put(&mut run, alloc, "tool", tool_of(alloc, found)?)?;
     put(
         &mut run,
         alloc,

@@ -20,6 +20,7 @@ pub(crate) const STYLE: &str =
 body{margin:0 auto;max-width:90rem;padding:1rem;background:var(--back);color:var(--fore);font:1rem/1.5 system-ui,sans-serif}
 h1{font-size:1.5rem;margin:0}
 h2{font-size:1rem;margin:0 0 .5rem;overflow-wrap:anywhere}
+h2.file{font-size:1.125rem;margin:1.5rem 0 .5rem}
 h3{font-size:.875rem;margin:0 0 .25rem;color:var(--dim);font-weight:600}
 p{margin:.25rem 0}
 a{color:inherit;text-underline-offset:.2em}

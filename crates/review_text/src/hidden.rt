@@ -1,9 +1,9 @@
 //! Texts in which a terminal shows each character.
 ghost use Rattle.std.specs.Prelude.{◌≡◌, ◌<◌, ◌++◌, string_bytes, OnOk};
 ghost use Rattle.std.specs.Str.{encode_utf8_all};
-ghost use Rattle.yaml_definitions.specs.canonical.CharText.{hex_digit};
 ghost use Rattle.review_text.specs.Hidden.{is_hidden_low, is_hidden_high, is_hidden, two_digits, escape_text, visible_char, visible};
 
+use yaml_text::digit::hex_digit;
 use yaml_text::fault::Fault;
 
 /// Whether a character below U+3000 is hidden.
@@ -37,25 +37,13 @@ fn is_hidden(c: char) -> bool
     is_hidden_low(c) || is_hidden_high(c)
 }
 
-/// A digit of base 16, in upper case.
-fn hex_digit(digit: u32) -> char
-    requires { digit < 16 }
-    ensures { result ≡ hex_digit digit }
-{
-    if digit < 10 {
-        char::from(b'0' + digit as u8)
-    } else {
-        char::from(b'A' + (digit as u8 - 10))
-    }
-}
-
 /// Writes the two digits of a byte.
 fn put_digits(out: &mut String, byte: u32) -> Result<(), Fault>
     requires { byte < 256 }
     ensures { OnOk result (string_bytes out.new ≡ string_bytes out.old ++ encode_utf8_all (two_digits byte)) }
 {
-    out.push(hex_digit(byte / 16))?;
-    out.push(hex_digit(byte % 16))?;
+    out.push(char::from(hex_digit(byte / 16)))?;
+    out.push(char::from(hex_digit(byte % 16)))?;
     Ok(())
 }
 

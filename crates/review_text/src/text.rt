@@ -1,5 +1,5 @@
 //! The text of a node: that of the canonical text, with aliases in place.
-ghost use Rattle.std.specs.Prelude.{◌≡◌, ◌<◌, ◌≤◌, ◌++◌, ◌∷◌, ◌&&◌, [], length, map, flat_map, cond, bytes_eq, codes, string_bytes, OnOk, IfOk, IfSome, IfNone, MatchOption, MatchBool};
+ghost use Rattle.std.specs.Prelude.{◌≡◌, ◌<◌, ◌≤◌, ◌++◌, ◌∷◌, ◌&&◌, [], length, map, flat_map, cond, bytes_eq, codes, string_bytes, OnOk, IfOk, MatchOption, MatchBool};
 ghost use Rattle.std.specs.List.{All, list_all};
 ghost use Rattle.std.specs.Str.{encode_utf8_all};
 ghost use Rattle.yaml_definitions.specs.model.Tag.{str_tag};
@@ -106,25 +106,6 @@ fn put_encoded(out: &mut String, tag: &str) -> Result<(), Fault>
     Ok(())
 }
 
-/// How a tag of the core schema is written, if this is one that is.
-#[tactic(auto, unfolding(yaml_definitions::specs::model::Tag::core_tag, yaml_definitions::specs::canonical::TagText::full_text))]
-fn core_text(tag: &str) -> Option<&'static str>
-    ensures some { IfSome result (λ known. (full_text tag.now ≡ known.now) × (encode_utf8_all known.now ≡ known.now)) }
-    ensures none { IfNone result (full_text tag.now ≡ codes "!<" ++ encoded tag.now (codes "> ")) }
-{
-    if tag == core_tag::NULL {
-        Some("!!null ")
-    } else if tag == core_tag::BOOL {
-        Some("!!bool ")
-    } else if tag == core_tag::INT {
-        Some("!!int ")
-    } else if tag == core_tag::FLOAT {
-        Some("!!float ")
-    } else {
-        None
-    }
-}
-
 /// A tag and a space. A kind's own tag is not written.
 fn put_tag(out: &mut String, tag: &str, own: &str) -> Result<(), Fault>
     ensures { OnOk result (string_bytes out.new ≡ string_bytes out.old ++ encode_utf8_all (cond (bytes_eq tag.now own.now) [] (full_text tag.now))) }
@@ -132,7 +113,7 @@ fn put_tag(out: &mut String, tag: &str, own: &str) -> Result<(), Fault>
     if tag == own {
         return Ok(());
     }
-    if let Some(known) = core_text(tag) {
+    if let Some(known) = core_tag::core_text(tag) {
         out.push_str(known)?;
         return Ok(());
     }

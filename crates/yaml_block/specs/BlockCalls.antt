@@ -30,6 +30,7 @@ use Rattle.yaml_layout.specs.declared.line.Line.{Line}
 use Rattle.yaml_layout.specs.declared.properties.Head.{Head}
 use Rattle.yaml_block.specs.BlockRules.{least_dash, node_rest, line_rest, value_rest, entry_rest, key_rest, entries_rest, sequence_with}
 use Rattle.yaml_block.specs.BlockEnds.{AfterNode, AfterEntry, AfterSequence, AfterMapping, AfterColon, NoneIn, IsFurther, SignIs, IsStyleSign}
+use Rattle.yaml_block.specs.KeyFits.{FitsAgain, NoneBelow}
 use Rattle.yaml_block.specs.OuterRules.{Outer, Above, Follows, MayBear, column_of}
 use Rattle.yaml_block.specs.declared.block.signs.Block.{Block}
 use Rattle.yaml_block.specs.declared.block.signs.Below.{Below}
@@ -125,6 +126,15 @@ module _ (source : Chars) (level : Level) where
     pub stop : IsBorder source begun.node.end
     pub goes_on : LineGoesOn (text_of source) (place_of source head.end) (props_of head.own)
     pub key : IsOnly (text_of source) (handles_of level.handles) level.room level.least flow_out (place_of source head.at) begun.node.kind (place_of source begun.node.end)
+
+  -- it was put down again where it opened as many collections as may be open in the mapping's place, and opens fewer now
+  abbrev pub ReadsFirstKey : {S : Type 0} → Head → Begun → (S → List Event → Type 0) → S → S → Type 0
+  ReadsFirstKey head begun holds before after =
+      FitsAgain (text_of source) (handles_of level.handles) level.least (props_of head.own) (place_of source head.end) (place_of source head.at) (place_of source begun.node.end) begun.node.deep begun.node.kind level.room holds begun.start before after
+
+  -- memory is refused, or no flow node that opens fewer goes on there
+  abbrev pub NoKeyFits : Head → Fault → Type 0
+  NoKeyFits head fault = (fault ≡ OutOfMemory) ⊎ NoneBelow (text_of source) (handles_of level.handles) level.room level.least (place_of source head.at)
 
 -- a node, whose first character stands at a border, with its outer properties
 module _ (source : Chars) (site : Site) (outer : Properties) where

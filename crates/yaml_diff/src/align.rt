@@ -214,6 +214,7 @@ fn are_lone(documents: bool, lefts: &[NodeId], rights: &[NodeId]) -> bool {
 }
 
 /// Takes the items of two sequences for each other, as is asked.
+#[inline(never)] // stack
 pub(crate) fn align<'g>(
     alloc: Global,
     graph: &'g Graph<'g>,

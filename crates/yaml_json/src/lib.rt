@@ -1,4 +1,4 @@
-//! Whether a text is JSON (RFC 8259): `is_json`. No program uses this yet.
+//! Whether a text is JSON (RFC 8259): `is_json`. `yaml_shown` judges with it what it writes as JSON.
 #![tactic(auto)]
 
 mod bytes;

@@ -6,7 +6,7 @@ use Rattle.yaml_text.specs.declared.chars.Chars.{Chars}
 use Rattle.yaml_definitions.specs.grammar.Rules.{Stands, maybe}
 use Rattle.yaml_definitions.specs.grammar.Characters.{is_ns, is_space}
 use Rattle.yaml_definitions.specs.grammar.Separation.{Ctx, block_out, block_in, flow_out, flow_in, block_key, flow_key, s-indent as indent, l-comment as l_comment, s-separate as s_separate}
-use Rattle.law_one_reading.specs.Follows.{Solid, Way}
+use Rattle.law_one_reading.specs.Follows.{Fresh, Solid, Way}
 use Rattle.yaml_layout.specs.declared.line.Line.{Line}
 
 -- no comment line starts here, and so many spaces, and no more, stand from the line's start on
@@ -53,3 +53,7 @@ pub record LeadsFrom (source : Chars) (at n : ℕ) (c : Ctx) (here : ℕ) : Type
   pub onward : at ≤ here
   pub separate : maybe (s_separate (text_of source) n c) (place_of source at) (place_of source here)
   pub to : (q : ℕ) → maybe (s_separate (text_of source) n c) (place_of source at) q → Solid (text_of source) q → q ≡ place_of source here
+
+-- no content is reached by separation from here
+abbrev pub NothingFollows : Chars → ℕ → ℕ → Ctx → Type 0
+NothingFollows source at n c = (q : ℕ) → maybe (s_separate (text_of source) n c) (place_of source at) q → Fresh (text_of source) q → ⊥

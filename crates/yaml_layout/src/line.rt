@@ -3,14 +3,13 @@ ghost use Rattle.std.specs.Prelude.{◌≡◌, ◌≢◌, ◌≤◌, ◌⊎◌, 
 ghost use Rattle.std.specs.Bool.{OnTrue, OnFalse};
 ghost use Rattle.yaml_text.specs.Source.{text_of, place_of, IsBorder};
 ghost use Rattle.yaml_text.specs.EventModel.{context_of};
-ghost use Rattle.yaml_definitions.specs.grammar.Rules.{any_span, maybe};
-ghost use Rattle.yaml_definitions.specs.grammar.Separation.{s-l-comments as s_l_comments, l-comment as l_comment, s-separate as separate};
+ghost use Rattle.yaml_definitions.specs.grammar.Rules.{any_span};
+ghost use Rattle.yaml_definitions.specs.grammar.Separation.{s-l-comments as s_l_comments, l-comment as l_comment};
 ghost use Rattle.yaml_text.specs.Lines.{AfterLine, Inside, is_key};
 ghost use Rattle.yaml_text.specs.Lines.{LooksLikeMarker};
 ghost use Rattle.yaml_text.specs.LeafAnswer.{IsRefusal};
 ghost use Rattle.yaml_text.specs.Placed.{IsPlaced};
-ghost use Rattle.law_one_reading.specs.Follows.{Fresh};
-ghost use Rattle.yaml_layout.specs.Lines.{IsLine, LeadsTo};
+ghost use Rattle.yaml_layout.specs.Lines.{IsLine, LeadsTo, NothingFollows};
 
 use yaml_mark::comments;
 use yaml_mark::starts::begins_text;
@@ -159,7 +158,7 @@ pub fn separation(source: &Chars<'_>, at: usize, least: usize, context: Ctx) -> 
     ensures leads { IfOk result (LeadsTo source.now at least (context_of context)) }
     ensures err { IfErr result IsRefusal }
     ensures lines { IfErr result (λ _. is_key (context_of context) ≡ false) }
-    ensures none { IfErr result (λ _. Inside (text_of source.now) (place_of source.now at) → (q : ℕ) → maybe (separate (text_of source.now) least (context_of context)) (place_of source.now at) q → Fresh (text_of source.now) q → ⊥) }
+    ensures none { IfErr result (λ _. Inside (text_of source.now) (place_of source.now at) → NothingFollows source.now at least (context_of context)) }
     ensures placed { IfErr result (IsPlaced source.now) }
 {
     if is_key(context) {

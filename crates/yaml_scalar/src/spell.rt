@@ -4,10 +4,11 @@ ghost use Rattle.std.specs.Char.{encode_utf8};
 ghost use Rattle.std.specs.List.{All};
 ghost use Rattle.std.specs.Str.{encode_utf8_all};
 ghost use Rattle.std.specs.String.{string_bytes};
-ghost use Rattle.yaml_definitions.specs.canonical.CharText.{hex_digit, spell_char};
+ghost use Rattle.yaml_definitions.specs.canonical.CharText.{spell_char};
 ghost use Rattle.yaml_scalar.specs.Spelling.{Grows, quoted_bytes, spelled_chars, is_verbatim, code_text, byte_text};
 
 use std::alloc::AllocError;
+use yaml_text::digit::hex_digit;
 use yaml_text::fault::Fault;
 
 /// Appends a content's spelling: its characters between double quotes, each that does not stand for itself as an escape
@@ -81,13 +82,13 @@ fn escape(code: u32) -> ([u8; 6], usize)
     ensures bound { result.1 ≤ 6 }
     ensures rest { All (λ b. b ≡ 0) (drop result.1 result.0) }
 {
-    let low = hex_byte(code % 16);
-    let next = hex_byte(code / 16 % 16);
+    let low = hex_digit(code % 16);
+    let next = hex_digit(code / 16 % 16);
     if code < 256 {
         ([b'\\', b'x', next, low, 0, 0], 4)
     } else {
-        let third = hex_byte(code / 256 % 16);
-        ([b'\\', b'u', hex_byte(code / 4096), third, next, low], 6)
+        let third = hex_digit(code / 256 % 16);
+        ([b'\\', b'u', hex_digit(code / 4096), third, next, low], 6)
     }
 }
 
@@ -180,26 +181,6 @@ fn push_byte(byte: u32, out: &mut String) -> Result<(), AllocError>
     ensures ok { OnOk result (string_bytes out.new ≡ string_bytes out.old ++ encode_utf8_all (byte_text byte)) }
     ensures grows { Grows (string_bytes out.old) (string_bytes out.new) }
 {
-    out.push(hex_digit(byte / 16))?;
-    out.push(hex_digit(byte % 16))
-}
-
-/// A digit of base 16, in upper case.
-fn hex_digit(digit: u32) -> char
-    requires { digit < 16 }
-    ensures { result ≡ hex_digit digit }
-{
-    char::from(hex_byte(digit))
-}
-
-/// The byte of a digit of base 16, in upper case.
-fn hex_byte(digit: u32) -> u8
-    requires { digit < 16 }
-    ensures { result ≡ hex_digit digit }
-{
-    if digit < 10 {
-        b'0' + digit as u8
-    } else {
-        b'A' + (digit as u8 - 10)
-    }
+    out.push(char::from(hex_digit(byte / 16)))?;
+    out.push(char::from(hex_digit(byte % 16)))
 }

@@ -2,12 +2,12 @@
 ghost use Rattle.std.specs.Prelude.{◌≡◌, ◌<◌, ◌++◌, ◌||◌, [], cond, take, codes, string_bytes, OnOk};
 ghost use Rattle.std.specs.List.{list_any};
 ghost use Rattle.std.specs.Str.{encode_utf8_all};
-ghost use Rattle.yaml_definitions.specs.canonical.CharText.{hex_digit};
 ghost use Rattle.yaml_script.specs.Script.{is_change};
 ghost use Rattle.yaml_script.specs.Printed.{is_control, byte_escape, line_char, line_text, plain, piece_text, sign, piece, edit_text, is_near, opens, place_text, script_text};
 
 use crate::lines::Piece;
 use crate::script::Edit;
+use yaml_text::digit::hex_digit;
 use yaml_text::fault::Fault;
 
 /// What stands for lines that are left out.
@@ -16,26 +16,14 @@ const LEFT_OUT: &str = "\t...\n";
 /// What follows a line that no line feed ends.
 const NO_END: &str = "\n\t\\ no line feed at the end\n";
 
-/// A digit of base 16, in upper case.
-fn hex_digit(digit: u32) -> char
-    requires { digit < 16 }
-    ensures { result ≡ hex_digit digit }
-{
-    if digit < 10 {
-        char::from(b'0' + digit as u8)
-    } else {
-        char::from(b'A' + (digit as u8 - 10))
-    }
-}
-
 /// Writes the escape of a byte (YAML 1.2.2, 5.7).
 fn put_byte(out: &mut String, byte: u32) -> Result<(), Fault>
     requires { byte < 256 }
     ensures { OnOk result (string_bytes out.new ≡ string_bytes out.old ++ encode_utf8_all (byte_escape byte)) }
 {
     out.push_str("\\x")?;
-    out.push(hex_digit(byte / 16))?;
-    out.push(hex_digit(byte % 16))?;
+    out.push(char::from(hex_digit(byte / 16)))?;
+    out.push(char::from(hex_digit(byte % 16)))?;
     Ok(())
 }
 

@@ -1,5 +1,5 @@
 //! The parts of a node's text: names, tags and contents.
-ghost use Rattle.std.specs.Prelude.{◌≡◌, ◌<◌, ◌/◌, ◌%◌, ◌++◌, ◌∷◌, [], OnOk, IfErr, IfSome, IfNone, codes, Some};
+ghost use Rattle.std.specs.Prelude.{◌≡◌, ◌<◌, ◌/◌, ◌%◌, ◌++◌, ◌∷◌, [], OnOk, IfErr, Some};
 ghost use Rattle.std.specs.Fmt.{decimal};
 ghost use Rattle.std.specs.Str.{encode_utf8_all, chars};
 ghost use Rattle.yaml_definitions.specs.canonical.CharText.{hex_digit};
@@ -136,32 +136,13 @@ fn put_encoded<O, S: Sink<O>>(sink: &mut S, out: &mut O, tag: &str) -> Result<()
     Ok(())
 }
 
-/// How a tag of the core schema is written, if this is one that is.
-#[tactic(auto, unfolding(yaml_definitions::specs::model::Tag::core_tag, yaml_definitions::specs::canonical::TagText::full_text))]
-fn core_text(tag: &str) -> Option<&'static str>
-    ensures some { IfSome result (λ known. (full_text tag.now ≡ known.now) × (encode_utf8_all known.now ≡ known.now)) }
-    ensures none { IfNone result (full_text tag.now ≡ codes "!<" ++ encoded tag.now (codes "> ")) }
-{
-    if tag == core_tag::NULL {
-        Some("!!null ")
-    } else if tag == core_tag::BOOL {
-        Some("!!bool ")
-    } else if tag == core_tag::INT {
-        Some("!!int ")
-    } else if tag == core_tag::FLOAT {
-        Some("!!float ")
-    } else {
-        None
-    }
-}
-
 /// A tag that is not left out, and a space.
 #[inline(never)]
 fn put_full_tag<O, S: Sink<O>>(sink: &mut S, out: &mut O, tag: &str) -> Result<(), Stop>
     ensures ok { OnOk result (Puts S.holds sink.old out.old sink.new out.new (λ more. full_text tag.now ++ more)) }
     ensures err { IfErr result (λ stop. Fails S.holds S.stops sink.old out.old out.new (fault_of stop) (λ more. full_text tag.now ++ more)) }
 {
-    if let Some(known) = core_text(tag) {
+    if let Some(known) = core_tag::core_text(tag) {
         return sink.put(out, known);
     }
     sink.put(out, "!<")?;

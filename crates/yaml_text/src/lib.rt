@@ -7,6 +7,7 @@ pub mod class;
 pub mod context;
 pub mod core_tag;
 pub mod counted;
+pub mod digit;
 pub mod event;
 pub mod fault;
 pub mod front;

@@ -73,5 +73,8 @@ hunks_start whole start t h = record { hunks = t; text = refl; are = h }
 pub kept_next : (es : List Edit) (k : ℕ) (d : Edit) → k < length es → list_any is_change (take k es) ≡ false → is_change (get_or es k d) ≡ false → list_any is_change (take (k + 1) es) ≡ false
 kept_next es k d l h e = list_any_more is_change es k d l ∙ ap (λ z. z || is_change (get_or es k d)) h ∙ e
 
+pub change_next : (es : List Edit) (k : ℕ) (d : Edit) → k < length es → list_any is_change (take k es) ≡ false → is_change (get_or es k d) ≡ true → list_any is_change (take (k + 1) es) ≡ true
+change_next es k d l h e = list_any_more is_change es k d l ∙ ap (λ z. z || is_change (get_or es k d)) h ∙ e
+
 pub kept_all : (es : List Edit) (k : ℕ) → length es ≤ k → list_any is_change (take k es) ≡ false → list_any is_change es ≡ false
 kept_all es k l h = ap (list_any is_change) (sym (take_all k es l)) ∙ h

@@ -65,6 +65,7 @@ pub record PutsHunks (edits : List Edit) (old new : List ℕ) : Type 0 where
 pub record IsFirstChange (edits : List Edit) (place : ℕ) : Type 0 where
   pub within : place < length edits
   pub before : list_any is_change (take place edits) ≡ false
+  pub change : list_any is_change (take (place + 1) edits) ≡ true
 
 -- From edits that begin at these lines of both texts a hunk is written, behind lines that are kept. Others are left, which begin at their lines.
 pub record PutsHunk (edits : List Edit) (l r : ℕ) (rest : List Edit) (l_next r_next : ℕ) (old new : List ℕ) : Type 0 where

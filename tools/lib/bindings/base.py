@@ -23,12 +23,12 @@ def wrong(text):
     print("bindings: " + text, file=sys.stderr, flush=True)
 
 
-def run(*words, out=None, **how):
+def run(*words, out=None, may_end=(0,), **how):
     """A command, which has to end well. Gives its output; where that goes to a file, what it says on standard error."""
     streams = {"stdout": out, "stderr": subprocess.PIPE} if out else {"stdout": subprocess.PIPE, "stderr": subprocess.STDOUT}
     done = subprocess.run(words, check=False, **streams, **how)
     told = (done.stderr if out else done.stdout).decode(errors="replace")
-    if done.returncode:
+    if done.returncode not in may_end:
         wrong("%s: status %d\n%s" % (" ".join(words), done.returncode, told))
     return told.strip()
 

@@ -3,7 +3,9 @@
 The pairs: each vector with the next one and with a changed one of itself, and so of made streams. The bytes are the same, the library says
 DIFFERENT where the program ends with 1, and it rejects a pair where the program ends with 2. Each pair is tried with a few lines, too.
 """
+import base64
 import concurrent.futures
+import json
 import os
 import random
 import subprocess
@@ -13,7 +15,7 @@ from lib.form.made import stream
 from lib.paths import TOP
 from .base import changed, say, wrong
 
-MADE, SEED, LINES = 500, 2, (1000, 2)
+MADE, SEED, LINES, LONG = 500, 2, (1000, 2), 100_000
 REVIEW = TOP + "/crates/yaml_review/out/yaml_review"
 
 
@@ -22,7 +24,7 @@ def pairs():
     chance, inputs = random.Random(SEED), [vector.input for vector in vectors()]
     for group in (inputs, [stream(seed) for seed in range(MADE)]):
         yield from zip(group, group[1:] + group[:1])
-        yield from ((data, changed(data, chance)) for data in group if len(data) < 100_000)
+        yield from ((data, changed(data, chance)) for data in group if len(data) < LONG)
 
 
 def own(left, right, lines):
@@ -36,36 +38,51 @@ def own(left, right, lines):
 
 
 def its(room, number, left, right):
-    """The files of a pair, and the answers of the program for so many lines each."""
+    """The answers of the program on a pair, for so many lines each: its status and what it prints."""
     names = ["%s/%d.%s" % (room, number, side) for side in ("left", "right")]
     for name, data in zip(names, (left, right)):
         with open(name, "wb") as file:
             file.write(data)
-    for lines in LINES:
-        done = subprocess.run([REVIEW, "diff", "--format=json", "--lines=%d" % lines, *names], capture_output=True, check=False)
-        yield lines, (done.returncode, done.stdout)
+    words = [[REVIEW, "diff", "--format=json", "--lines=%d" % lines, *names] for lines in LINES]
+    ended = [subprocess.run(one, capture_output=True, check=False) for one in words]
     for name in names:
         os.remove(name)
+    return [(done.returncode, done.stdout) for done in ended]
 
 
-def beside(room, number, left, right):
+def beside(left, right, answers):
     """Where the library tells otherwise of a pair than the program."""
-    for lines, wanted in its(room, number, left, right):
+    for lines, wanted in zip(LINES, answers):
         found = own(left, right, lines)
         if found != wanted:
             yield "differences of %.200r and %.200r: %.300r, and yamlreview %.300r" % (left, right, found, wanted)
 
 
+def write_cases(path, rows, answers):
+    """Writes the pairs with the program's answers into a file, a line of JSON each, for those tests of the modules that make many calls
+    at once. Long inputs are left out."""
+    with open(path, "w", encoding="utf-8") as file:
+        for pair, ((status, lines), *_) in zip(rows, answers):
+            if max(map(len, pair)) < LONG:
+                texts = [base64.b64encode(data).decode() for data in (*pair, lines)]
+                print(json.dumps(dict(zip(("left", "right", "lines"), texts), status=status)), file=file)
+
+
 def try_differences(folder, room):
-    """The library in a folder over all pairs, if yamlreview is built."""
+    """The library in a folder over all pairs, if yamlreview is built. Gives the name of a file that has the pairs with the
+    program's answers; an empty name if it is not built."""
     if not os.access(REVIEW, os.X_OK):
         say("differences are left out, since yamlreview is not built")
-        return
+        return ""
     os.environ["YAMLCANON_LIBRARY"] = folder + "/libyamlcanon.so.1"
     os.mkdir(room)
     rows = list(pairs())
     with concurrent.futures.ThreadPoolExecutor(4) as pool:
-        for found in pool.map(lambda number: list(beside(room, number, *rows[number])), range(len(rows))):
+        answers = list(pool.map(lambda number: its(room, number, *rows[number]), range(len(rows))))
+        for found in pool.map(lambda row, told: list(beside(*row, told)), rows, answers):
             for line in found:
                 wrong(line)
     say("the differences of %d pairs are those of yamlreview" % len(rows))
+    cases = room + "/cases.jsonl"
+    write_cases(cases, rows, answers)
+    return cases

@@ -3,30 +3,13 @@ import os
 import re
 import sys
 
+from lib.packing.store import put_go, put_rust
 from lib.paths import TOP
 from .base import WRONG, is_there, run, say, wrong
 from .go import GO, environment
 
 PAGE = "docs/using/LIBRARY.md"
 EXAMPLE = re.compile(r"^```(c|python|rust|go)\n(.*?)^```\n+```text\n(.*?)^```$", re.M | re.S)
-CARGO = """\
-[package]
-name = "app"
-version = "0.1.0"
-edition = "2021"
-[dependencies]
-yamlcanon = {{ path = "{top}/bindings/rust" }}
-"""
-
-GO_MODULE = """\
-module app
-
-go 1.19
-
-require example.org/yamlcanon v0.0.0
-
-replace example.org/yamlcanon => {go}
-"""
 
 
 def put(path, text):
@@ -55,8 +38,7 @@ def run_python(folder, room, text):
 def run_rust(folder, room, text):
     if not is_there("cargo", "--version"):
         return None
-    put(f"{room}/Cargo.toml", CARGO.format(top=TOP))
-    put(f"{room}/src/main.rs", text)
+    put_rust(room, f"{TOP}/bindings/rust", text)
     env = {**os.environ, "YAMLCANON_LIB_DIR": folder, "CARGO_TARGET_DIR": f"{room}/target"}
     return run("cargo", "run", "-q", "--offline", "-j2", cwd=room, env=env)
 
@@ -64,8 +46,7 @@ def run_rust(folder, room, text):
 def run_go(folder, room, text):
     if not is_there("go", "version"):
         return None
-    put(f"{room}/go.mod", GO_MODULE.format(go=GO))
-    put(f"{room}/main.go", text)
+    put_go(room, GO, text)
     return run("go", "run", ".", cwd=room, env=environment(folder))
 
 

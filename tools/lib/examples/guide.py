@@ -1,4 +1,4 @@
-"""The sections of docs/using/GUIDE.md and docs/using/REVIEWS.md: each block is taken in turn, in a repository that is made for the section (room.py).
+"""The sections of docs/using/GUIDE.md, REVIEWS.md and CI.md: each block is taken in turn, in a repository that is made for the section (room.py).
 
 The page says at its head what a section's repository has.
 

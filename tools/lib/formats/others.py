@@ -80,12 +80,15 @@ def github_faults(text, count, files):
 
 
 def markdown_faults(text, count, contents=()):
-    """What is wrong with a table of so many rows; and which of these texts it does not show."""
-    rows = [line for line in text.split("\n") if line.startswith("| ")]
-    heads = 1 if count else 0
-    faults = [] if len(rows) == count + heads else [f"{len(rows) - heads} rows, not {count}"]
-    for row in rows[1:]:
-        want(faults, row.count("|") == rows[0].count("|"), f"{row!r} has other cells than the head")
+    """What is wrong with tables of so many rows in all; and which of these texts they do not show."""
+    lines, head, rows, faults = text.split("\n"), None, 0, []
+    for line, below in zip(lines, lines[1:]):
+        if below.startswith("|-"):
+            head = line
+        elif line.startswith("| "):
+            rows += 1
+            want(faults, head and line.count("|") == head.count("|"), f"{line!r} has other cells than the head")
+    want(faults, rows == count, f"{rows} rows, not {count}")
     left = MARKUP.sub("", REFERENCE.sub("", text))
     bad = re.search(r"[^A-Za-z0-9 \n\x80-\U0010ffff]", left)
     want(faults, bad is None, f"{bad and bad[0]!r} is markup")

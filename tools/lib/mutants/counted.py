@@ -6,7 +6,7 @@ import re
 
 from lib.paths import TOP, read
 from lib.mutants.mutant import mutants_of
-from lib.mutants.layout import last_line, owner_of
+from lib.mutants.layout import last_line, module_of, owner_of
 from lib.crates import crates_of
 
 FUNCTION = re.compile(r'( *)(pub )?(?:pub\([^)]*\) )?(?:const )?(?:unsafe )?(?:extern "C" )?fn (\w+)')
@@ -17,7 +17,8 @@ def functions_with_contracts(crate):
     for path in sorted(glob.glob(f"{TOP}/crates/{crate}/src/**/*.rt", recursive=True)):
         module = os.path.relpath(path, f"{TOP}/crates/{crate}/src")[: -len(".rt")].split("/")
         module, owner = [] if module in (["lib"], ["main"]) else module, None
-        lines = read(path).split("\n")
+        whole = read(path)
+        lines = whole.split("\n")
         for number, line in enumerate(lines):
             owner = None if line == "}" else owner_of(line) or owner
             found = FUNCTION.match(line)
@@ -26,7 +27,8 @@ def functions_with_contracts(crate):
             text = "\n".join(lines[number : last_line(lines, number, found[1]) + 1])
             is_theorem = re.search(r"\{\s*\}$", text)
             if "ensures" in text and not is_theorem:
-                yield "::".join([crate, *module, *([owner] if found[1] and owner else []), found[3]])
+                room = [*module_of(whole, module, owner), owner] if found[1] and owner else module
+                yield "::".join([crate, *room, found[3]])
 
 
 def changed_by_mutants(crate):

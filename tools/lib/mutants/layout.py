@@ -27,6 +27,16 @@ def owner_of(line):
     return re.search(r"\w+", whom or what)[0] + (re.findall(r"\w+", what)[-1] if whom else "")
 
 
+def module_of(text, module, owner):
+    """The module under whose name the check tells the functions of an impl in this file. Those of a type alone are told under the
+    module of the type, which a `use` line names where it is another one; those of a trait under the module of the impl."""
+    for found in re.finditer(r"^use crate::(?:([\w:]+)::)?(?:(\w+)|\{([^{}]*)\});", text, re.M):
+        names = found[3].split(",") if found[3] else [found[2]]
+        if owner in [name.strip() for name in names]:
+            return found[1].split("::") if found[1] else []
+    return module
+
+
 def last_line(lines, number, indent):
     """The last line of the function that begins in this line. One that a trait only declares has no body, and ends at its `;`."""
     line = lines[number]
@@ -65,8 +75,9 @@ def function_at(text, path, crate, start, length):
         top, cycle = first_line(lines, number)
         end = last_line(lines, number, found[1])
         if top <= first and last <= end:
-            room = module + ([owner] if found[1] and owner else [])
-            place = place_of(crate, module, room, found[2], cycle, path, top + 1, end + 1)
+            home = module_of(text, module, owner) if found[1] and owner else module
+            room = home + ([owner] if found[1] and owner else [])
+            place = place_of(crate, home, room, found[2], cycle, path, top + 1, end + 1)
             place.is_public = line.lstrip().startswith("pub ")
             return place
     return None

@@ -15,7 +15,10 @@ PROGRAMS = {"yamlcanon": "yaml_tool", "yamlreview": "yaml_review"}
 TEXTS = ("README.md", "CHANGELOG.md", "CONTRIBUTING.md", "SECURITY.md", "NOTICE", "LICENSE-MIT", "LICENSE-APACHE")
 LIBRARY = "libyamlcanon.so."
 # What the archive of the library alone has of the pages.
-LIBRARY_TEXTS = ("CHANGELOG.md", "SECURITY.md", "NOTICE", "LICENSE-MIT", "LICENSE-APACHE", "docs/using/LIBRARY.md", "library/yamlcanon.c")
+LIBRARY_TEXTS = (
+    *("CHANGELOG.md", "SECURITY.md", "NOTICE", "LICENSE-MIT", "LICENSE-APACHE", "docs/using/LIBRARY.md"),
+    *("library/yamlcanon.c", "examples/store.c", "examples/service.yaml", "examples/service_as_json.yaml"),
+)
 # The line of SECURITY.md that says whom to write to: whoever hands packages out puts an address there.
 CONTACT = re.compile(r"^Contact: .*$", re.M)
 PACKAGE = """\

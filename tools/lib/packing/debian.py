@@ -131,7 +131,8 @@ def prepare(room, tree, time, supplier):
     for package, section in (("yamlcanon", "1"), ("libyamlcanon-dev", "3")):
         own = [os.path.relpath(page, tree) for page in pages if page.endswith("." + section)]
         write("%s/debian/%s.manpages" % (room, package), "\n".join(own) + "\n")
-    write(room + "/debian/yamlcanon.examples", "share/doc/yamlcanon/examples/*\n")
+    for package, examples in (("yamlcanon", ("examples/*",)), ("libyamlcanon-dev", ("examples/store.c", "library/yamlcanon.c"))):
+        write("%s/debian/%s.examples" % (room, package), "".join("share/doc/yamlcanon/%s\n" % name for name in examples))
     set_times(room, time)
 
 

@@ -9,6 +9,7 @@ import tempfile
 
 
 from lib.paths import TOP, read
+from lib.packing import stores
 from lib.packing.others import try_others
 from lib.packing.roots import inside, make_root, may_make
 from lib.packing.version import release
@@ -114,11 +115,13 @@ def try_debs(root, folder, has_python):
         return None
     try_program(root, "yamlcanon", {})
     try_c(root, {})
+    stores.try_c(root, {}, "libyamlcanon-dev", say, wrong)
     hold("completion", inside(root, "bash", "-c", COMPLETES % "/usr/share/bash-completion/completions/yamlcanon"))
     if has_python:
         hold("python3-yamlcanon", inside(root, "python3", "-c", CALLS), 0, "/dist-packages/")
         asks = 'from importlib.metadata import version; print(version("yamlcanon"))'
         hold("the version of python3-yamlcanon", inside(root, "python3", "-c", asks), 0, release() + "\n")
+        stores.try_python(root, "python3", "python3-yamlcanon", say, wrong)
     if not os.path.exists(root + "/usr/share/doc/yamlcanon/README.md") or not os.path.isdir(root + "/usr/share/doc/yamlcanon/docs"):
         wrong("the pages are not in /usr/share/doc/yamlcanon")
     try_pages(root + "/usr/share/doc/yamlcanon")
@@ -134,7 +137,9 @@ def try_archive(root, folder):
     if not hold("install.sh", inside(root, script, "/opt/own"), 0, "/opt/own/bin/yamlcanon\n"):
         return
     try_program(root, "/opt/own/bin/yamlcanon", {})
-    try_c(root, {"PKG_CONFIG_PATH": "/opt/own/lib/pkgconfig", "LD_LIBRARY_PATH": "/opt/own/lib"})
+    env = {"PKG_CONFIG_PATH": "/opt/own/lib/pkgconfig", "LD_LIBRARY_PATH": "/opt/own/lib"}
+    try_c(root, env)
+    stores.try_c(root, env, "the archive", say, wrong)
     hold("completion", inside(root, "bash", "-c", COMPLETES % "/opt/own/share/bash-completion/completions/yamlcanon"))
     try_pages(root + "/opt/own/share/doc/yamlcanon")
     say("the archive, its install.sh, a program in C")
@@ -287,6 +292,7 @@ def try_wheel(root, folder, has_python):
         0,
         "MIT OR Apache-2.0 LICENSE-MIT LICENSE-APACHE NOTICE ",
     )
+    stores.try_python(root, "/tmp/venv/bin/python -I", "the wheel", say, wrong)
     return say("the wheel in a venv with no index")
 
 
@@ -317,6 +323,7 @@ def try_crate(root, folder):
     done = inside(root, "sh", "-c", "cd /tmp/app && cargo run -q --offline", env=env, has_proc=True)
     if hold("a program in Rust", done, 0, '--- {"a" : [!!null "null"], "b" : !!int "1"}\n'):
         say("the crate, by a program in Rust")
+        stores.try_rust(root, "/tmp/yamlcanon-" + release(), env, say, wrong)
     return None
 
 
@@ -336,6 +343,7 @@ def try_all(folder):
         try_processor(root)
         try_wheel(root, folder, has_python)
         try_crate(root, folder)
+        stores.try_go(root, folder, room + "/go", say, wrong)
         try_debs(root, folder, has_python)
     return None
 

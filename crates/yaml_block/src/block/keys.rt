@@ -1,14 +1,10 @@
 //! Keys of block mappings (YAML 1.2.2, 8.2.2).
-ghost use Rattle.std.specs.Prelude.{◌≡◌, ◌⊎◌, IfOk, IfErr};
-ghost use Rattle.yaml_text.specs.Source.{text_of, place_of, IsBorder};
-ghost use Rattle.yaml_text.specs.declared.fault.Fault.TheVariants.{OutOfMemory};
-ghost use Rattle.yaml_mark.specs.HandlesModel.{handles_of};
+ghost use Rattle.std.specs.Prelude.{IfOk, IfErr};
+ghost use Rattle.yaml_text.specs.Source.{IsBorder};
 ghost use Rattle.yaml_text.specs.LeafAnswer.{IsRefusal};
 ghost use Rattle.yaml_text.specs.Placed.{IsPlaced};
 ghost use Rattle.yaml_sink.specs.SinkModel.{holds_of};
-ghost use Rattle.yaml_sink.specs.PropertyRules.{props_of};
-ghost use Rattle.yaml_block.specs.KeyFits.{FitsAgain, NoneBelow};
-ghost use Rattle.yaml_block.specs.BlockCalls.{StartsIn, IsFirstKey, EndsKey, ReadsKey, DecidesKey};
+ghost use Rattle.yaml_block.specs.BlockCalls.{StartsIn, IsFirstKey, ReadsFirstKey, NoKeyFits, EndsKey, ReadsKey, DecidesKey};
 
 use crate::block::signs::{first_colon, line_goes_on};
 use crate::block::words::read_word_key;
@@ -160,9 +156,9 @@ pub fn fit_key<'a, K: Keeper, F: FlowReader>(
     out: &mut Sink<'a, K>,
 ) -> Result<(), Fault>
     requires { IsFirstKey source.now level.now head.now key }
-    ensures reads { IfOk result (λ _. FitsAgain (text_of source.now) (handles_of level.now.handles) level.now.least (props_of head.now.own) (place_of source.now head.now.end) (place_of source.now head.now.at) (place_of source.now key.node.end) key.node.deep key.node.kind level.now.room (holds_of K.holds) key.start out.old out.new) }
+    ensures reads { IfOk result (λ _. ReadsFirstKey source.now level.now head.now key (holds_of K.holds) out.old out.new) }
     ensures err { IfErr result IsRefusal }
-    ensures decides { IfErr result (λ e. (e ≡ OutOfMemory) ⊎ NoneBelow (text_of source.now) (handles_of level.now.handles) level.now.room level.now.least (place_of source.now head.now.at)) }
+    ensures decides { IfErr result (NoKeyFits source.now level.now head.now) }
     ensures placed { IfErr result (IsPlaced source.now) }
 {
     if key.node.deep < level.room {

@@ -1,17 +1,16 @@
 //! What flow nodes and their parts begin and end with.
-ghost use Rattle.std.specs.Prelude.{◌≡◌, ◌≤◌, ◌⊎◌, ℕ, IfSome, IfNone, IfOk, IfErr};
+ghost use Rattle.std.specs.Prelude.{◌≡◌, ◌≤◌, ◌⊎◌, IfSome, IfNone, IfOk, IfErr};
 ghost use Rattle.std.specs.Bool.{OnTrue, OnFalse};
 ghost use Rattle.yaml_text.specs.Place.{Steps};
 ghost use Rattle.yaml_text.specs.Source.{bytes_of, text_of, place_of, IsBorder};
 ghost use Rattle.yaml_text.specs.EventModel.{context_of};
-ghost use Rattle.yaml_definitions.specs.grammar.Separation.{inner, s-separate as separate};
-ghost use Rattle.yaml_definitions.specs.grammar.Rules.{maybe};
+ghost use Rattle.yaml_definitions.specs.grammar.Separation.{inner};
 ghost use Rattle.yaml_text.specs.Lines.{Inside};
-ghost use Rattle.law_one_reading.specs.Follows.{Closes, Fresh};
+ghost use Rattle.law_one_reading.specs.Follows.{Closes};
 ghost use Rattle.yaml_text.specs.LeafAnswer.{IsRefusal};
 ghost use Rattle.yaml_text.specs.Placed.{IsPlaced};
 ghost use Rattle.yaml_flow.specs.FlowDecisions.{NoKey, LongKey};
-ghost use Rattle.yaml_layout.specs.Lines.{IsStretch, LeadsFrom};
+ghost use Rattle.yaml_layout.specs.Lines.{IsStretch, LeadsFrom, NothingFollows};
 ghost use Rattle.yaml_layout.specs.NodeRules.{IsInner};
 ghost use Rattle.yaml_flow.specs.FlowRules.{MayFollowColon, SignAt, AskedAt, IsParted, FirstIs, IsKeyColon};
 
@@ -73,7 +72,7 @@ pub fn part_gap(source: &Chars<'_>, at: usize, least: usize, context: Ctx) -> Re
     requires { IsBorder source.now at }
     ensures leads { IfOk result (LeadsFrom source.now at least (context_of context)) }
     ensures err { IfErr result IsRefusal }
-    ensures none { IfErr result (λ _. Inside (text_of source.now) (place_of source.now at) ⊎ Closes (text_of source.now) (place_of source.now at) → (q : ℕ) → maybe (separate (text_of source.now) least (context_of context)) (place_of source.now at) q → Fresh (text_of source.now) q → ⊥) }
+    ensures none { IfErr result (λ _. Inside (text_of source.now) (place_of source.now at) ⊎ Closes (text_of source.now) (place_of source.now at) → NothingFollows source.now at least (context_of context)) }
     ensures placed { IfErr result (IsPlaced source.now) }
 {
     if ends_value(source, at) {
