@@ -8,6 +8,8 @@ use Rattle.std.proofs.lemmas.Str.{encodes-append}
 use Rattle.yaml_definitions.specs.grammar.Characters.{is_uri}
 use Rattle.yaml_definitions.specs.canonical.CharText.{hex_digit}
 use Rattle.yaml_definitions.specs.canonical.TagText.{spell_byte, encoded}
+use Rattle.std.specs.Prelude.{codes, Some, None}
+use Rattle.yaml_show_scalar.specs.Tags.{suffix_behind, tag_prefix, shorthand_or, verbatim, other_text, tag_text}
 use Rattle.yaml_show_scalar.proofs.EscapeLaws.{own, low_hex}
 
 pub byte_itself : (b c : ℕ) → c ≡ b → is_uri c ≡ true → encode_utf8 c ≡ encode_utf8_all (spell_byte b)
@@ -30,3 +32,21 @@ pub encoded_next : (tag : List ℕ) (at b : ℕ) (whole out new : List ℕ) → 
 encoded_next tag at b whole out new h e w =
     ap (λ z. z ++ encode_utf8_all (encoded (drop (at + 1) tag) [])) w ∙ append_assoc out (encode_utf8_all (spell_byte b)) (encode_utf8_all (encoded (drop (at + 1) tag) []))
     ∙ ap (λ z. out ++ z) (sym (ap (λ z. encode_utf8_all (encoded z [])) (dropped tag at b h) ∙ encodes-append (spell_byte b) (encoded (drop (at + 1) tag) []))) ∙ e
+
+-- ---- shorthands
+
+pub primary : (g s : List ℕ) → suffix_behind tag_prefix g ≡ Some s → codes "!!" ++ s ≡ tag_text g
+unfolding tag_text
+primary g s h = ap (λ z. shorthand_or (codes "!!") z (other_text g)) (sym h)
+
+pub not_primary : (g : List ℕ) → suffix_behind tag_prefix g ≡ None → other_text g ≡ tag_text g
+unfolding tag_text
+not_primary g h = ap (λ z. shorthand_or (codes "!!") z (other_text g)) (sym h)
+
+pub local : (g s : List ℕ) → suffix_behind (codes "!") g ≡ Some s → codes "!" ++ s ≡ other_text g
+unfolding other_text
+local g s h = ap (λ z. shorthand_or (codes "!") z (verbatim g)) (sym h)
+
+pub not_local : (g : List ℕ) → suffix_behind (codes "!") g ≡ None → verbatim g ≡ other_text g
+unfolding other_text
+not_local g h = ap (λ z. shorthand_or (codes "!") z (verbatim g)) (sym h)

@@ -42,6 +42,11 @@ pub times_end : (n : ℕ) (piece : List ℕ) → times n piece ++ piece ≡ time
 times_end zero piece = sym (append-nil piece)
 times_end (suc n) piece = append_assoc piece (times n piece) piece ∙ ap (λ z. piece ++ z) (times_end n piece)
 
+pub times_next : (n : ℕ) (piece old out new : List ℕ) → out ≡ old ++ times n piece → new ≡ out ++ piece → new ≡ old ++ times (n + 1) piece
+times_next n piece old out new e w =
+    let k : suc n ≡ n + 1 = omega arith in
+    w ∙ ap (λ z. z ++ piece) e ∙ append_assoc old (times n piece) piece ∙ ap (λ z. old ++ z) (times_end n piece ∙ ap (λ m. times m piece) k)
+
 -- ---- the end
 
 not_empty : (x : List ℕ) (mark : ℕ) → is_empty (x ++ (mark ∷ [])) ≡ false

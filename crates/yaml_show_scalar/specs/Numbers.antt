@@ -39,10 +39,14 @@ abbrev pub great_or : Option ℕ → List ℕ → List ℕ → List ℕ → List
 great_or None first rest e = with_exponent first rest e
 great_or (Some n) first rest e = cond (list_all is_digit rest) (first ++ pointed rest n) (with_exponent first rest e)
 
+-- a float below 1 with so many zeros behind the point
+abbrev pub small_text : ℕ → List ℕ → List ℕ → List ℕ
+small_text n first rest = codes "0." ++ (times n (48 ∷ []) ++ (first ++ rest))
+
 -- by how many zeros stand behind the point
 abbrev pub small_or : Option ℕ → List ℕ → List ℕ → List ℕ → List ℕ
 small_or None first rest e = great_or (digits_before e) first rest e
-small_or (Some n) first rest e = codes "0." ++ (times n (48 ∷ []) ++ (first ++ rest))
+small_or (Some n) first rest e = small_text n first rest
 
 -- A float without its sign: without an exponent if that is from -4 to 15.
 unfoldable pub digits_text : List ℕ → List ℕ

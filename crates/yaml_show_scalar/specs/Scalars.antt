@@ -20,10 +20,13 @@ abbrev pub stands_plain : Quotes → List ℕ → Bool
 stands_plain WhereNeeded x = is_plain x
 stands_plain Always x = false
 
--- A scalar on one line, by its tag and its content: a float as people write it, null, bool and int by their canonical content, any other plain or in double quotes behind its tag.
+-- a string on one line: plain or in double quotes, behind its tag
+unfoldable pub string_text : Quotes → List ℕ → List ℕ → List ℕ
+string_text quotes g x = tag_before g str_tag ++ cond (stands_plain quotes x) x (quoted Yaml x)
+
+-- A scalar on one line, by its tag and its content: a float as people write it, null, bool and int by their canonical content, any other as a string.
 unfoldable pub scalar_text : Quotes → List ℕ → List ℕ → List ℕ
-scalar_text quotes g x =
-    cond (bytes_eq g float_tag) (float_text x) (cond (is_resolved g) x (tag_before g str_tag ++ cond (stands_plain quotes x) x (quoted Yaml x)))
+scalar_text quotes g x = cond (bytes_eq g float_tag) (float_text x) (cond (is_resolved g) x (string_text quotes g x))
 
 -- ---- on several lines
 
@@ -92,9 +95,11 @@ broken_text n x = codes "\"\\\n" ++ (broken_lines n (lines x) ++ (cond (ends_in 
 unfoldable pub is_literal : Bool → List ℕ → Bool
 is_literal is_root x = is_seen x && not (is_root && leads_blank x)
 
+-- a string with line feeds and the end of its line
+unfoldable pub long_text : ℕ → Bool → List ℕ → List ℕ → List ℕ
+long_text n is_root g x =
+    cond (is_literal is_root x) (tag_before g str_tag ++ literal_text n x) (cond (list_any is_feed (body x)) (tag_before g str_tag ++ broken_text n x) (scalar_text Always g x ++ (10 ∷ [])))
+
 -- A scalar and the end of its line. Its further lines are at this level.
 unfoldable pub scalar_lines : ℕ → Bool → List ℕ → List ℕ → List ℕ
-scalar_lines n is_root g x =
-    cond (is_resolved g || not (is_long x)) (scalar_text WhereNeeded g x ++ (10 ∷ []))
-    (cond (is_literal is_root x) (tag_before g str_tag ++ literal_text n x)
-    (cond (list_any is_feed (body x)) (tag_before g str_tag ++ broken_text n x) (scalar_text Always g x ++ (10 ∷ []))))
+scalar_lines n is_root g x = cond (is_resolved g || not (is_long x)) (scalar_text WhereNeeded g x ++ (10 ∷ [])) (long_text n is_root g x)

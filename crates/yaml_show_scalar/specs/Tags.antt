@@ -38,9 +38,13 @@ abbrev pub shorthand_or : List ℕ → Option (List ℕ) → List ℕ → List �
 shorthand_or handle None other = other
 shorthand_or handle (Some suffix) other = handle ++ suffix
 
--- a tag: a shorthand with `!!` or `!`, if it has a suffix for it, else verbatim
+-- a tag without a shorthand with `!!`: one with `!`, if it has a suffix for it, else verbatim
+unfoldable pub other_text : List ℕ → List ℕ
+other_text g = shorthand_or (codes "!") (suffix_behind (codes "!") g) (verbatim g)
+
+-- a tag: a shorthand with `!!`, if it has a suffix for it
 unfoldable pub tag_text : List ℕ → List ℕ
-tag_text g = shorthand_or (codes "!!") (suffix_behind tag_prefix g) (shorthand_or (codes "!") (suffix_behind (codes "!") g) (verbatim g))
+tag_text g = shorthand_or (codes "!!") (suffix_behind tag_prefix g) (other_text g)
 
 -- null, bool, int and float: a plain scalar has one of them by its text
 unfoldable pub is_resolved : List ℕ → Bool

@@ -1,7 +1,7 @@
 //! Floats as people write them.
 ghost use Rattle.std.specs.Prelude.{◌≡◌, ◌++◌, true, OnOk};
 ghost use Rattle.std.specs.List.{list_all};
-ghost use Rattle.yaml_show_scalar.specs.Numbers.{is_in_words, zeros_before, digits_before, is_digit, pointed, with_exponent, great_or, digits_text, float_text};
+ghost use Rattle.yaml_show_scalar.specs.Numbers.{is_in_words, zeros_before, digits_before, is_digit, pointed, with_exponent, great_or, small_text, digits_text, float_text};
 ghost use Rattle.yaml_show_scalar.specs.Texts.{written};
 
 use crate::out::Out;
@@ -110,6 +110,16 @@ fn put_great(out: &mut Out, first: &str, rest: &str, exponent: &str) -> Result<(
     }
 }
 
+/// Writes a float below 1 with so many zeros behind the point.
+fn put_small(out: &mut Out, zeros: usize, first: &str, rest: &str) -> Result<(), Stop>
+    ensures { OnOk result (written out.new ≡ written out.old ++ small_text zeros first.now rest.now) }
+{
+    out.put("0.")?;
+    out.put_times(zeros, "0")?;
+    out.put(first)?;
+    out.put(rest)
+}
+
 /// Writes a float without its sign.
 #[tactic(auto, unfolding(crate::specs::Numbers::digits_text))]
 fn put_digits(out: &mut Out, digits: &str) -> Result<(), Stop>
@@ -118,12 +128,7 @@ fn put_digits(out: &mut Out, digits: &str) -> Result<(), Stop>
     let (front, exponent) = cut(digits, 'e');
     let (first, rest) = cut(front, '.');
     match zeros_before(exponent) {
-        Some(zeros) => {
-            out.put("0.")?;
-            out.put_times(zeros, "0")?;
-            out.put(first)?;
-            out.put(rest)
-        }
+        Some(zeros) => put_small(out, zeros, first, rest),
         None => put_great(out, first, rest, exponent),
     }
 }

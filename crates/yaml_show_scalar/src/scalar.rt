@@ -1,7 +1,9 @@
 //! Scalars.
-ghost use Rattle.std.specs.Prelude.{◌≡◌, ◌==◌, ◌||◌, ◌++◌, OnOk};
+ghost use Rattle.std.specs.Prelude.{◌≡◌, ◌==◌, ◌||◌, ◌++◌, [], ◌∷◌, OnOk};
 ghost use Rattle.std.specs.List.{list_any};
-ghost use Rattle.yaml_show_scalar.specs.Scalars.{scalar_text, is_feed, is_long, is_seen, is_blank, leads_blank, is_literal, scalar_lines};
+ghost use Rattle.yaml_show_scalar.specs.Scalars.{stands_plain, string_text, scalar_text, is_feed, is_long, is_seen, is_blank, leads_blank, literal_text, broken_text, is_literal, long_text, scalar_lines};
+ghost use Rattle.yaml_show_scalar.specs.Tags.{tag_before};
+ghost use Rattle.yaml_definitions.specs.model.Tag.{str_tag};
 ghost use Rattle.yaml_show_scalar.specs.Texts.{written};
 
 use crate::chars::is_unseen;
@@ -23,6 +25,28 @@ pub enum Quotes {
     Always,
 }
 
+/// Whether a string is written plain here.
+fn stands_plain(content: &str, quotes: Quotes) -> bool
+    ensures { result ≡ stands_plain quotes content.now }
+{
+    match quotes {
+        Quotes::WhereNeeded => is_plain(content),
+        Quotes::Always => false,
+    }
+}
+
+/// Writes a string on one line, behind its tag.
+#[tactic(auto, unfolding(crate::specs::Scalars::string_text, yaml_definitions::specs::model::Tag::core_tag))]
+fn put_string(out: &mut Out, tag: &str, content: &str, quotes: Quotes) -> Result<(), Stop>
+    ensures { OnOk result (written out.new ≡ written out.old ++ string_text quotes tag.now content.now) }
+{
+    put_tag_before(out, tag, core_tag::STR)?;
+    if stands_plain(content, quotes) {
+        return out.put(content);
+    }
+    put_quoted(out, content)
+}
+
 /// Writes a scalar on one line.
 #[tactic(auto, unfolding(crate::specs::Scalars::scalar_text, yaml_definitions::specs::model::Tag::core_tag))]
 pub fn put_scalar(out: &mut Out, tag: &str, content: &str, quotes: Quotes) -> Result<(), Stop>
@@ -34,11 +58,7 @@ pub fn put_scalar(out: &mut Out, tag: &str, content: &str, quotes: Quotes) -> Re
     if is_resolved(tag) {
         return out.put(content);
     }
-    put_tag_before(out, tag, core_tag::STR)?;
-    if quotes == Quotes::WhereNeeded && is_plain(content) {
-        return out.put(content);
-    }
-    put_quoted(out, content)
+    put_string(out, tag, content, quotes)
 }
 
 /// Whether a text has a line feed.
@@ -103,6 +123,52 @@ fn is_literal(content: &str, is_root: bool) -> bool
     is_seen(content) && !(is_root && leads_blank(content))
 }
 
+/// Writes a literal scalar behind its tag.
+#[tactic(auto, unfolding(yaml_definitions::specs::model::Tag::core_tag))]
+fn put_literal_string(out: &mut Out, tag: &str, content: &str, level: usize) -> Result<(), Stop>
+    ensures { OnOk result (written out.new ≡ written out.old ++ (tag_before tag.now str_tag ++ literal_text level content.now)) }
+{
+    put_tag_before(out, tag, core_tag::STR)?;
+    put_literal(out, content, level)
+}
+
+/// Writes a double-quoted scalar on several lines behind its tag.
+#[tactic(auto, unfolding(yaml_definitions::specs::model::Tag::core_tag))]
+fn put_broken_string(out: &mut Out, tag: &str, content: &str, level: usize) -> Result<(), Stop>
+    ensures { OnOk result (written out.new ≡ written out.old ++ (tag_before tag.now str_tag ++ broken_text level content.now)) }
+{
+    put_tag_before(out, tag, core_tag::STR)?;
+    put_broken(out, content, level)
+}
+
+/// Writes a scalar on one line, and its end.
+fn put_line(out: &mut Out, tag: &str, content: &str, quotes: Quotes) -> Result<(), Stop>
+    ensures { OnOk result (written out.new ≡ written out.old ++ (scalar_text quotes tag.now content.now ++ (10 ∷ []))) }
+{
+    put_scalar(out, tag, content, quotes)?;
+    out.put("\n")
+}
+
+/// Writes a string with line feeds, and the end of its line.
+#[tactic(auto, unfolding(crate::specs::Scalars::long_text))]
+fn put_long(
+    out: &mut Out,
+    tag: &str,
+    content: &str,
+    level: usize,
+    is_root: bool,
+) -> Result<(), Stop>
+    ensures { OnOk result (written out.new ≡ written out.old ++ long_text level is_root tag.now content.now) }
+{
+    if is_literal(content, is_root) {
+        return put_literal_string(out, tag, content, level);
+    }
+    if has_feed(body_of(content)) {
+        return put_broken_string(out, tag, content, level);
+    }
+    put_line(out, tag, content, Quotes::Always)
+}
+
 /// Writes a scalar and the end of its line. Its further lines are at this level. A literal scalar that is a document begins with no
 /// blank, since its indentation indicator could not say so.
 #[tactic(auto, unfolding(crate::specs::Scalars::scalar_lines))]
@@ -116,17 +182,7 @@ pub fn put_scalar_lines(
     ensures { OnOk result (written out.new ≡ written out.old ++ scalar_lines level is_root tag.now content.now) }
 {
     if is_resolved(tag) || !is_long(content) {
-        put_scalar(out, tag, content, Quotes::WhereNeeded)?;
-        return out.put("\n");
+        return put_line(out, tag, content, Quotes::WhereNeeded);
     }
-    if is_literal(content, is_root) {
-        put_tag_before(out, tag, core_tag::STR)?;
-        return put_literal(out, content, level);
-    }
-    if has_feed(body_of(content)) {
-        put_tag_before(out, tag, core_tag::STR)?;
-        return put_broken(out, content, level);
-    }
-    put_scalar(out, tag, content, Quotes::Always)?;
-    out.put("\n")
+    put_long(out, tag, content, level, is_root)
 }

@@ -4,7 +4,7 @@ ghost use Rattle.std.specs.List.{list_all};
 ghost use Rattle.std.specs.Option.{option_map};
 ghost use Rattle.yaml_definitions.specs.canonical.CharText.{hex_digit};
 ghost use Rattle.yaml_definitions.specs.canonical.TagText.{spell_byte, encoded};
-ghost use Rattle.yaml_show_scalar.specs.Tags.{is_suffix_byte, is_suffix, suffix_behind, verbatim, tag_text, is_resolved, is_left_out, tag_before};
+ghost use Rattle.yaml_show_scalar.specs.Tags.{is_suffix_byte, is_suffix, suffix_behind, verbatim, other_text, tag_text, is_resolved, is_left_out, tag_before};
 ghost use Rattle.yaml_show_scalar.specs.Texts.{written};
 
 use crate::out::Out;
@@ -104,20 +104,32 @@ fn suffix_behind<'t>(tag: &'t str, front: &str) -> Option<&'t str>
     }
 }
 
+/// Writes a shorthand of a tag.
+fn put_shorthand(out: &mut Out, handle: &str, suffix: &str) -> Result<(), Stop>
+    ensures { OnOk result (written out.new ≡ written out.old ++ (handle.now ++ suffix.now)) }
+{
+    out.put(handle)?;
+    out.put(suffix)
+}
+
+/// Writes a tag that has no shorthand with `!!`.
+fn put_other(out: &mut Out, tag: &str) -> Result<(), Stop>
+    ensures { OnOk result (written out.new ≡ written out.old ++ other_text tag.now) }
+{
+    match suffix_behind(tag, "!") {
+        Some(suffix) => put_shorthand(out, "!", suffix),
+        None => put_verbatim(out, tag),
+    }
+}
+
 /// Writes a tag.
-#[tactic(auto, unfolding(crate::specs::Tags::tag_text))]
 pub fn put_tag(out: &mut Out, tag: &str) -> Result<(), Stop>
     ensures { OnOk result (written out.new ≡ written out.old ++ tag_text tag.now) }
 {
-    if let Some(suffix) = suffix_behind(tag, core_tag::PREFIX) {
-        out.put("!!")?;
-        return out.put(suffix);
+    match suffix_behind(tag, core_tag::PREFIX) {
+        Some(suffix) => put_shorthand(out, "!!", suffix),
+        None => put_other(out, tag),
     }
-    if let Some(suffix) = suffix_behind(tag, "!") {
-        out.put("!")?;
-        return out.put(suffix);
-    }
-    put_verbatim(out, tag)
 }
 
 /// Writes a tag that is not left out, and a space.
