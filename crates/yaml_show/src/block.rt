@@ -1,12 +1,11 @@
 //! Streams in block style.
 use crate::flow::{LEVELS, all_fit, put_flow, put_key};
 use crate::nodes::Nodes;
-use crate::out::Out;
-use crate::scalar::put_scalar_lines;
-use crate::stop::Stop;
-use crate::tag::{is_left_out, put_tag, put_tag_before};
 use std::alloc::Global;
 use yaml_graph::node::{NodeId, NodeKind};
+use yaml_show_scalar::scalar::put_scalar_lines;
+use yaml_show_scalar::tag::{is_left_out, put_tag, put_tag_before};
+use yaml_show_scalar::{Out, Stop};
 use yaml_text::core_tag;
 use yaml_text::limits::text_limit;
 
@@ -135,7 +134,7 @@ fn put_items(
 ) -> Result<(), Stop> {
     let mut is_begun = begun;
     for item in items {
-        out.indent(if is_begun { 0 } else { level })?;
+        out.put_times(if is_begun { 0 } else { level }, "  ")?;
         is_begun = false;
         out.put("- ")?;
         let below = level.saturating_add(1);
@@ -157,7 +156,7 @@ fn put_entries(
 ) -> Result<(), Stop> {
     let mut is_begun = begun;
     for entry in entries {
-        out.indent(if is_begun { 0 } else { level })?;
+        out.put_times(if is_begun { 0 } else { level }, "  ")?;
         is_begun = false;
         put_key(nodes, entry.0, out)?;
         out.put(":")?;

@@ -1,11 +1,10 @@
 //! Nodes on one line.
 use crate::nodes::Nodes;
-use crate::out::Out;
-use crate::scalar::{Quotes, put_scalar};
-use crate::stop::Stop;
-use crate::tag::put_tag_before;
 use std::alloc::Global;
 use yaml_graph::node::{Node, NodeId, NodeKind};
+use yaml_show_scalar::scalar::put_scalar;
+use yaml_show_scalar::tag::put_tag_before;
+use yaml_show_scalar::{Out, Quotes, Stop};
 use yaml_text::core_tag;
 
 /// How many nodes may be inside one another.

@@ -1,13 +1,12 @@
 //! Documents as lines of JSON (RFC 8259).
-use crate::escapes::put_json_string;
 use crate::flow::LEVELS;
 use crate::nodes::Nodes;
-use crate::number::{is_in_words, put_float};
-use crate::out::Out;
-use crate::stop::Stop;
-use crate::tag::is_core;
 use std::alloc::{AllocError, Global};
 use yaml_graph::node::{NodeId, NodeKind};
+use yaml_show_scalar::escapes::put_json_string;
+use yaml_show_scalar::number::{is_in_words, put_float};
+use yaml_show_scalar::tag::is_resolved;
+use yaml_show_scalar::{Out, Stop};
 use yaml_text::core_tag;
 use yaml_text::limits::text_limit;
 
@@ -22,7 +21,7 @@ fn put_json_scalar(out: &mut Out, tag: &str, content: &str) -> Result<(), Stop> 
         }
         return put_float(out, content);
     }
-    if !is_core(tag) {
+    if !is_resolved(tag) {
         return Err(Stop::NoJson);
     }
     out.put(content)

@@ -3,10 +3,10 @@ ghost use Rattle.std.specs.Prelude.{◌≡◌, length};
 ghost use Rattle.yaml_graph.specs.GraphView.{nodes_of};
 ghost use Rattle.yaml_rank.specs.RanksView.{sorted_of};
 
-use crate::stop::Stop;
 use yaml_graph::graph::Graph;
 use yaml_graph::node::{Node, NodeId};
 use yaml_rank::ranks::Ranks;
+use yaml_show_scalar::Stop;
 
 /// The documents of a stream: a graph with its ranks.
 #[derive(Drop)]

@@ -7,7 +7,8 @@ use std::alloc::Global;
 use yaml_canon::both::{BothForests, forest_of_both};
 use yaml_canon::canonical;
 use yaml_rank::rank;
-use yaml_show::{Nodes, Stop, block_text, json_lines};
+use yaml_show::{Nodes, block_text, json_lines};
+use yaml_show_scalar::Stop;
 use yaml_text::fault::Fault;
 
 /// What writes documents.

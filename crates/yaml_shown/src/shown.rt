@@ -15,7 +15,7 @@ use crate::unshown::Unshown;
 use std::alloc::Global;
 use yaml_canon::canonical;
 use yaml_canon::laws::nothing_else_is_refused;
-use yaml_show::Stop;
+use yaml_show_scalar::Stop;
 use yaml_text::fault::Fault;
 
 /// What begins a document that is on one line.

@@ -1,0 +1,4 @@
+pub mod EscapeLaws
+pub mod NumberLaws
+pub mod TagLaws
+pub mod TextLaws
