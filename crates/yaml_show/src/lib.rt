@@ -1,13 +1,18 @@
 //! Readable texts of ranked documents: block style, a line for each entry and item (`block_text`), and a line of JSON for each document
-//! (`json_lines`). Scalars and tags are written by `yaml_show_scalar`. Nothing is claimed of the whole texts here: `yaml_shown` checks each
-//! before it is handed out.
+//! (`json_lines`). Scalars and tags are written by `yaml_show_scalar`. The text in block style is that of a definition, so it depends on
+//! what the documents mean alone. That it means the same is not claimed here: `yaml_shown` checks each text before it is handed out.
 #![tactic(auto)]
 
 mod block;
 mod flow;
 mod json;
+mod keys;
+mod lines;
 pub mod nodes;
+pub mod place;
+pub mod unwritten;
 
 pub use block::block_text;
 pub use json::json_lines;
 pub use nodes::Nodes;
+pub use unwritten::Unwritten;
