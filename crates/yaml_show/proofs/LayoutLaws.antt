@@ -1,13 +1,18 @@
 -- Block style, piece by piece.
 use Rattle.std.proofs.Common.{◌≡◌, ℕ, suc, ◌+◌, ◌<◌, ◌≤◌, Bool, true, false, cond, List, [], ◌∷◌, ◌++◌, length, map, drop, refl, sym, ◌∙◌, ap, add-one, arith}
-use Rattle.std.specs.Prelude.{nat_le, not, ◌||◌, ◌&&◌, flat_map, codes}
+use Rattle.std.specs.Prelude.{nat_le, not, ◌||◌, ◌&&◌, ◌==◌, flat_map, codes}
 use Rattle.std.specs.Str.{chars}
 use Rattle.std.proofs.Math.ListN.{drop_of_length-le}
 use Rattle.std.proofs.lemmas.Bool.Decides.{nat_tests}
 use Rattle.std.proofs.lemmas.List.{append_assoc, append-nil}
 use Rattle.yaml_definitions.specs.model.Tag.{seq_tag, map_tag}
 use Rattle.yaml_definitions.specs.model.Tree.{Tree, Trees, Pairs, scalar, sequence, mapping}
+use Rattle.yaml_definitions.specs.model.Order.{arranged}
 use Rattle.yaml_graph.specs.TreeLists.{trees, pairs}
+use Rattle.yaml_graph.specs.GraphView.{roots_of, tree, forest}
+use Rattle.yaml_graph.specs.declared.node.NodeId.{NodeId}
+use Rattle.yaml_graph.specs.declared.graph.Graph.{Graph}
+use Rattle.yaml_spell.proofs.ShownLaws.{map-twice}
 use Rattle.yaml_show_scalar.specs.Scalars.{scalar_text, scalar_lines}
 use Rattle.yaml_show_scalar.specs.declared.scalar.Quotes.TheVariants.{WhereNeeded}
 use Rattle.yaml_show.specs.declared.place.Place.{Place}
@@ -62,20 +67,23 @@ module _ {X : Type 0} (f : X → Tree × Tree) (xs : List X) (i : ℕ) where
 
 -- ---- empty collections, and levels
 
-pub none_items : {X : Type 0} (f : X → Tree) (xs : List X) → length xs ≡ 0 → no_items (trees (map f xs)) ≡ true
-none_items f [] h = refl
-none_items f (x ∷ xs) h = absurd (omega (arith, h))
+positive : (n : ℕ) → (suc n == 0) ≡ false
+positive n = grind (arith, nat_tests)
 
-pub some_items : {X : Type 0} (f : X → Tree) (xs : List X) → 0 < length xs → no_items (trees (map f xs)) ≡ false
-some_items f [] h = absurd (omega (arith, h))
+pub none_items : {X : Type 0} (f : X → Tree) (xs : List X) → (length xs == 0) ≡ true → no_items (trees (map f xs)) ≡ true
+none_items f [] h = refl
+none_items f (x ∷ xs) h = let q : true ≡ false = sym h ∙ positive (length xs) in absurd (cc)
+
+pub some_items : {X : Type 0} (f : X → Tree) (xs : List X) → (length xs == 0) ≡ false → no_items (trees (map f xs)) ≡ false
+some_items f [] h = absurd (cc)
 some_items f (x ∷ xs) h = refl
 
-pub none_entries : {X : Type 0} (f : X → Tree × Tree) (xs : List X) → length xs ≡ 0 → no_entries (pairs (map f xs)) ≡ true
+pub none_entries : {X : Type 0} (f : X → Tree × Tree) (xs : List X) → (length xs == 0) ≡ true → no_entries (pairs (map f xs)) ≡ true
 none_entries f [] h = refl
-none_entries f (x ∷ xs) h = absurd (omega (arith, h))
+none_entries f (x ∷ xs) h = let q : true ≡ false = sym h ∙ positive (length xs) in absurd (cc)
 
-pub some_entries : {X : Type 0} (f : X → Tree × Tree) (xs : List X) → 0 < length xs → no_entries (pairs (map f xs)) ≡ false
-some_entries f [] h = absurd (omega (arith, h))
+pub some_entries : {X : Type 0} (f : X → Tree × Tree) (xs : List X) → (length xs == 0) ≡ false → no_entries (pairs (map f xs)) ≡ false
+some_entries f [] h = absurd (cc)
 some_entries f (x ∷ xs) h = refl
 
 pub deep : (n : ℕ) → 64 ≤ n → nat_le deepest n ≡ true
@@ -182,3 +190,7 @@ module _ {X : Type 0} (f : X → Tree) (xs : List X) (i : ℕ) where
 
   pub documents_end : (w whole : List ℕ) → length xs ≤ i → w ++ shown_text (map f (drop i xs)) ≡ whole → w ≡ whole
   documents_end w whole l h = sym (append-nil w) ∙ ap (λ z. w ++ shown_text (map f z)) (sym (drop_of_length-le xs l)) ∙ h
+
+-- the roots of a graph, arranged, are its forest, arranged
+pub roots_arranged : (g : Graph) (roots : List NodeId) → roots ≡ roots_of g → map (λ i. arranged (tree g i.0)) roots ≡ map arranged (forest g)
+roots_arranged g roots e = ap (map (λ (i : NodeId). arranged (tree g i.0))) e ∙ sym (map-twice (λ (i : NodeId). tree g i.0) arranged (roots_of g))

@@ -3,6 +3,7 @@ ghost use Rattle.std.specs.Prelude.{◌≡◌, ◌<◌, ◌++◌, ◌∷◌, [],
 ghost use Rattle.std.specs.List.{All};
 ghost use Rattle.yaml_definitions.specs.model.Order.{arranged};
 ghost use Rattle.yaml_graph.specs.GraphView.{forest};
+ghost use Rattle.yaml_rank.specs.RanksView.{RanksAre};
 ghost use Rattle.yaml_spell.specs.RankedNodes.{Rooted, tree_of, trees_of, pairs_of};
 ghost use Rattle.yaml_show_scalar.specs.Texts.{written};
 ghost use Rattle.yaml_show.specs.Layout.{node_lines, item_lines, entry_lines, document_lines, shown_text};
@@ -150,11 +151,12 @@ fn put_documents<I: Copy, V: RankedNodes<I>>(
 }
 
 /// The documents in block style: `---`, then a line for each entry and item. Entries are in the order of their keys. Aliases are written
-/// out.
+/// out. The ranks must be those of the graph.
 ///
 /// # Errors
 /// `TooLong`: the text would have more than 67,108,864 bytes. `OutOfMemory`.
 pub fn block_text(alloc: Global, nodes: &Nodes<'_>) -> Result<String, Stop>
+    requires { RanksAre nodes.now.graph nodes.now.ranks }
     ensures { IfOk result (λ text. string_bytes text ≡ shown_text (map arranged (forest nodes.now.graph))) }
 {
     let view = RankedGraph {

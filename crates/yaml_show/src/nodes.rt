@@ -1,5 +1,7 @@
 //! A graph with its ranks.
-ghost use Rattle.yaml_rank.specs.RanksView.{RanksAre};
+ghost use Rattle.std.specs.Prelude.{◌≡◌, length};
+ghost use Rattle.yaml_graph.specs.GraphView.{nodes_of};
+ghost use Rattle.yaml_rank.specs.RanksView.{sorted_of};
 
 use crate::unwritten::Unwritten;
 use yaml_graph::graph::Graph;
@@ -11,7 +13,7 @@ use yaml_rank::ranks::Ranks;
 pub struct Nodes<'a> {
     pub graph: Graph<'a>,
     pub ranks: Ranks,
-    pub ghost ranked: { RanksAre graph ranks },
+    pub ghost sized: { length (sorted_of ranks) ≡ length (nodes_of graph) },
 }
 
 impl<'a> Nodes<'a> {

@@ -3,6 +3,7 @@ ghost use Rattle.std.specs.Prelude.{◌≡◌, ◌++◌, ℕ, List, IfOk, IfErr,
 ghost use Rattle.yaml_definitions.specs.model.Tree.{Tree};
 ghost use Rattle.yaml_definitions.specs.model.Means.{Means};
 ghost use Rattle.yaml_graph.specs.GraphView.{forest as root_trees};
+ghost use Rattle.yaml_rank.specs.RanksView.{RanksAre};
 ghost use Rattle.yaml_canon.specs.Claims.{CanonicalRefuses};
 ghost use Rattle.yaml_canon.specs.Both.{HasBoth};
 ghost use Rattle.yaml_shown.specs.Refused.{ShowRefuses, JsonRefuses};
@@ -20,7 +21,8 @@ use yaml_text::fault::Fault;
 /// The ranked documents of a store; none if two keys are equal, or if memory does not suffice.
 fn ranked<'s>(alloc: Global, forests: &'s BothForests<'_>) -> Option<Nodes<'s>>
     requires { (left right : List ℕ) × HasBoth left right forests.now }
-    ensures { (left right : List ℕ) (has : HasBoth left right forests.now) → IfSome result (λ nodes. root_trees nodes.graph ≡ has.mean.lefts ++ has.mean.rights) }
+    ensures ranks { IfSome result (λ nodes. RanksAre nodes.graph nodes.ranks) }
+    ensures trees { (left right : List ℕ) (has : HasBoth left right forests.now) → IfSome result (λ nodes. root_trees nodes.graph ≡ has.mean.lefts ++ has.mean.rights) }
 {
     let Ok(graph) = forests.graph(alloc) else {
         return None;

@@ -16,19 +16,19 @@ put_flow-returns-in-Scalar g w c =
     let e = scalar-shown N T (T (N c.args.id)) _ _ _ c.node-node.ensures.tree c.in-Scalar.is in
     on_ok_weaker c.put_scalar.result (λ h. h ∙ ap (λ z. written c.args.out.now ++ z) (scalar_flow (T (N c.args.id)) _ _ e)) c.put_scalar.ensures
 
-pub put_flow-returns-in-Sequence : goal.put_flow-returns-in-Sequence
-put_flow-returns-in-Sequence g w c =
+pub put_flow-returns-in_ok-put_tag_before-in-Sequence : goal.put_flow-returns-in_ok-put_tag_before-in-Sequence
+put_flow-returns-in_ok-put_tag_before-in-Sequence g w c =
     let N = g.V.RankedNodes.number in
     let T = g.V.RankedNodes.tree c.args.view.now in
     let e = sequence-shown N T (T (N c.args.id)) _ _ _ c.node-node.ensures.tree c.in-Sequence.is in
-    on_ok_weaker c.put_flow_items.result (λ h. sequence_flow (T (N c.args.id)) _ _ _ _ _ _ e seq_own c.in_ok-put_tag_before.ensures h) c.put_flow_items.ensures
+    on_ok_weaker c.put_flow_items.result (λ h. sequence_flow (T (N c.args.id)) _ _ _ _ _ _ e seq_own c.in_ok-put_tag_before-in-Sequence.ensures h) c.put_flow_items.ensures
 
-pub put_flow-returns-in-Mapping : goal.put_flow-returns-in-Mapping
-put_flow-returns-in-Mapping g w c =
+pub put_flow-returns-in_ok-put_tag_before-in-Mapping : goal.put_flow-returns-in_ok-put_tag_before-in-Mapping
+put_flow-returns-in_ok-put_tag_before-in-Mapping g w c =
     let N = g.V.RankedNodes.number in
     let T = g.V.RankedNodes.tree c.args.view.now in
     let e = mapping-shown N T (T (N c.args.id)) _ _ _ c.node-node.ensures.tree c.in-Mapping.is in
-    on_ok_weaker c.put_flow_entries.result (λ h. mapping_flow (T (N c.args.id)) _ _ _ _ _ _ e map_own c.in_ok-put_tag_before.ensures h) c.put_flow_entries.ensures
+    on_ok_weaker c.put_flow_entries.result (λ h. mapping_flow (T (N c.args.id)) _ _ _ _ _ _ e map_own c.in_ok-put_tag_before-in-Mapping.ensures h) c.put_flow_entries.ensures
 
 pub put_flow_items-loop-place-init : goal.put_flow_items-loop-place-init
 put_flow_items-loop-place-init g w c = begun _ _ _ 91 c.in_ok-put.ensures
