@@ -1,7 +1,12 @@
 //! Which characters are written as they are.
+ghost use Rattle.std.specs.Prelude.{◌≡◌};
+ghost use Rattle.yaml_show_scalar.specs.Escapes.{is_unseen};
 
 /// Whether a character is written as an escape: nobody sees it, or some reader takes it for the end of a line.
-pub(crate) fn is_unseen(c: char) -> bool {
+#[tactic(auto, unfolding(crate::specs::Escapes::is_unseen))]
+pub fn is_unseen(c: char) -> bool
+    ensures { result ≡ is_unseen c }
+{
     matches!(
         c,
         '\0'..='\u{1F}'
@@ -19,21 +24,6 @@ pub(crate) fn is_unseen(c: char) -> bool {
             | '\u{FEFF}'
             | '\u{FFA0}'
             | '\u{FFF0}'..='\u{FFFB}'
-            | '\u{FFFE}'..='\u{FFFF}'
             | '\u{E0000}'..='\u{E0FFF}'
-    ) || u32::from(c) & 0xFFFE == 0xFFFE
-}
-
-/// Whether a text has nothing but line feeds, spaces and tabs.
-pub(crate) fn is_blank(text: &str) -> bool {
-    text.as_bytes()
-        .iter()
-        .all(|byte| matches!(*byte, b'\n' | b' ' | b'\t'))
-}
-
-/// Whether a text is ASCII that needs no escape between double quotes.
-pub(crate) fn is_simple(text: &str) -> bool {
-    text.as_bytes().iter().all(|byte| matches!(*byte, b' '..=b'~')
-        && *byte != b'"'
-        && *byte != b'\\')
+    ) || u32::from(c) % 65_536 >= 65_534
 }

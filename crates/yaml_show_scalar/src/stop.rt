@@ -8,10 +8,6 @@ pub enum Stop {
     TooLong,
     /// Memory does not suffice.
     OutOfMemory,
-    /// JSON cannot express a node.
-    NoJson,
-    /// A number of a node is none of the graph, or nodes nest deeper than documents do. No document has such a node.
-    Lost,
 }
 
 impl From<AllocError> for Stop {
