@@ -12,7 +12,8 @@
 //! input of this length may take, which is 1,792 KiB at most, the call is made on a thread of its own with 8 MiB.
 #![warn(missing_docs)]
 
-use std::ffi::{c_char, CStr};
+use std::ffi::CStr;
+use std::os::raw::c_char;
 use std::{error, fmt, thread};
 
 mod differences;
