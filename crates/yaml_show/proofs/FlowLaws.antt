@@ -8,9 +8,9 @@ use Rattle.yaml_definitions.specs.model.Tree.{Tree, Trees, Pairs, scalar, sequen
 use Rattle.yaml_graph.specs.TreeLists.{trees, pairs}
 use Rattle.yaml_show_scalar.specs.Scalars.{scalar_text}
 use Rattle.yaml_show_scalar.specs.Tags.{tag_before}
-use Rattle.yaml_show_scalar.specs.declared.scalar.Quotes.TheVariants.{WhereNeeded, Always}
+use Rattle.yaml_show_scalar.specs.declared.scalar.Quotes.TheVariants.{Always}
 use Rattle.yaml_spell.specs.Walked.{separator}
-use Rattle.yaml_show.specs.Flow.{is_short, mark, colon, flow_text, flow_items, flow_entries, key_text, fits, all_fit}
+use Rattle.yaml_show.specs.Flow.{is_short, mark, colon, flow_text, flow_items, flow_entries}
 
 -- ---- tags of the kinds
 

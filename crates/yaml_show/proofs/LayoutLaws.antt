@@ -1,6 +1,6 @@
 -- Block style, piece by piece.
 use Rattle.std.proofs.Common.{◌≡◌, ℕ, suc, ◌+◌, ◌<◌, ◌≤◌, Bool, true, false, cond, List, [], ◌∷◌, ◌++◌, length, map, drop, refl, sym, ◌∙◌, ap, add-one, arith}
-use Rattle.std.specs.Prelude.{nat_le, not, ◌||◌, ◌&&◌, ◌==◌, flat_map, codes}
+use Rattle.std.specs.Prelude.{nat_le, not, ◌||◌, ◌&&◌, ◌==◌, codes}
 use Rattle.std.specs.Str.{chars}
 use Rattle.std.proofs.Math.ListN.{drop_of_length-le}
 use Rattle.std.proofs.lemmas.Bool.Decides.{nat_tests}
@@ -16,7 +16,7 @@ use Rattle.yaml_spell.proofs.ShownLaws.{map-twice}
 use Rattle.yaml_show_scalar.specs.Scalars.{scalar_text, scalar_lines}
 use Rattle.yaml_show_scalar.specs.declared.scalar.Quotes.TheVariants.{WhereNeeded}
 use Rattle.yaml_show.specs.declared.place.Place.{Place}
-use Rattle.yaml_show.specs.declared.place.Place.TheVariants.{Root, Value, Item}
+use Rattle.yaml_show.specs.declared.place.Place.TheVariants.{Value, Item}
 use Rattle.yaml_show.specs.Flow.{is_short, flow_text, key_text, fits, all_fit}
 use Rattle.yaml_show.specs.Layout.{space, is_root, lines_at, goes_on, head, deepest, no_items, no_entries, empty_text, one_line, before_part, node_lines, item_lines, entry_lines, document_lines, shown_text}
 

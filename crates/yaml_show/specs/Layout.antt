@@ -1,5 +1,5 @@
 -- Trees in block style, a line for each entry and item (YAML 1.2.2, 8.2). The trees are arranged.
-use Rattle.std.specs.Prelude.{ℕ, zero, suc, Bool, true, false, not, ◌||◌, cond, nat_le, List, [], ◌∷◌, ◌++◌, codes, flat_map}
+use Rattle.std.specs.Prelude.{ℕ, suc, Bool, true, false, not, ◌||◌, cond, nat_le, List, [], ◌∷◌, ◌++◌, codes, flat_map}
 use Rattle.yaml_definitions.specs.model.Tag.{seq_tag, map_tag}
 use Rattle.yaml_definitions.specs.model.Tree.{Tree, Trees, Pairs, scalar, sequence, mapping, end, item, done, entry}
 use Rattle.yaml_show_scalar.specs.Scalars.{scalar_lines, indentation}

@@ -1,7 +1,7 @@
 -- Streams that mean the same are shown as the same bytes.
-use Rattle.std.proofs.Common.{◌≡◌, ◌⊎◌, inl, inr, ℕ, ◌≤◌, Bool, true, false, List, [], ◌∷◌, ◌++◌, length, map, refl, sym, ◌∙◌, ap, subst, arith}
+use Rattle.std.proofs.Common.{◌≡◌, inl, inr, ℕ, ◌≤◌, List, [], ◌∷◌, ◌++◌, length, map, refl, sym, ◌∙◌, ap, subst, arith}
 use Rattle.std.specs.Cmp.Lexicographic.{pointwise}
-use Rattle.std.specs.Prelude.{encode_utf8_all}
+use Rattle.std.specs.Prelude.{encode_utf8_all, Option, Some, None, IfNone}
 use Rattle.std.proofs.lemmas.List.{append-nil}
 use Rattle.yaml_definitions.specs.model.Limits.{height_limit, text_limit}
 use Rattle.yaml_definitions.specs.model.Tree.{Tree, height}
@@ -88,6 +88,10 @@ nothing_meant f m =
     one_meaning [] f u.forest m (subst (λ z. Means z u.forest) no_bytes u.means) ∙ none_alike u.forest u.alike
 
 -- ---- what is shown
+
+pub when_none : {T P : Type 0} (o : Option T) → o ≡ None → IfNone o P → P
+when_none None e h = h
+when_none (Some x) e h = absurd (cc)
 
 -- the text of the documents of a store that holds this stream and an empty one
 pub readable_is : (bytes text : List ℕ) (f lefts rights all : List Tree) → Means bytes lefts → Means [] rights → all ≡ lefts ++ rights → text ≡ shown_text (map arranged all) → Means bytes f → text ≡ readable f

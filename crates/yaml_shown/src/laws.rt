@@ -2,7 +2,6 @@
 ghost use Rattle.yaml_shown.specs.Shows.{SameIsShownAlike};
 
 /// Streams that mean the same are shown as the same bytes.
-#[tactic(auto, using(crate::proofs::AlikeLaws::same_is_shown_alike))]
 pub fn same_is_shown_alike()
     ensures { SameIsShownAlike }
 {}

@@ -1,4 +1,4 @@
-use Rattle.std.proofs.Common.{rules, arith, ap, get_or}
+use Rattle.std.proofs.Common.{arith, ap, get_or}
 use Rattle.yaml_show_scalar.proofs.TagLaws.{encoded_next}
 use Rattle.yaml_show_scalar.proofs.tag.put_encoded.Goals as goal
 

@@ -1,5 +1,4 @@
 use Rattle.std.proofs.Common.{◌≡◌, ◌++◌, [], drop}
-use Rattle.std.specs.Prelude.{codes}
 use Rattle.std.specs.Str.{encode_utf8_all}
 use Rattle.yaml_definitions.specs.canonical.TagText.{encoded}
 use Rattle.yaml_show_scalar.specs.Texts.{written}
