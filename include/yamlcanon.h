@@ -13,7 +13,7 @@
  *   - no pointer is null, but input, left and right where their length is 0, and out and each room where its cap is 0;
  *   - malloc, realloc and free of one allocator; no call from a signal handler, or from the forked child of a process
  *     with threads;
- *   - 1,792 KiB of stack. The deepest input takes 1,380 kB. Where the stack is smaller, as on threads that have 128 KiB
+ *   - 1,792 KiB of stack. The deepest input takes 1,400 kB. Where the stack is smaller, as on threads that have 128 KiB
  *     by default, such an input ends the process by a fault. An input of n bytes, up to 1,024, takes no more than
  *     256 + 1.5 * n KiB. yamlcanon_message, yamlcanon_position and those without arguments take less than 16 KiB.
  *
