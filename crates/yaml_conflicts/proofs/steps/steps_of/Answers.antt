@@ -8,18 +8,18 @@ add_side-requires-clause-covers c = let g = c.args.graph.now in let x = none-has
 pub add_side-requires-clause-steps : goal.add_side-requires-clause-steps
 add_side-requires-clause-steps c = no-steps c.args.graph.now c.new-steps.result.items c.new-steps.ensures.items
 
-pub add_side-2-requires-clause-covers : goal.add_side-2-requires-clause-covers
-add_side-2-requires-clause-covers c =
+pub add_side-requires-2-clause-covers : goal.add_side-requires-2-clause-covers
+add_side-requires-2-clause-covers c =
     let g = c.args.graph.now in
     let xs = c.add_side.new.steps.items in
     let n = none-has g xs in
     covers-of g c.args.sides.base None None None xs c.in_ok-add_side.ensures.side n n n
 
-pub add_side-2-requires-clause-steps : goal.add_side-2-requires-clause-steps
-add_side-2-requires-clause-steps c = c.in_ok-add_side.ensures.adds.within
+pub add_side-requires-2-clause-steps : goal.add_side-requires-2-clause-steps
+add_side-requires-2-clause-steps c = c.in_ok-add_side.ensures.adds.within
 
-pub add_side-3-requires-clause-covers : goal.add_side-3-requires-clause-covers
-add_side-3-requires-clause-covers c =
+pub add_side-requires-3-clause-covers : goal.add_side-requires-3-clause-covers
+add_side-requires-3-clause-covers c =
     let g = c.args.graph.now in
     let s = c.args.sides in
     let xs = c.add_side.new.steps.items in
@@ -27,11 +27,11 @@ add_side-3-requires-clause-covers c =
     let n = none-has g ys in
     covers-of g s.base s.ours None None ys (side-kept g s.base xs ys c.in_ok-add_side-2.ensures.adds c.in_ok-add_side.ensures.side) c.in_ok-add_side-2.ensures.side n n
 
-pub add_side-3-requires-clause-steps : goal.add_side-3-requires-clause-steps
-add_side-3-requires-clause-steps c = c.in_ok-add_side-2.ensures.adds.within
+pub add_side-requires-3-clause-steps : goal.add_side-requires-3-clause-steps
+add_side-requires-3-clause-steps c = c.in_ok-add_side-2.ensures.adds.within
 
-pub add_side-4-requires-clause-covers : goal.add_side-4-requires-clause-covers
-add_side-4-requires-clause-covers c =
+pub add_side-requires-4-clause-covers : goal.add_side-requires-4-clause-covers
+add_side-requires-4-clause-covers c =
     let g = c.args.graph.now in
     let s = c.args.sides in
     let xs = c.add_side.new.steps.items in
@@ -40,8 +40,8 @@ add_side-4-requires-clause-covers c =
     let b = side-kept g s.base ys zs c.in_ok-add_side-3.ensures.adds (side-kept g s.base xs ys c.in_ok-add_side-2.ensures.adds c.in_ok-add_side.ensures.side) in
     covers-of g s.base s.ours s.theirs None zs b (side-kept g s.ours ys zs c.in_ok-add_side-3.ensures.adds c.in_ok-add_side-2.ensures.side) c.in_ok-add_side-3.ensures.side (none-has g zs)
 
-pub add_side-4-requires-clause-steps : goal.add_side-4-requires-clause-steps
-add_side-4-requires-clause-steps c = c.in_ok-add_side-3.ensures.adds.within
+pub add_side-requires-4-clause-steps : goal.add_side-requires-4-clause-steps
+add_side-requires-4-clause-steps c = c.in_ok-add_side-3.ensures.adds.within
 
 pub returns-clause-covers : goal.returns-clause-covers
 returns-clause-covers c =
