@@ -1,0 +1,3 @@
+pub mod NodeLaws
+pub mod StepLaws
+pub mod WalkLaws

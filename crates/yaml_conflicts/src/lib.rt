@@ -1,0 +1,14 @@
+//! Where two changes of a tree conflict, and where a merge of them is not what it should be: the paths of which `Breaks` (`yaml_merge`) speaks.
+#![tactic(auto)]
+
+mod find;
+mod lists;
+mod parts;
+mod rules;
+mod shapes;
+pub mod sides;
+mod steps;
+pub mod walk;
+
+pub use sides::{Conflict, Found, Room, Sides, Step};
+pub use walk::conflicts;
