@@ -171,13 +171,22 @@ fn found_of<T: Files>(
     name: &str,
     order: Ordering,
 ) -> Result<Found, Fault> {
-    let mut found = match order {
+    let found = match order {
         Ordering::Less => one_found(rt, alloc, told.0, name, false)?,
         Ordering::Equal => both_found(rt, alloc, told, ignored, name)?,
         Ordering::Greater => one_found(rt, alloc, told.0, name, true)?,
     };
-    found.part.name = Some(name.to_string(alloc)?);
-    Ok(found)
+    let part = Part {
+        name: Some(name.to_string(alloc)?),
+        list: found.part.list,
+        shown: found.part.shown,
+        whole: found.part.whole,
+    };
+    Ok(Found {
+        part,
+        err: found.err,
+        status: found.status,
+    })
 }
 
 /// Writes the page, and answers the status: that of the files, unless the output fails or memory is refused.
