@@ -91,14 +91,9 @@ fn run<S: Shelf, R: Read + Drop, W: Write + Drop, E: Write + Drop>(
             diff_status(answer, &mut err)
         }
         Asked::DiffPage(page, asked, ignored) => {
-            let answer = diff_page(
-                shelf,
-                alloc,
-                (&asked, page),
-                &ignored,
-                &mut input,
-                &mut Counted::new(&mut out),
-            );
+            let mut out = Counted::new(out);
+            let drawn = (&asked, page);
+            let answer = diff_page(shelf, alloc, drawn, &ignored, &mut input, &mut out);
             diff_status(answer, &mut err)
         }
         Asked::FaultsPage(page, asked) => {
@@ -113,27 +108,13 @@ fn run<S: Shelf, R: Read + Drop, W: Write + Drop, E: Write + Drop>(
         }
         Asked::Faults(asked) => {
             let mut out = Counted::new(out);
-            reports(
-                shelf,
-                alloc,
-                Kind::Faults,
-                &asked,
-                &mut input,
-                &mut out,
-                &mut err,
-            )
+            let kind = Kind::Faults;
+            reports(shelf, alloc, kind, &asked, &mut input, &mut out, &mut err)
         }
         Asked::Warn(asked, warn) => {
             let mut out = Counted::new(out);
-            reports(
-                shelf,
-                alloc,
-                Kind::Warnings(&warn),
-                &asked,
-                &mut input,
-                &mut out,
-                &mut err,
-            )
+            let kind = Kind::Warnings(&warn);
+            reports(shelf, alloc, kind, &asked, &mut input, &mut out, &mut err)
         }
         Asked::Show(asked) => { show_files(shelf, alloc, &asked, &mut input, &mut out, &mut err) }
         Asked::Git(words) => git(shelf, alloc, &words, &mut out, &mut err),

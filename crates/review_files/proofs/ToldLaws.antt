@@ -7,7 +7,7 @@ use Rattle.yaml_canon.specs.Claims.{CanonicalRefuses}
 use Rattle.yaml_canon.specs.FaultPlaces.{TellsPlace}
 use Rattle.review_text.specs.Terminal.{terminal}
 use Rattle.review_args.specs.declared.words.Form.{Form}
-use Rattle.review_lines.specs.FaultLines.{TellsFault}
+use Rattle.review_faults.specs.FaultLines.{TellsFault}
 use Rattle.review_files.specs.Statuses.{fault_status}
 use Rattle.review_files.specs.Told.{TellsName, TellsFaults, TellsBoth, TellsNotCompared, side_name}
 use Rattle.review_files.specs.declared.rejected.Named.{Named}

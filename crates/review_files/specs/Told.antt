@@ -9,7 +9,7 @@ use Rattle.yaml_canon.specs.Claims.{IsCanonicalText, CanonicalRefuses}
 use Rattle.yaml_canon.specs.FaultPlaces.{TellsPlace}
 use Rattle.review_text.specs.Terminal.{terminal}
 use Rattle.review_args.specs.declared.words.Form.{Form}
-use Rattle.review_lines.specs.FaultLines.{TellsFault}
+use Rattle.review_faults.specs.FaultLines.{TellsFault}
 use Rattle.review_files.specs.Statuses.{fault_status, unread_status}
 use Rattle.review_files.specs.declared.rejected.Named.{Named}
 use Rattle.review_files.specs.declared.unread.Unread.{Unread}

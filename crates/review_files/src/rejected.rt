@@ -6,7 +6,7 @@ use crate::telling::{put_fault_line, put_unread};
 use crate::unread::{Unread, fault_status, greater};
 use review_args::Form;
 use review_compare::fault_of;
-use review_lines::put_fault;
+use review_faults::put_fault;
 use std::alloc::Global;
 use yaml_canon::Side;
 use yaml_text::fault::Fault;

@@ -1,7 +1,7 @@
 use Rattle.std.proofs.Common.{refl, ◌∙◌, ◌++◌, ap}
 use Rattle.std.specs.String.{string_bytes}
-use Rattle.review_lines.proofs.FaultLaws.{five_put, same_byte}
-use Rattle.review_lines.proofs.faults.put_lines.Goals as goal
+use Rattle.review_faults.proofs.FaultLaws.{five_put, same_byte}
+use Rattle.review_faults.proofs.faults.put_lines.Goals as goal
 
 pub returns : goal.returns
 returns c =

@@ -1,7 +1,7 @@
 //! Where in a file a fault is.
 ghost use Rattle.std.specs.Prelude.{◌≡◌, ◌≤◌, ◌+◌, ◌++◌, ℕ, List, drop, length, option_map, IfSome, IfOk, OnOk, string_bytes};
 ghost use Rattle.yaml_definitions.specs.model.Text.{mark_len};
-ghost use Rattle.review_lines.specs.FaultLines.{offset_in, names_event, HasOffset, IsPlaceAt, IsSpot, head, place_part, called, byte_part, BeginsLine, line_of, column_of, IsObject, TellsFault};
+ghost use Rattle.review_faults.specs.FaultLines.{offset_in, names_event, HasOffset, IsPlaceAt, IsSpot, head, place_part, called, byte_part, BeginsLine, line_of, column_of, IsObject, TellsFault};
 
 use review_args::Form;
 use review_hints::words::words_of;

@@ -1,8 +1,8 @@
 use Rattle.std.proofs.Common.{◌+◌, sym, subst}
 use Rattle.yaml_definitions.specs.model.Text.{mark_len}
 use Rattle.review_text.proofs.Pieces.{on_ok}
-use Rattle.review_lines.specs.FaultLines.{offset_in, IsSpot, IsForm}
-use Rattle.review_lines.proofs.faults.put_fault.Goals as goal
+use Rattle.review_faults.specs.FaultLines.{offset_in, IsSpot, IsForm}
+use Rattle.review_faults.proofs.faults.put_fault.Goals as goal
 
 pub returns-in-Line : goal.returns-in-Line
 returns-in-Line c =

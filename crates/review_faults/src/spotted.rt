@@ -1,7 +1,7 @@
 //! A fault of a file by its parts.
 ghost use Rattle.std.specs.Prelude.{drop, IfOk};
 ghost use Rattle.yaml_definitions.specs.model.Text.{mark_len};
-ghost use Rattle.review_lines.specs.Spotted.{IsSpotted};
+ghost use Rattle.review_faults.specs.Spotted.{IsSpotted};
 
 use crate::faults::{Told, find_told};
 use review_places::places::unmarked;

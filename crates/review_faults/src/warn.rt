@@ -1,7 +1,7 @@
 //! What tools of YAML 1.1 read otherwise in a file.
 use crate::faults::put_head;
-use crate::lines::put_more;
 use review_args::Form;
+use review_lines::lines::put_more;
 use review_places::places::{places, unmarked};
 use review_places::trace::trace_of;
 use review_places::trail::Trail;

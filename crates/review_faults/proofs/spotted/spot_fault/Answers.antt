@@ -1,7 +1,7 @@
 use Rattle.std.proofs.Common.{subst}
 use Rattle.yaml_definitions.specs.model.Text.{mark_len}
-use Rattle.review_lines.specs.FaultLines.{offset_in, IsSpot}
-use Rattle.review_lines.proofs.spotted.spot_fault.Goals as goal
+use Rattle.review_faults.specs.FaultLines.{offset_in, IsSpot}
+use Rattle.review_faults.proofs.spotted.spot_fault.Goals as goal
 
 pub returns : goal.returns
 returns c =
