@@ -3,7 +3,7 @@ use Rattle.std.specs.Prelude.{ℕ, zero, suc, Bool, false, ◌||◌, ◌&&◌, �
 use Rattle.std.specs.declared.option.Option.{Option}
 use Rattle.std.specs.declared.option.Option.TheVariants.{None, Some}
 use Rattle.yaml_definitions.specs.model.Core.{is_empty}
-use Rattle.yaml_show_scalar.specs.declared.out.Out.{Out}
+use Rattle.yaml_show_scalar.specs.declared.output.Out.{Out}
 
 -- what is written
 abbrev pub written : Out → List ℕ

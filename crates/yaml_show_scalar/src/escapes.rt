@@ -5,7 +5,7 @@ ghost use Rattle.yaml_show_scalar.specs.declared.escapes.Language.TheVariants.{Y
 ghost use Rattle.yaml_show_scalar.specs.Texts.{written};
 
 use crate::chars::is_unseen;
-use crate::out::Out;
+use crate::output::Out;
 use crate::stop::Stop;
 
 /// In which language a text is quoted.

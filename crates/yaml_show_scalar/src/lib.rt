@@ -6,7 +6,7 @@ pub mod chars;
 pub mod escapes;
 mod lines;
 pub mod number;
-pub mod out;
+pub mod output;
 pub mod plain;
 pub mod scalar;
 pub mod stop;

@@ -5,7 +5,7 @@ ghost use Rattle.yaml_show_scalar.specs.Scalars.{is_feed, body, literal_header, 
 ghost use Rattle.yaml_show_scalar.specs.Texts.{written};
 
 use crate::escapes::put_escaped;
-use crate::out::Out;
+use crate::output::Out;
 use crate::scalar::leads_blank;
 use crate::stop::Stop;
 use crate::texts::{byte_at, ends_in};

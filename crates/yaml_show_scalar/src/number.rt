@@ -4,7 +4,7 @@ ghost use Rattle.std.specs.List.{list_all};
 ghost use Rattle.yaml_show_scalar.specs.Numbers.{is_in_words, zeros_before, digits_before, is_digit, pointed, with_exponent, great_or, small_text, digits_text, float_text};
 ghost use Rattle.yaml_show_scalar.specs.Texts.{written};
 
-use crate::out::Out;
+use crate::output::Out;
 use crate::stop::Stop;
 use crate::texts::{behind, cut, ends_in};
 

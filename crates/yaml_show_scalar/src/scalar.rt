@@ -10,7 +10,7 @@ use crate::chars::is_unseen;
 use crate::escapes::put_quoted;
 use crate::lines::{body_of, put_broken, put_literal};
 use crate::number::put_float;
-use crate::out::Out;
+use crate::output::Out;
 use crate::plain::is_plain;
 use crate::stop::Stop;
 use crate::tag::{is_resolved, put_tag_before};

@@ -7,7 +7,7 @@ ghost use Rattle.yaml_definitions.specs.canonical.TagText.{spell_byte, encoded};
 ghost use Rattle.yaml_show_scalar.specs.Tags.{is_suffix_byte, is_suffix, suffix_behind, verbatim, other_text, tag_text, is_resolved, is_left_out, tag_before};
 ghost use Rattle.yaml_show_scalar.specs.Texts.{written};
 
-use crate::out::Out;
+use crate::output::Out;
 use crate::stop::Stop;
 use crate::texts::behind;
 use yaml_text::class::is_uri;
