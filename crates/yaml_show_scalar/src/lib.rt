@@ -13,6 +13,6 @@ pub mod stop;
 pub mod tag;
 mod texts;
 
-pub use out::Out;
+pub use output::Out;
 pub use scalar::Quotes;
 pub use stop::Stop;
