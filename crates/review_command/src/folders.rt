@@ -172,15 +172,8 @@ fn both_told<T: Files>(
     };
     match compare_sides(alloc, &with_names(asked, name, name), ignored, one, other) {
         Ok(compared) => put_compared(alloc, &mut told, asked, name, &compared)?,
-        Err(refused) => {
-            told.status = put_not_compared(
-                alloc,
-                &mut told.err,
-                first,
-                second,
-                refused,
-                asked.form,
-            )?;
+        Err((side, _)) => {
+            told.status = put_not_compared(alloc, &mut told.err, first, second, side, asked.form)?;
         }
     }
     Ok(told)
