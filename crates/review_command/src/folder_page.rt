@@ -155,8 +155,8 @@ fn both_found<T: Files>(
             err,
             status: if listed.same { SAME } else { DIFFERENT },
         }),
-        Err(why) => {
-            let status = put_not_compared(alloc, &mut err, first, second, why, asked.form)?;
+        Err((side, _)) => {
+            let status = put_not_compared(alloc, &mut err, first, second, side, asked.form)?;
             refused_found(alloc, first, second, (err, status))
         }
     }
