@@ -13,6 +13,8 @@ from .base import build, run, say, wrong
 
 # Up to how many bytes an input is tried under bounds of memory.
 BOUNDED = 100_000
+# How many inputs qemu has on threads.
+FEW = 40
 
 
 def runnable(machine, made):
@@ -70,7 +72,8 @@ def try_other(name, folder, own, inputs, try_made):
         try_made(built(machine, folder, "program", TOP + "/library/yamlcanon.c", folder + "/libyamlcanon.a", "-static"))
         say("%s: the program in C passes tools/examples programs and has the answers of the vectors" % machine.name)
     made = built(machine, folder, "test", TOP + "/library/test.c", folder + "/libyamlcanon.a", "-static", "-lpthread")
-    # Each input is tried under 65 bounds, which takes qemu minutes for a long one.
-    short = b"".join(line for line in some.splitlines(True) if os.path.getsize(line.strip()) <= BOUNDED)
-    for words, given in (((), some), (("threads", "8"), some), (("budget",), short), (("stack",), some + deepest)):
+    # Each input is tried under 65 bounds, which takes qemu minutes for a long one. So do threads, for many.
+    short = [line for line in some.splitlines(True) if os.path.getsize(line.strip()) <= BOUNDED]
+    shared = b"".join(short[:FEW]) if machine.runs else some
+    for words, given in (((), some), (("threads", "8"), shared), (("budget",), b"".join(short)), (("stack",), some + deepest)):
         say("%s: %s" % (machine.name, " ".join([*words, run(made, *words, input=given)])))
