@@ -3,3 +3,4 @@ pub mod BlockEnds
 pub mod OuterRules
 pub mod KeyFits
 pub mod BlockCalls
+pub mod DocumentCalls

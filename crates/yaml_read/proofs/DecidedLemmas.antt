@@ -24,8 +24,8 @@ use Rattle.law_going_on.specs.GoingOn.{Refused, Rest}
 use Rattle.law_going_on.proofs.GoingOn.{rest_goes, rest_refused, rest_rest, rest_seen, rest_left, rest_right}
 use Rattle.law_going_on.proofs.StreamRests.{directed_marked, no_directives, no_percent, no_bare}
 use Rattle.yaml_layout.specs.NodeAnswer.{Decides}
-use Rattle.yaml_read.specs.Decided.{DocumentEnd}
-use Rattle.yaml_read.specs.StreamRules.{after_mark, opened_by_mark, opened_bare, opened_by_directives}
+use Rattle.yaml_block.specs.DocumentCalls.{DocumentEnd, after_mark}
+use Rattle.yaml_read.specs.StreamRules.{opened_by_mark, opened_bare, opened_by_directives}
 
 -- what the rest decides
 pub decides_rest : {V W X : Type 0} {R : Rule V} {S : Rule W} {E F : End} (G : End) {i x : ℕ} (end : X → ℕ) (r : Result X Fault) → Rest R E i S F x → Decides S F x G end r → Decides R E i G end r

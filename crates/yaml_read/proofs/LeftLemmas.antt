@@ -11,8 +11,9 @@ use Rattle.law_one_reading.proofs.Documents.{ns_dot, mark_inside}
 use Rattle.law_going_on.specs.GoingOn.{Refused, Goes, Rest, Here}
 use Rattle.law_going_on.proofs.GoingOn.{rest_goes, rest_refused, rest_both}
 use Rattle.law_going_on.proofs.StreamRests.{Left, stream_left, left_suffix, no_suffix, left_marked, no_marked, left_unparted, no_unparted, no_second}
-use Rattle.yaml_read.specs.Decided.{DocumentEnd, HasNoReading}
-use Rattle.yaml_read.specs.StreamRules.{after_mark, opened_by_mark, opened_bare, opened_by_directives}
+use Rattle.yaml_block.specs.DocumentCalls.{DocumentEnd, after_mark}
+use Rattle.yaml_read.specs.Decided.{HasNoReading}
+use Rattle.yaml_read.specs.StreamRules.{opened_by_mark, opened_bare, opened_by_directives}
 use Rattle.yaml_read.proofs.DecidedLemmas.{rest_shown}
 
 module _ (cs : List ℕ) where

@@ -4,15 +4,9 @@ use Rattle.yaml_definitions.specs.model.Limits.{open_limit}
 use Rattle.yaml_definitions.specs.model.Event.{Event}
 use Rattle.yaml_definitions.specs.grammar.Streams.{ReadsText}
 use Rattle.yaml_definitions.specs.grammar.Nodes.{wide}
-use Rattle.law_one_reading.specs.Readings.{End}
-use Rattle.law_one_reading.specs.Follows.{Over, Follow}
 use Rattle.yaml_sink.specs.Held.{Puts}
 
 module _ (cs : List ℕ) where
-  -- how the text goes on after a document: comment lines, and then a mark or the end
-  abbrev pub DocumentEnd : End
-  DocumentEnd = Over cs (Follow cs 0 0)
-
   -- no other list of events is a reading of the whole text
   abbrev pub IsAlone : List Event → Type 0
   IsAlone es = (fs : List Event) → ReadsText cs wide open_limit fs → fs ≡ es

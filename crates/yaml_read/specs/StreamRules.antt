@@ -4,13 +4,13 @@ use Rattle.yaml_definitions.specs.model.Limits.{open_limit}
 use Rattle.yaml_text.specs.Source.{text_of, place_of, IsBorder}
 use Rattle.yaml_definitions.specs.model.Event.{Event, document_start}
 use Rattle.yaml_text.specs.declared.chars.Chars.{Chars}
-use Rattle.yaml_definitions.specs.grammar.Rules.{Rule, ◌◂◌, ◌∪◌, gives, seen}
-use Rattle.yaml_definitions.specs.grammar.Separation.{AtEnd, DocumentMark, s-l-comments as s_l_comments}
+use Rattle.yaml_definitions.specs.grammar.Rules.{Rule, seen}
+use Rattle.yaml_definitions.specs.grammar.Separation.{AtEnd, DocumentMark}
 use Rattle.yaml_definitions.specs.grammar.Tags.{Handles}
-use Rattle.yaml_definitions.specs.grammar.Events.{no_props, e-scalar as empty}
 use Rattle.yaml_definitions.specs.grammar.Streams.{document_mark, l-bare-document as bare_document, l-directive-document as directive_document}
 use Rattle.yaml_definitions.specs.grammar.Nodes.{wide}
 use Rattle.yaml_layout.specs.declared.line.Line.{Line}
+use Rattle.yaml_block.specs.DocumentCalls.{after_mark}
 use Rattle.yaml_read.specs.declared.stream.Next.{Next}
 use Rattle.yaml_read.specs.declared.stream.Next.TheVariants.{End, Suffix, Explicit, Content}
 
@@ -28,13 +28,9 @@ NextIs source line (Explicit after) = IsMarkOf source 45 line.start after
 NextIs source line Content = (AtEnd (text_of source) (place_of source line.start) → ⊥) × (DocumentMark (text_of source) (place_of source line.start) → ⊥)
 
 module _ (cs : List ℕ) where
-  -- what stands after a document's mark
-  abbrev pub after_mark : Handles → Rule (List Event)
-  after_mark handles = bare_document cs wide open_limit handles ∪ (gives (empty no_props) ◂ s_l_comments cs)
-
   -- a document's events with its start, as it opens
   abbrev pub opened_by_mark : Handles → Rule (List Event)
-  opened_by_mark handles = seen (λ es. document_start true ∷ es) (after_mark handles)
+  opened_by_mark handles = seen (λ es. document_start true ∷ es) (after_mark cs handles)
 
   abbrev pub opened_bare : Rule (List Event)
   opened_bare = seen (λ es. document_start false ∷ es) (bare_document cs wide open_limit [])

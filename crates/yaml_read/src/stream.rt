@@ -14,14 +14,13 @@ ghost use Rattle.yaml_definitions.specs.grammar.Separation.{StartsLine, Document
 ghost use Rattle.yaml_definitions.specs.grammar.Streams.{ReadsText};
 ghost use Rattle.yaml_definitions.specs.grammar.Nodes.{wide};
 ghost use Rattle.yaml_text.specs.LeafAnswer.{IsRefusal};
-ghost use Rattle.law_going_on.specs.GoingOn.{Here};
-ghost use Rattle.yaml_layout.specs.NodeAnswer.{Appends, Decides};
 ghost use Rattle.yaml_text.specs.Placed.{IsPlaced};
 ghost use Rattle.yaml_sink.specs.Held.{Puts};
 ghost use Rattle.yaml_sink.specs.SinkModel.{holds_of};
 ghost use Rattle.yaml_layout.specs.Lines.{IsLine};
 ghost use Rattle.yaml_mark.specs.HandlesModel.{handles_of};
-ghost use Rattle.yaml_read.specs.Decided.{DocumentEnd, IsAlone, HasNoReading, PutsReading};
+ghost use Rattle.yaml_block.specs.DocumentCalls.{ReadsDocument, DecidesDocument};
+ghost use Rattle.yaml_read.specs.Decided.{IsAlone, HasNoReading, PutsReading};
 ghost use Rattle.yaml_read.specs.Sofar.{document_closing};
 ghost use Rattle.yaml_read.specs.StreamRules.{IsMarkOf, NextIs, opened_by_mark, opened_bare, opened_by_directives};
 
@@ -121,8 +120,8 @@ fn read_explicit<'a, K: Keeper>(
     requires { IsBorder source.now after }
     ensures line { IfOk result (IsLine source.now) }
     ensures onward { IfOk result (λ line. after ≤ line.start) }
-    ensures reads { Appends (λ _. opened_by_mark (text_of source.now) (handles_of handles.entry)) (place_of source.now after) (λ line. place_of source.now line.start) (holds_of K.holds) out.old out.new result }
-    ensures decides { Decides (opened_by_mark (text_of source.now) (handles_of handles.entry)) (DocumentEnd (text_of source.now)) (place_of source.now after) Here (λ line. place_of source.now line.start) result }
+    ensures reads { ReadsDocument (opened_by_mark (text_of source.now) (handles_of handles.entry)) source.now after (holds_of K.holds) out.old out.new result }
+    ensures decides { DecidesDocument (opened_by_mark (text_of source.now) (handles_of handles.entry)) source.now after result }
     ensures placed { IfErr result (IsPlaced source.now) }
 {
     out.push(Event::DocumentStart { explicit: true }, mark)?;
@@ -141,8 +140,8 @@ fn read_directed<'a, K: Keeper>(
     requires start { StartsLine (text_of source.now) (place_of source.now at) }
     ensures line { IfOk result (IsLine source.now) }
     ensures onward { IfOk result (λ line. at ≤ line.start) }
-    ensures reads { Appends (λ _. opened_by_directives (text_of source.now)) (place_of source.now at) (λ line. place_of source.now line.start) (holds_of K.holds) out.old out.new result }
-    ensures decides { Decides (opened_by_directives (text_of source.now)) (DocumentEnd (text_of source.now)) (place_of source.now at) Here (λ line. place_of source.now line.start) result }
+    ensures reads { ReadsDocument (opened_by_directives (text_of source.now)) source.now at (holds_of K.holds) out.old out.new result }
+    ensures decides { DecidesDocument (opened_by_directives (text_of source.now)) source.now at result }
     ensures placed { IfErr result (IsPlaced source.now) }
 {
     let (handles, end) = read_directives(alloc, source, at)?;
@@ -169,8 +168,8 @@ fn read_unmarked<'a, K: Keeper>(
     requires start { StartsLine (text_of source.now) (place_of source.now line.start) }
     ensures line { IfOk result (IsLine source.now) }
     ensures onward { IfOk result (λ next. line.start ≤ next.start) }
-    ensures reads { Appends (λ _. opened_bare (text_of source.now)) (place_of source.now line.start) (λ line. place_of source.now line.start) (holds_of K.holds) out.old out.new result }
-    ensures decides { Decides (opened_bare (text_of source.now)) (DocumentEnd (text_of source.now)) (place_of source.now line.start) Here (λ next. place_of source.now next.start) result }
+    ensures reads { ReadsDocument (opened_bare (text_of source.now)) source.now line.start (holds_of K.holds) out.old out.new result }
+    ensures decides { DecidesDocument (opened_bare (text_of source.now)) source.now line.start result }
     ensures placed { IfErr result (IsPlaced source.now) }
 {
     out.push(Event::DocumentStart { explicit: false }, line.start)?;
@@ -188,8 +187,8 @@ fn read_first<'a, K: Keeper>(
     requires start { StartsLine (text_of source.now) (place_of source.now line.start) }
     ensures line { IfOk result (IsLine source.now) }
     ensures onward { IfOk result (λ next. line.start ≤ next.start) }
-    ensures reads { Appends (λ _. opened_bare (text_of source.now) ∪ opened_by_directives (text_of source.now)) (place_of source.now line.start) (λ line. place_of source.now line.start) (holds_of K.holds) out.old out.new result }
-    ensures decides { Decides (opened_bare (text_of source.now) ∪ opened_by_directives (text_of source.now)) (DocumentEnd (text_of source.now)) (place_of source.now line.start) Here (λ next. place_of source.now next.start) result }
+    ensures reads { ReadsDocument (opened_bare (text_of source.now) ∪ opened_by_directives (text_of source.now)) source.now line.start (holds_of K.holds) out.old out.new result }
+    ensures decides { DecidesDocument (opened_bare (text_of source.now) ∪ opened_by_directives (text_of source.now)) source.now line.start result }
     ensures placed { IfErr result (IsPlaced source.now) }
 {
     match accept(source, line.start, '%') {

@@ -35,6 +35,10 @@ pub record PlaceSettled (rank : ℕ → ℕ) (place : Place) (is : List ℕ) (es
 abbrev pub Rising : List ℕ → Type 0
 Rising level = (j k x y : ℕ) → j < k → slice_get level j ≡ Some x → slice_get level k ≡ Some y → x < y
 
+-- the places of the nodes' parts lie in lists of these lengths
+abbrev pub AllPartsWithin : ℕ → ℕ → List Node → Type 0
+AllPartsWithin is es nodes = (i : ℕ) (s : Node) → slice_get nodes i ≡ Some s → PartsWithin is es (place_of s)
+
 -- the parts of the nodes of this level have lower numbers than this
 abbrev pub LevelBelow : ℕ → List Node → List ℕ → List ℕ → List (ℕ × ℕ) → Type 0
 LevelBelow n nodes level is es = (k i : ℕ) (s : Node) → slice_get level k ≡ Some i → slice_get nodes i ≡ Some s → InsideBelow n (inside_of [] is es (place_of s))

@@ -1,12 +1,11 @@
 //! Parts overwritten by their ranks.
-ghost use Rattle.std.specs.Prelude.{◌≡◌, ℕ, [], ◌<◌, true, map, length, slice_index, Some, IfOk, IfErr, MatchOption};
-ghost use Rattle.std.specs.List.{All, slice_get};
+ghost use Rattle.std.specs.Prelude.{◌≡◌, [], ◌<◌, true, map, length, slice_index, IfOk, IfErr, MatchOption};
+ghost use Rattle.std.specs.List.{All};
 ghost use Rattle.std.specs.List.Sorted.{IsPermutation};
 ghost use Rattle.yaml_rank.specs.View.{InsideBelow};
 ghost use Rattle.yaml_rank.specs.Places.{IsFirstEqual};
-ghost use Rattle.yaml_store.specs.declared.nodes.Node.{Node};
 ghost use Rattle.yaml_store.specs.StoreModel.{place_of, inside_of, PartsWithin, Apart};
-ghost use Rattle.yaml_store_rank.specs.PartsModel.{two_ranks, key_ranks, KeysRise, PlaceSettled, Rising, LevelBelow, LevelSettled, RefusesLevel};
+ghost use Rattle.yaml_store_rank.specs.PartsModel.{two_ranks, key_ranks, KeysRise, PlaceSettled, Rising, AllPartsWithin, LevelBelow, LevelSettled, RefusesLevel};
 
 use crate::equal::{copy_keys, first_equal};
 use std::alloc::Global;
@@ -94,8 +93,9 @@ fn settle_one(
     }
 }
 
-/// Overwrites the parts of the nodes of one height by their ranks; two equal keys are refused. The keys
-/// are room for copies, whatever stands there.
+/// Overwrites the parts of the nodes of one height by their ranks; two equal keys are refused. The level has
+/// the numbers of nodes, each once, and no two nodes share a part, so that each part is overwritten once. The
+/// keys are room for copies, whatever stands there.
 pub(crate) fn settle(
     alloc: Global,
     nodes: &[Node],
@@ -107,7 +107,7 @@ pub(crate) fn settle(
 ) -> Result<(), Fault>
     requires numbers { All (λ i. i < length nodes.now) level.now }
     requires once { Rising level.now }
-    requires within { (i : ℕ) (s : Node) → slice_get nodes.now i ≡ Some s → PartsWithin (length items.old) (length entries.old) (place_of s) }
+    requires within { AllPartsWithin (length items.old) (length entries.old) nodes.now }
     requires apart { Apart nodes.now }
     requires below { LevelBelow (length ranks.now) nodes.now level.now items.old entries.old }
     ensures ok { IfOk result (λ _. LevelSettled (slice_index ranks.now) nodes.now level.now items.old entries.old items.new entries.new) }

@@ -1,9 +1,10 @@
 -- What the builder holds, as plain values.
-use Rattle.std.specs.Prelude.{◌≡◌, ◌⊎◌, ◌<◌, ℕ, Bool, List, [], ◌∷◌, ◌++◌, length, reverse, Option, Some, None, Ok}
+use Rattle.std.specs.Prelude.{◌≡◌, ◌⊎◌, ◌<◌, ℕ, Bool, List, [], ◌∷◌, ◌++◌, length, reverse, Option, Some, None, Result, Ok, IfOk}
 use Rattle.std.specs.List.{slice_get}
 use Rattle.yaml_definitions.specs.model.Tree.{Tree}
 use Rattle.yaml_definitions.specs.model.Event.{Anchor, Event, WrittenTag, sequence_start, sequence_end, mapping_start, mapping_end}
 use Rattle.yaml_definitions.specs.model.Serial.{Document}
+use Rattle.yaml_definitions.specs.model.Tag.{default_tag}
 use Rattle.yaml_definitions.specs.model.Core.{collection_tag}
 use Rattle.yaml_definitions.specs.model.Unfold.{Table, trees_of as trees_unfolded}
 use Rattle.yaml_graph.specs.ComposerSteps as machine
@@ -101,6 +102,19 @@ start_of Mapping flow a g = mapping_start flow a g
 abbrev pub end_of : Collection → Event
 end_of Sequence = sequence_end
 end_of Mapping = mapping_end
+
+-- From each state in which a node with this anchor was begun, and has this place among the anchored ones, so it is.
+abbrev pub FromBegun : TreeBuilder → Option ℕ → (Anchor → machine.State → Type 0) → Type 0
+FromBegun old place P = (a : Anchor) (s : machine.State) → Placed (names_of (machine.node_begun a s).table) place a (length s.table) → Holds old (machine.node_begun a s) → P a s
+
+-- a tag as it is written, which stands for the one of this kind of collection
+abbrev pub StandsForDefault : Collection → WrittenTag → Type 0
+StandsForDefault collection g = collection_tag (collection_number collection) g ≡ Ok (default_tag (collection_number collection))
+
+-- A collection whose node was begun begins, with a tag that stands for the one of its kind.
+abbrev pub OpensBare : {X E : Type 0} → Collection → (old : TreeBuilder) → Option ℕ → (new : TreeBuilder) → Result X E → Type 0
+OpensBare collection old place new result =
+    FromBegun old place (λ a s. (g : WrittenTag) → StandsForDefault collection g → (flow : Bool) → IfOk result (λ _. Stepped (start_of collection flow a g) s new))
 
 -- the documents unfold, no tree is higher than the limit, nor is one that a node of the store stands for, the roots stand for the trees, and the nodes have these places among those of the stream
 pub record IsForest (ds : List Document) (f : Forest) : Type 0 where

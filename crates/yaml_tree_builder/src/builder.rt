@@ -1,10 +1,8 @@
 //! From nodes, as they begin and end, to nodes of a store. Where a node has no tree it says why.
 ghost use Rattle.std.specs.Prelude.{◌≡◌, ℕ, Bool, false, List, ◌∷◌, ◌++◌, length, drop, None, Ok, IfOk, IfErr, MatchResult};
 ghost use Rattle.yaml_definitions.specs.model.Tree.{Tree};
-ghost use Rattle.yaml_definitions.specs.model.Event.{Anchor, Event, WrittenTag, untagged, document_start, mapping_start, alias_event};
+ghost use Rattle.yaml_definitions.specs.model.Event.{Anchor, Event, untagged, document_start, mapping_start, alias_event};
 ghost use Rattle.yaml_definitions.specs.model.Serial.{Document, stream_events};
-ghost use Rattle.yaml_definitions.specs.model.Tag.{default_tag};
-ghost use Rattle.yaml_definitions.specs.model.Core.{collection_tag};
 ghost use Rattle.yaml_sink.specs.PropertyRules.{props_of, props_in};
 ghost use Rattle.yaml_graph.specs.ComposerModel.{names_of, Placed};
 ghost use Rattle.yaml_graph.specs.ComposerSteps.{State, initial_state, node_begun, whole};
@@ -13,8 +11,7 @@ ghost use Rattle.yaml_store.specs.declared.store.Store.{Store};
 ghost use Rattle.yaml_tree_builder.specs.Reached.{Reaches, UnfoldTo};
 ghost use Rattle.yaml_tree_builder.specs.Nodes.{AreNodes};
 ghost use Rattle.yaml_tree_builder.specs.FirstsModel.{Comes};
-ghost use Rattle.yaml_tree_builder.specs.TagModel.{collection_number};
-ghost use Rattle.yaml_tree_builder.specs.BuilderModel.{with_store, Holds, Stepped, IsForest, AreForests, IsNumber, IsOnePlace, start_of, end_of};
+ghost use Rattle.yaml_tree_builder.specs.BuilderModel.{with_store, Holds, Stepped, IsForest, AreForests, IsNumber, IsOnePlace, start_of, end_of, OpensBare};
 ghost use Rattle.yaml_tree_builder.specs.BuilderLog.{Follows, SettlesAlone, SettlesKey};
 ghost use Rattle.yaml_graph.specs.Composed.{RefusesStream};
 ghost use Rattle.yaml_tree_builder.specs.Refusals.{Stops};
@@ -247,7 +244,7 @@ impl<'s> TreeBuilder<'s> {
 
     /// A collection with the tag of its kind begins, whose place among the anchored ones is this, if it has an anchor.
     fn begin_bare(&mut self, place: Option<usize>, collection: Collection) -> Result<(), NoMemory>
-        ensures { (a : Anchor) (g : WrittenTag) (s : State) → collection_tag (collection_number collection) g ≡ Ok (default_tag (collection_number collection)) → Placed (names_of (node_begun a s).table) place a (length s.table) → Holds self.old (node_begun a s) → (flow : Bool) → IfOk result (λ _. Stepped (start_of collection flow a g) s self.new) }
+        ensures { OpensBare collection self.old place self.new result }
     {
         let tag = self.core.collection(collection);
         let mark = self.stack.len();

@@ -1,5 +1,5 @@
 //! Scalars, put down as nodes of the builder's store.
-ghost use Rattle.std.specs.Prelude.{ℕ, length, None, Ok, IfOk, MatchResult};
+ghost use Rattle.std.specs.Prelude.{ℕ, None, Ok, IfOk, MatchResult};
 ghost use Rattle.std.specs.Cow.{cow_str_bytes};
 ghost use Rattle.yaml_definitions.specs.model.Tree.{scalar};
 ghost use Rattle.yaml_definitions.specs.model.Event.{Anchor, Style as PlainStyle, untagged, plain, scalar_event};
@@ -7,9 +7,9 @@ ghost use Rattle.yaml_text.specs.EventModel.{style_of};
 ghost use Rattle.yaml_core.specs.Kind.{kind_tag};
 ghost use Rattle.yaml_sink.specs.PropertyRules.{props_of, props_in};
 ghost use Rattle.yaml_graph.specs.ComposerModel.{names_of, Placed};
-ghost use Rattle.yaml_graph.specs.ComposerSteps.{State, node_begun, whole};
+ghost use Rattle.yaml_graph.specs.ComposerSteps.{State, whole};
 ghost use Rattle.yaml_tree_builder.specs.TagModel.{KeepsTexts};
-ghost use Rattle.yaml_tree_builder.specs.BuilderModel.{Holds, Stepped};
+ghost use Rattle.yaml_tree_builder.specs.BuilderModel.{Holds, Stepped, FromBegun};
 ghost use Rattle.yaml_tree_builder.specs.Refusals.{Stops};
 
 use crate::builder::TreeBuilder;
@@ -99,9 +99,9 @@ impl<'s> TreeBuilder<'s> {
         text: &mut CowStr<'_>,
         offset: usize,
     ) -> Result<(), Stop>
-        ensures { (a : Anchor) (s : State) → Placed (names_of (node_begun a s).table) place a (length s.table) → Holds self.old (node_begun a s) →
+        ensures { FromBegun self.old place (λ a s.
             let event = scalar_event a untagged plain (cow_str_bytes text.old) in
-            MatchResult result (λ _. Stepped event s self.new) (Stops event s) }
+            MatchResult result (λ _. Stepped event s self.new) (Stops event s)) }
     {
         let form = judge(text.as_str());
         let kind = form.kind();
@@ -124,9 +124,9 @@ impl<'s> TreeBuilder<'s> {
         text: &mut CowStr<'_>,
         offset: usize,
     ) -> Result<(), Stop>
-        ensures { (a : Anchor) (s : State) → Placed (names_of (node_begun a s).table) place a (length s.table) → Holds self.old (node_begun a s) →
+        ensures { FromBegun self.old place (λ a s.
             let event = scalar_event a untagged (style_of style) (cow_str_bytes text.old) in
-            MatchResult result (λ _. Stepped event s self.new) (Stops event s) }
+            MatchResult result (λ _. Stepped event s self.new) (Stops event s)) }
     {
         match style {
             Style::Plain => {

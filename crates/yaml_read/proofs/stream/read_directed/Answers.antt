@@ -8,7 +8,7 @@ use Rattle.yaml_read.proofs.StreamLemmas.{directed, directives_refusal}
 use Rattle.std.proofs.Common.{inr}
 use Rattle.law_going_on.specs.GoingOn.{Here}
 use Rattle.law_going_on.proofs.GoingOn.{rest_goes, rest_refused}
-use Rattle.yaml_read.specs.Decided.{DocumentEnd}
+use Rattle.yaml_block.specs.DocumentCalls.{DocumentEnd}
 use Rattle.yaml_read.proofs.DecidedLemmas.{decides_err, directed_fault, directed_unmarked, directed_rest}
 use Rattle.yaml_read.proofs.LeftLemmas.{either}
 use Rattle.yaml_read.proofs.stream.read_directed.Goals as goal

@@ -6,7 +6,7 @@ use Rattle.yaml_text.specs.Source.{text_of, place_of}
 use Rattle.yaml_definitions.specs.grammar.Streams.{l-bare-document as bare_document}
 use Rattle.yaml_read.proofs.StreamLemmas.{appends_after}
 use Rattle.law_going_on.proofs.GoingOn.{rest_seen}
-use Rattle.yaml_read.specs.Decided.{DocumentEnd}
+use Rattle.yaml_block.specs.DocumentCalls.{DocumentEnd}
 use Rattle.yaml_read.proofs.DecidedLemmas.{decides_rest}
 use Rattle.yaml_read.proofs.stream.read_unmarked.Goals as goal
 

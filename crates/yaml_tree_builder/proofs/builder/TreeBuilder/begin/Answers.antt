@@ -18,4 +18,4 @@ pub returns-in_ok-begin_bare-in-None : goal.returns-in_ok-begin_bare-in-None
 unfolding collection_tag
 returns-in_ok-begin_bare-in-None c = λ s h flow.
     let event : Props → Event = λ p. start_of c.args.collection flow p.anchor p.tag in
-    subst (λ p. Stepped (event p) s c.begin_bare.new.self) (sym (ap props_given c.in-None.is)) (c.in_ok-begin_bare-in-None.ensures None untagged s refl tt h flow)
+    subst (λ p. Stepped (event p) s c.begin_bare.new.self) (sym (ap props_given c.in-None.is)) (c.in_ok-begin_bare-in-None.ensures None s tt h untagged refl flow)

@@ -10,7 +10,7 @@ use Rattle.yaml_tree_builder.proofs.BuilderLaws.{begun-step, stack-length, keepi
 use Rattle.yaml_tree_builder.proofs.builder.TreeBuilder.begin_bare.Goals as goal
 
 pub returns : goal.returns
-returns c = λ a g s e w h flow.
+returns c = λ a s w h g e flow.
     let self = c.args.self.now in
     let tags = tags_of self.store in
     let ts = trees_of self.store in

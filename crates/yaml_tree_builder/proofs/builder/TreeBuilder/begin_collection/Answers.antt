@@ -8,4 +8,4 @@ pub returns : goal.returns
 returns c = λ s h flow.
     let p = props_in c.args.given.now in
     let b = c.in_ok-place.ensures s h in
-    c.in_ok-begin_bare.ensures p.anchor (written_of c.args.given.now.tag) s (default-is (collection_number c.args.collection) c.args.given.now.tag c.in_default.not-Full) b.0 b.1 flow
+    c.in_ok-begin_bare.ensures p.anchor s b.0 b.1 (written_of c.args.given.now.tag) (default-is (collection_number c.args.collection) c.args.given.now.tag c.in_default.not-Full) flow
