@@ -30,7 +30,7 @@ use Rattle.yaml_conflicts.specs.Found.{IsBelow, kinds_shape}
 
 -- ---- shapes
 
-counted : (f : NodeId → Tree) (items : List NodeId) → count_in (trees (map f items)) ≡ length items
+pub counted : (f : NodeId → Tree) (items : List NodeId) → count_in (trees (map f items)) ≡ length items
 counted f [] = refl
 counted f (i ∷ items) = ap suc (counted f items)
 

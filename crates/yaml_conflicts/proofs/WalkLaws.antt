@@ -29,7 +29,7 @@ use Rattle.yaml_conflicts.proofs.StepLaws.{step-self, step-back, step-trans, ste
 no-line : {X : Type 0} {x : X} (k : ℕ) → slice_get [] k ≡ Some x → ⊥
 no-line k e = absurd (cc)
 
-true-false : {x : Bool} → x ≡ true → x ≡ false → ⊥
+pub true-false : {x : Bool} → x ≡ true → x ≡ false → ⊥
 true-false e f = absurd (cc)
 
 -- ---- paths
@@ -49,7 +49,7 @@ breaks-like given q b o t m c p u n e f h i x = subst (λ z. Breaks given q z p 
 
 -- ---- what is not there
 
-nothing-breaks : (given : Bool) (q : Path) → Breaks given q None None None None → ⊥
+pub nothing-breaks : (given : Bool) (q : Path) → Breaks given q None None None None → ⊥
 nothing-breaks true [] x = true-false refl x.0
 nothing-breaks false [] x = true-false refl x.0
 nothing-breaks true (s ∷ q) x = true-false refl x.0
@@ -248,7 +248,7 @@ walked-first g given s steps f e w = record {
   cut = λ x. absurd (true-false w x);
 }
 
-and-either : (a b : Bool) → (a && b) ≡ false → (a ≡ false) ⊎ (b ≡ false)
+pub and-either : (a b : Bool) → (a && b) ≡ false → (a ≡ false) ⊎ (b ≡ false)
 and-either true b e = inr e
 and-either false b e = inl refl
 

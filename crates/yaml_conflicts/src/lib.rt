@@ -8,7 +8,9 @@ mod rules;
 mod shapes;
 pub mod sides;
 mod steps;
+pub mod streams;
 pub mod walk;
 
 pub use sides::{Conflict, Found, Room, Sides, Step};
+pub use streams::{Outcome, Roots, stream_conflicts};
 pub use walk::conflicts;

@@ -15,7 +15,7 @@ use yaml_graph::node::{NodeId, NodeKind};
 use yaml_rank::ranks::Ranks;
 
 /// The item at a place, if there is one.
-fn item_in(items: &[NodeId], place: usize) -> Option<NodeId>
+pub(crate) fn item_in(items: &[NodeId], place: usize) -> Option<NodeId>
     ensures { result ≡ slice_get items.now place }
 {
     items.get(place).copied()

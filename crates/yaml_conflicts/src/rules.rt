@@ -12,7 +12,12 @@ use yaml_graph::node::NodeId;
 use yaml_rank::ranks::Ranks;
 
 /// Whether two nodes have the same tree, or neither is there.
-fn is_alike(graph: &Graph<'_>, ranks: &Ranks, left: Option<NodeId>, right: Option<NodeId>) -> bool
+pub(crate) fn is_alike(
+    graph: &Graph<'_>,
+    ranks: &Ranks,
+    left: Option<NodeId>,
+    right: Option<NodeId>,
+) -> bool
     requires left { Within graph.now left }
     requires right { Within graph.now right }
     requires ranked { RanksAre graph.now ranks.now }
