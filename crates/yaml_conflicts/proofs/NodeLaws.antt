@@ -1,13 +1,10 @@
 -- Nodes of a graph: their values, shapes and parts.
-use Rattle.std.proofs.Common.{◌≡◌, ℕ, suc, ◌<◌, Bool, true, false, ◌&&◌, ◌==◌, List, [], ◌∷◌, map, length, inl, inr, refl, sym, ◌∙◌, ap, subst, arith}
-use Rattle.std.specs.Prelude.{Option, Some, None, Vec, bytes_eq}
-use Rattle.std.proofs.Common.{Global}
-use Rattle.std.specs.List.{slice_get, All}
+use Rattle.std.proofs.Common.{◌≡◌, ℕ, suc, ◌<◌, Bool, true, false, ◌&&◌, ◌==◌, List, [], ◌∷◌, map, length, refl, sym, ◌∙◌, ap, arith}
+use Rattle.std.specs.Prelude.{Option, Some, None, bytes_eq}
+use Rattle.std.specs.List.{slice_get}
 use Rattle.std.specs.Cow.{cow_str_bytes}
-use Rattle.std.proofs.lemmas.Bool.{eqb-true, eq-eqb}
 use Rattle.std.proofs.lemmas.Option.{slice_get_within}
 use Rattle.yaml_definitions.specs.model.Tree.{Tree}
-use Rattle.yaml_definitions.specs.model.Same.{same}
 use Rattle.yaml_graph.specs.TreeLists.{trees}
 use Rattle.yaml_graph.specs.GraphModel.{Entries, entries_of, items_of, node_tree, kind_tree}
 use Rattle.yaml_graph.specs.GraphView.{nodes_of, graph_trees, tree}
@@ -22,10 +19,10 @@ use Rattle.yaml_rank.specs.declared.ranks.Ranks.{Ranks}
 use Rattle.yaml_path.specs.Path.{Step, at_item, at_key, part}
 use Rattle.yaml_path.specs.Ways.{count_in}
 use Rattle.yaml_diff.specs.Lines.{trees_of}
-use Rattle.yaml_diff.specs.Found.{HasItems, HasEntries, IsValueOf}
-use Rattle.yaml_diff.proofs.Shapes.{item-part, item-only, entry-only, entry-within, value-ranked}
+use Rattle.yaml_diff.specs.Found.{HasItems, IsValueOf}
+use Rattle.yaml_diff.proofs.Shapes.{item-part, item-only, entry-within, value-ranked}
 use Rattle.yaml_diff.proofs.WalkLaws.{items-below}
-use Rattle.yaml_merge.specs.Merge.{alike, one_shape}
+use Rattle.yaml_merge.specs.Merge.{one_shape}
 use Rattle.yaml_conflicts.specs.Found.{IsBelow, kinds_shape}
 
 -- ---- shapes

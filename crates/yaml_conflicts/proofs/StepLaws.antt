@@ -1,16 +1,15 @@
 -- Steps, and the lists of them.
-use Rattle.std.proofs.Common.{◌≡◌, ℕ, zero, suc, ◌+◌, ◌<◌, ◌≤◌, Bool, true, false, ◌||◌, ◌⊎◌, List, [], ◌∷◌, ◌++◌, map, length, inl, inr, refl, sym, ◌∙◌, ap, subst, arith}
+use Rattle.std.proofs.Common.{◌≡◌, ℕ, zero, suc, ◌+◌, ◌<◌, true, ◌||◌, ◌⊎◌, List, [], ◌∷◌, ◌++◌, length, inl, inr, refl, sym, ◌∙◌, ap, subst, arith}
 use Rattle.std.specs.Prelude.{Option, Some, None}
 use Rattle.std.specs.Option.{is_some}
 use Rattle.std.specs.List.{slice_get}
 use Rattle.std.proofs.lemmas.Option.{slice_get_within}
-use Rattle.yaml_definitions.specs.model.Tree.{Tree, scalar, sequence, mapping}
-use Rattle.yaml_definitions.specs.model.Same.{same}
-use Rattle.yaml_definitions.proofs.Members.{or_either, or_left, or_right}
+use Rattle.yaml_definitions.specs.model.Tree.{Tree}
+use Rattle.yaml_definitions.proofs.Members.{or_either}
 use Rattle.yaml_definitions.proofs.Equivalence.{same_refl, same_sym, same_trans}
 use Rattle.yaml_graph.specs.TreeLists.{trees}
 use Rattle.yaml_graph.specs.GraphModel.{Entries}
-use Rattle.yaml_graph.specs.GraphView.{nodes_of, tree}
+use Rattle.yaml_graph.specs.GraphView.{tree}
 use Rattle.yaml_graph.proofs.GraphLaws.{get-more}
 use Rattle.yaml_graph.specs.declared.node.NodeId.{NodeId}
 use Rattle.yaml_graph.specs.declared.graph.Graph.{Graph}
@@ -25,7 +24,7 @@ use Rattle.yaml_diff.proofs.ListParts.{get-side, get-nth}
 use Rattle.yaml_conflicts.specs.declared.sides.Step as code
 use Rattle.yaml_conflicts.specs.declared.sides.Sides.{Sides}
 use Rattle.yaml_conflicts.specs.Found.{plain_of, StepWithin}
-use Rattle.yaml_conflicts.specs.Steps.{side_has, has_part, Stands, Covers, HasSide, HasPlaces, HasKeysBelow, HasKeys, StepsWithin, Adds}
+use Rattle.yaml_conflicts.specs.Steps.{side_has, Stands, Covers, HasSide, HasPlaces, HasKeysBelow, HasKeys, StepsWithin, Adds}
 
 -- ---- steps that are alike
 

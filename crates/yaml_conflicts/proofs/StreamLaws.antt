@@ -8,10 +8,9 @@ use Rattle.yaml_definitions.specs.model.Tree.{Tree}
 use Rattle.yaml_definitions.specs.model.Same.{same, same_trees}
 use Rattle.yaml_definitions.proofs.Members.{and_both, both_and}
 use Rattle.yaml_graph.specs.TreeLists.{trees}
-use Rattle.yaml_graph.specs.GraphView.{nodes_of}
 use Rattle.yaml_graph.specs.declared.node.NodeId.{NodeId}
 use Rattle.yaml_graph.specs.declared.graph.Graph.{Graph}
-use Rattle.yaml_path.specs.Path.{Path, Step, at_item, at_key, item_in, part_of}
+use Rattle.yaml_path.specs.Path.{Path, at_item, at_key, item_in, part_of}
 use Rattle.yaml_diff.specs.Lines.{tree_of, trees_of}
 use Rattle.yaml_diff.specs.Found.{Within, AllWithin}
 use Rattle.yaml_diff.proofs.Shapes.{item-there}
@@ -23,7 +22,7 @@ use Rattle.yaml_conflicts.specs.declared.sides.Sides.{Sides}
 use Rattle.yaml_conflicts.specs.declared.sides.Found.{Found}
 use Rattle.yaml_conflicts.specs.declared.streams.Roots.{Roots}
 use Rattle.yaml_conflicts.specs.Rooms.{is_spent}
-use Rattle.yaml_conflicts.specs.Found.{Finds, Spends, Line, lines_of, under, Listed, Lists, ListsOf}
+use Rattle.yaml_conflicts.specs.Found.{Finds, Spends, Line, lines_of, under, Listed, Lists}
 use Rattle.yaml_conflicts.specs.Streams.{stream, DocumentsAre, FindsDocuments}
 use Rattle.yaml_conflicts.proofs.NodeLaws.{counted}
 use Rattle.yaml_conflicts.proofs.WalkLaws.{true-false, nothing-breaks, settled-lists, ListsSome, some-first, some-next, and-either}
@@ -111,7 +110,7 @@ past-end f (x ∷ xs) (suc k) l = past-end f xs k (omega (arith, l))
 -- ---- the loop over documents
 
 -- steps to so many items, from this place on
-count-up : ℕ → ℕ → List code.Step
+abbrev pub count-up : ℕ → ℕ → List code.Step
 count-up start zero = []
 count-up start (suc n) = Item start ∷ count-up (suc start) n
 
@@ -123,6 +122,9 @@ count-at : (start n k : ℕ) → k < n → slice_get (count-up start n) k ≡ So
 count-at start zero k l = absurd (omega (arith, l))
 count-at start (suc n) zero l = let e : start ≡ start + 0 = omega arith in ap (λ z. Some (Item z)) e
 count-at start (suc n) (suc k) l = let e : suc start + k ≡ start + suc k = omega arith in count-at (suc start) n k (omega (arith, l)) ∙ ap (λ z. Some (Item z)) e
+
+all-at : (roots : List NodeId) (k : ℕ) → k < length roots → slice_get (all-steps roots) k ≡ Some (Item k)
+all-at roots k l = let e : 0 + k ≡ k = omega arith in count-at 0 (length roots) k l ∙ ap (λ z. Some (Item z)) e
 
 abbrev pub SomeOf : Graph → Bool → Roots → ℕ → List Line → Bool → Type 0
 SomeOf g given r n lines w = ListsSome g given (stream g r.base.now) (stream g r.ours.now) (stream g r.theirs.now) (stream g r.merge.now) (all-steps r.base.now) n lines w
@@ -154,7 +156,7 @@ stream-next g given r s n old more new f e l w d m u el er ew =
     let a = at_item n in
     let k = lists-like g given (trees_of g s.base) (trees_of g s.ours) (trees_of g s.theirs) (trees_of g s.merge) (part_of b a) (part_of o a) (part_of t a) (part_of z a) (lines_of more) more.whole (document-part g r.base.now n s.base d.base) (document-part g r.ours.now n s.ours d.ours) (document-part g r.theirs.now n s.theirs d.theirs) (document-part g r.merge.now n s.merge d.merge) m in
     record {
-      lists = some-next g given b o t z (all-steps r.base.now) n (Item n) (lines_of old) (lines_of more) (lines_of new) old.whole more.whole new.whole f e (count-at 0 (length r.base.now) n l) w.lists k el ew;
+      lists = some-next g given b o t z (all-steps r.base.now) n (Item n) (lines_of old) (lines_of more) (lines_of new) old.whole more.whole new.whole f e (all-at r.base.now n l) w.lists k el ew;
       cut = λ y. ap is_spent er ∙ elim (and-either old.whole more.whole (sym ew ∙ y)) [ inl x ↦ u.stays (w.cut x) | inr x ↦ u.cut x ];
     }
 
@@ -196,7 +198,7 @@ stream-done g given r n f e a w = record {
     by : f.whole ≡ true → (q : Path) → Breaks given q b o t m → Listed g q (lines_of f)
     by p [] x = absurd (true-false e x.1)
     by p (at_item k ∷ q) x = elim (less-or k (length r.base.now)) [
-      | inl l ↦ w.lists.whole p k (Item k) q (omega (arith, l, a)) (count-at 0 (length r.base.now) k l) x.2
+      | inl l ↦ w.lists.whole p k (Item k) q (omega (arith, l, a)) (all-at r.base.now k l) x.2
       | inr l ↦ absurd (past k q l x.2)
     ]
     by p (at_key y ∷ q) x = absurd (nothing-breaks given q x.2)

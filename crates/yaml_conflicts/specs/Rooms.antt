@@ -1,5 +1,5 @@
 -- How much may be looked at and told.
-use Rattle.std.specs.Prelude.{◌≡◌, ℕ, Bool, ◌||◌, ◌==◌}
+use Rattle.std.specs.Prelude.{Bool, ◌||◌, ◌==◌}
 use Rattle.yaml_conflicts.specs.declared.sides.Room.{Room}
 
 -- there is no room for another place or line

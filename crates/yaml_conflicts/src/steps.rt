@@ -130,7 +130,8 @@ fn add_side(
     match &graph.node(id).kind {
         NodeKind::Scalar(_) => Ok(()),
         NodeKind::Sequence(items) => {
-            add_places(steps, graph, ranks, items.len(), earlier)?;
+            let list: &[NodeId] = items;
+            add_places(steps, graph, ranks, list.len(), earlier)?;
             Ok(())
         }
         NodeKind::Mapping(entries) => {

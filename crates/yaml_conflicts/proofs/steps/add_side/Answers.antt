@@ -1,9 +1,9 @@
-use Rattle.std.proofs.Common.{◌≡◌, refl, sym, ◌∙◌, ap, subst, arith}
+use Rattle.std.proofs.Common.{sym, ◌∙◌, ap, subst, arith}
 use Rattle.yaml_path.specs.Path.{part_of}
 use Rattle.yaml_diff.specs.Lines.{trees_of}
 use Rattle.yaml_diff.specs.Found.{Within}
 use Rattle.yaml_diff.proofs.Shapes.{entry-within}
-use Rattle.yaml_conflicts.specs.Steps.{HasPlaces, HasSide}
+use Rattle.yaml_conflicts.specs.Steps.{HasSide}
 use Rattle.yaml_conflicts.proofs.NodeLaws.{scalar-part}
 use Rattle.yaml_conflicts.proofs.StepLaws.{adds-none, none-side, items-side, keys-side}
 use Rattle.yaml_conflicts.proofs.steps.add_side.Goals as goal
@@ -20,8 +20,7 @@ pub returns-in_ok-add_places-in-Sequence-clause-side : goal.returns-in_ok-add_pl
 returns-in_ok-add_places-in-Sequence-clause-side c =
     let g = c.args.graph.now in
     let new = c.add_places.new.steps.items in
-    let p = subst (λ z. HasPlaces g z new) c.len.ensures c.in_ok-add_places.ensures.places in
-    subst (λ z. HasSide g z new) (sym c.in-Some.is) (items-side g c.in-Some.id c.in-Sequence.items.items new (record { node = c.node.result.now; is = c.node.ensures; list = c.in-Sequence.items; kind = c.in-Sequence.is; listed = refl }) p)
+    subst (λ z. HasSide g z new) (sym c.in-Some.is) (items-side g c.in-Some.id c.deref-list.result.now new (record { node = c.node.result.now; is = c.node.ensures; list = c.in-Sequence.items; kind = c.in-Sequence.is; listed = c.deref-list.ensures.value }) c.in_ok-add_places-in-Sequence.ensures.places)
 
 pub add_keys-requires-clause-keys : goal.add_keys-requires-clause-keys
 add_keys-requires-clause-keys c k p e =
@@ -34,4 +33,4 @@ pub returns-in_ok-add_keys-in-Mapping-clause-side : goal.returns-in_ok-add_keys-
 returns-in_ok-add_keys-in-Mapping-clause-side c =
     let g = c.args.graph.now in
     let new = c.add_keys.new.steps.items in
-    subst (λ z. HasSide g z new) (sym c.in-Some.is) (keys-side g c.args.ranks.now c.requires.ranked c.in-Some.id c.deref.result.now new (record { node = c.node.result.now; is = c.node.ensures; list = c.in-Mapping.entries; kind = c.in-Mapping.is; listed = c.deref.ensures.value }) c.in_ok-add_keys.ensures.keys)
+    subst (λ z. HasSide g z new) (sym c.in-Some.is) (keys-side g c.args.ranks.now c.requires.ranked c.in-Some.id c.deref.result.now new (record { node = c.node.result.now; is = c.node.ensures; list = c.in-Mapping.entries; kind = c.in-Mapping.is; listed = c.deref.ensures.value }) c.in_ok-add_keys-in-Mapping.ensures.keys)

@@ -1,4 +1,4 @@
-use Rattle.std.proofs.Common.{◌++◌, ◌∷◌, [], sym, ◌∙◌, subst}
+use Rattle.std.proofs.Common.{sym, ◌∙◌, subst}
 use Rattle.yaml_conflicts.specs.Found.{plain_of}
 use Rattle.yaml_conflicts.specs.Steps.{Adds, Stands}
 use Rattle.yaml_conflicts.proofs.StepLaws.{adds-none, adds-more, stands-last}

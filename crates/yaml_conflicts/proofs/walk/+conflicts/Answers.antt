@@ -1,10 +1,7 @@
-use Rattle.std.proofs.Common.{◌≡◌, ◌<◌, length, get_or, sym, ◌∙◌, ap, subst, arith}
-use Rattle.std.specs.Prelude.{Some}
-use Rattle.std.specs.List.{slice_get}
+use Rattle.std.proofs.Common.{◌<◌, length, get_or, sym, ◌∙◌, subst, arith}
 use Rattle.std.proofs.lemmas.Option.{slice_get-get_or}
 use Rattle.yaml_conflicts.specs.Found.{lines_of}
 use Rattle.yaml_conflicts.specs.Steps.{Covers, StepsWithin}
-use Rattle.yaml_conflicts.specs.declared.sides.Step as code
 use Rattle.yaml_conflicts.specs.declared.sides.Step.TheVariants.{Item}
 use Rattle.yaml_conflicts.proofs.WalkLaws.{settled-lists, cut-lists, none-spends, cut-spends, one-found, one-spends, walked-first, walked-next, walked-done, spends-some, total-less, parts-within}
 use Rattle.yaml_conflicts.proofs.walk.+conflicts.Goals as goal
