@@ -1,6 +1,9 @@
 -- From the paths that are found to what is said of a merge.
-use Rattle.std.proofs.Common.{◌≡◌, ℕ, zero, suc, ◌<◌, Bool, true, false, cond, List, [], ◌∷◌, ◌++◌, map, length, refl, sym, ◌∙◌, ap, subst}
-use Rattle.std.specs.Prelude.{Option, Some, None}
+use Rattle.std.proofs.Common.{◌≡◌, ℕ, zero, suc, ◌<◌, ◌==◌, Bool, true, false, cond, List, [], ◌∷◌, ◌++◌, map, length, refl, sym, ◌∙◌, ap, subst, arith}
+use Rattle.std.specs.Prelude.{Option, Some, None, Result, Ok, Err, IfOk}
+use Rattle.std.proofs.lemmas.Bool.{eqb-true}
+use Rattle.yaml_text.specs.declared.fault.Fault.{Fault}
+use Rattle.yaml_merge.proofs.RuleLaws.{not-true}
 use Rattle.std.specs.List.{slice_get}
 use Rattle.yaml_definitions.specs.model.Tree.{Tree}
 use Rattle.yaml_graph.specs.GraphView.{nodes_of, roots_of, tree, forest}
@@ -29,7 +32,9 @@ no-line k e = absurd (cc)
 found-decided : (g : Graph) (given : Bool) (b o t m : Option Tree) (list : List Conflict) (w : Bool) → Lists g given b o t m (map line_of list) w → Decides given b o t m (found_verdict list w)
 found-decided g given b o t m [] true l = λ p x. let r = l.whole refl p x in no-line r.0 r.2
 found-decided g given b o t m [] false l = tt
-found-decided g given b o t m (d ∷ list) w l = (path_of g (line_of d).0, (l.each 0 (line_of d) refl).breaks)
+found-decided g given b o t m (d ∷ list) w l =
+    let e = not-true (length (d ∷ list) == 0) (λ h. let q = eqb-true (length (d ∷ list)) 0 h in absurd (omega (arith, q))) in
+    subst (λ z. Decides given b o t m (cond z (cond w (Some true) None) (Some false))) (sym e) (path_of g (line_of d).0, (l.each 0 (line_of d) refl).breaks)
 
 pub streams-decided : (g : Graph) (given : Bool) (r : Roots) (outcome : Outcome) → FindsStreams g given r outcome → Decides given (stream g r.base.now) (stream g r.ours.now) (stream g r.theirs.now) (stream g r.merge.now) (verdict outcome)
 streams-decided g given r Streams h = ([], h)
@@ -80,3 +85,7 @@ module _ (f : Four) (given : Bool) (r : Roots) (is : RootsAre f given r) where
         let d3 = subst (λ x. Decides given (stream_of are.bases) (stream_of are.ours) (stream_of x) (stream g r.merge.now) v) parts.theirs d2 in
         let d4 = subst (λ x. Decides given (stream_of are.bases) (stream_of are.ours) (stream_of are.theirs) (stream_of x) v) z d3 in
         says given are.bases are.ours are.theirs are.others v (keyed-stream g r.base.now are.bases are.ranked.keyed within.base parts.base) (keyed-stream g r.ours.now are.ours are.ranked.keyed within.ours parts.ours) (keyed-stream g r.theirs.now are.theirs are.ranked.keyed within.theirs parts.theirs) d4
+
+    pub answer-judged : (answer : Result Outcome Fault) → IfOk answer (FindsStreams g given r) → IfOk answer (λ x. Says given are.bases are.ours are.theirs are.others (verdict x))
+    answer-judged (Ok x) h = judged x h
+    answer-judged (Err e) h = tt

@@ -7,6 +7,16 @@ judge-requires c =
     let b = c.args.bytes.now in
     (b.base.items, b.ours.items, b.theirs.items, b.result.items, c.in_ok-four.ensures b.base.items b.ours.items b.theirs.items b.result.items c.in_ok-first.ensures c.in_ok-second.ensures)
 
+pub roots_of-requires : goal.roots_of-requires
+roots_of-requires c =
+    let b = c.args.bytes.now in
+    (b.base.items, b.ours.items, b.theirs.items, b.result.items, c.in_ok-four.ensures b.base.items b.ours.items b.theirs.items b.result.items c.in_ok-first.ensures c.in_ok-second.ensures)
+
+pub text_of-requires : goal.text_of-requires
+text_of-requires c =
+    let b = c.args.bytes.now in
+    (c.in_ok-four.ensures b.base.items b.ours.items b.theirs.items b.result.items c.in_ok-first.ensures c.in_ok-second.ensures).ranked
+
 pub returns : goal.returns
 returns c =
     let b = c.args.bytes.now in
