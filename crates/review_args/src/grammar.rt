@@ -98,7 +98,7 @@ const DIFF: [Row; 13] = [
     Row {
         id: "by",
         takes: Takes::Keys,
-        help: "Pair items first by the values of these keys, parted by commas: `host,spec.id`",
+        help: "Pair items first by the values of these keys, parted by commas: `host,spec.id`; repeatable",
     },
     Row {
         id: "color",
@@ -261,7 +261,7 @@ fn arg_of<'a>(alloc: Global, row: &Row) -> Result<Arg<'a>, AllocError> {
         Takes::OneOf(name, words) => {
             Ok(one_of(arg, row, name, words.as_slice()).default_value(words[0]))
         }
-        Takes::Keys => Ok(arg.long(row.id).value_name("KEYS")),
+        Takes::Keys => Ok(texts(arg, row, "KEYS")),
         Takes::Names => arg.long(row.id).value_name("LIST").conflicts_with("FILE"),
         Takes::Digests => arg
             .long(row.id)

@@ -5,13 +5,14 @@ ghost use Rattle.review_command.specs.Runs.{AsksSum, SumRuns, AsksMerge, Does};
 ghost use Rattle.review_merge.specs.Merges.{no_merge_status};
 
 use crate::diff::{NoDiff, diff, diff_page};
+use crate::folder_page::folder_page;
 use crate::folders::folders;
 use crate::git::{git_asked, git_text, put_page};
 use crate::host::Host;
 use crate::names::are_folders;
 use crate::show::show_files;
 use clap::Error;
-use review_args::{Asked, Merge, Sum, in_order, read_words};
+use review_args::{Asked, Merge, Sum, in_order, read_keys, read_words};
 use review_files::telling::{UNUSABLE, put_line, tell_bare, tell_unread, tell_usage};
 use review_files::unread::Unread;
 use review_merge::{Names, NoMerge, merge3};
@@ -120,14 +121,9 @@ fn run<S: Shelf, R: Read + Drop, W: Write + Drop, E: Write + Drop>(
             diff_status(answer, &mut err)
         }
         Asked::DiffPage(page, asked, ignored) => {
-            let answer = diff_page(
-                shelf,
-                alloc,
-                (&asked, page),
-                &ignored,
-                &mut input,
-                &mut Counted::new(&mut out),
-            );
+            let mut out = Counted::new(out);
+            let drawn = (&asked, page);
+            let answer = diff_page(shelf, alloc, drawn, &ignored, &mut input, &mut out);
             diff_status(answer, &mut err)
         }
         Asked::FaultsPage(page, asked) => {
@@ -142,27 +138,13 @@ fn run<S: Shelf, R: Read + Drop, W: Write + Drop, E: Write + Drop>(
         }
         Asked::Faults(asked) => {
             let mut out = Counted::new(out);
-            reports(
-                shelf,
-                alloc,
-                Kind::Faults,
-                &asked,
-                &mut input,
-                &mut out,
-                &mut err,
-            )
+            let kind = Kind::Faults;
+            reports(shelf, alloc, kind, &asked, &mut input, &mut out, &mut err)
         }
         Asked::Warn(asked, warn) => {
             let mut out = Counted::new(out);
-            reports(
-                shelf,
-                alloc,
-                Kind::Warnings(&warn),
-                &asked,
-                &mut input,
-                &mut out,
-                &mut err,
-            )
+            let kind = Kind::Warnings(&warn);
+            reports(shelf, alloc, kind, &asked, &mut input, &mut out, &mut err)
         }
         Asked::Show(asked) => { show_files(shelf, alloc, &asked, &mut input, &mut out, &mut err) }
         Asked::Git(words) => git(shelf, alloc, &words, &mut out, &mut err),
@@ -251,7 +233,11 @@ pub fn command_over<S: Shelf, R: Read + Drop, W: Write + Drop, E: Write + Drop>(
         Ok(words) => words,
         Err(_) => return tell_bare(Fault::OutOfMemory, &mut err),
     };
-    match read_words(alloc, &words, false) {
+    let by = match read_keys(alloc, &words) {
+        Ok(by) => by,
+        Err(_) => return tell_bare(Fault::OutOfMemory, &mut err),
+    };
+    match read_words(alloc, &words, &by, false) {
         Ok(asked) => run(shelf, alloc, asked, input, out, err),
         Err(error) => told(alloc, error, &mut out, &mut err),
     }
@@ -277,7 +263,11 @@ pub fn command<
         Ok(words) => words,
         Err(_) => return tell_bare(Fault::OutOfMemory, &mut err),
     };
-    match read_words(alloc, &words, is_terminal) {
+    let by = match read_keys(alloc, &words) {
+        Ok(by) => by,
+        Err(_) => return tell_bare(Fault::OutOfMemory, &mut err),
+    };
+    match read_words(alloc, &words, &by, is_terminal) {
         Ok(Asked::Sum(asked)) => {
             let asked = sum_asked(&asked);
             let shelf = Regular::new(rt, asked.list());
@@ -288,6 +278,14 @@ pub fn command<
                 return folders(rt, alloc, &asked, &ignored, &mut out, &mut err);
             }
             let asked = Asked::Diff(asked, ignored);
+            run(&Host::new(rt), alloc, asked, input, out, err)
+        }
+        Ok(Asked::DiffPage(page, asked, ignored)) => {
+            if are_folders(rt, &asked) {
+                let told = (&asked, page);
+                return folder_page(rt, alloc, told, &ignored, &mut out, &mut err);
+            }
+            let asked = Asked::DiffPage(page, asked, ignored);
             run(&Host::new(rt), alloc, asked, input, out, err)
         }
         Ok(asked) => run(&Host::new(rt), alloc, asked, input, out, err),

@@ -251,7 +251,7 @@ fn lines_of<'n>(left: &'n str, right: &'n str) -> Diff<'n> {
         color: false,
         stat: false,
         by_position: false,
-        by: "",
+        by: &[],
     }
 }
 
@@ -284,8 +284,8 @@ fn put_differences<S: Shelf>(
     }
     match compare_sides(alloc, &lines_of(left_name, right_name), &[], left, right) {
         Ok(told) => out.push_str(&told.text)?,
-        Err(refused) => {
-            put_not_compared(alloc, out, first, second, refused, Form::Line)?;
+        Err((side, _)) => {
+            put_not_compared(alloc, out, first, second, side, Form::Line)?;
         }
     }
     Ok(())

@@ -31,7 +31,7 @@ fn asked_json(lines: usize) -> Diff<'static>
         color: false,
         stat: false,
         by_position: false,
-        by: "",
+        by: &[],
     }
 }
 

@@ -27,14 +27,16 @@ use yaml_pair::Asked;
 use yaml_place::Place;
 use yaml_text::fault::Fault;
 
-/// Keys that commas part.
-fn keys_of(alloc: Global, text: &str) -> Result<Vec<&str>, Fault>
+/// The keys of texts, in each of which commas part them.
+fn keys_of<'a>(alloc: Global, texts: &[&'a str]) -> Result<Vec<&'a str>, Fault>
     ensures err { IfErr result (λ fault. fault ≡ Fault.OutOfMemory) }
 {
     let mut keys = Vec::new(alloc);
-    for key in text.split(',') {
-        if !key.is_empty() {
-            keys.push(key)?;
+    for text in texts {
+        for key in text.split(',') {
+            if !key.is_empty() {
+                keys.push(key)?;
+            }
         }
     }
     Ok(keys)
