@@ -15,7 +15,7 @@ roots_of-requires c =
 pub text_of-requires : goal.text_of-requires
 text_of-requires c =
     let b = c.args.bytes.now in
-    (c.in_ok-four.ensures b.base.items b.ours.items b.theirs.items b.result.items c.in_ok-first.ensures c.in_ok-second.ensures).ranked
+    record { ranked = (c.in_ok-four.ensures b.base.items b.ours.items b.theirs.items b.result.items c.in_ok-first.ensures c.in_ok-second.ensures).ranked }
 
 pub returns : goal.returns
 returns c =
