@@ -200,6 +200,7 @@ static ROWS: [Row; 16] = [
 ];
 
 /// The files of a row, by their names.
+#[derive(Drop)]
 struct Files<'a> {
     row: &'a Row,
 }
