@@ -75,7 +75,7 @@ fn diff_status<E: Write>(answer: Result<u8, NoDiff>, err: &mut E) -> u8
 }
 
 /// The names of the files of a merge.
-fn names_of<'a>(asked: &Merge<'a>) -> Names<'a>
+fn merge_names<'a>(asked: &Merge<'a>) -> Names<'a>
     ensures { AsksMerge asked.now result }
 {
     Names {
@@ -149,7 +149,7 @@ fn run<S: Shelf, R: Read + Drop, W: Write + Drop, E: Write + Drop>(
         Asked::Git(words) => git(shelf, alloc, &words, &mut out, &mut err),
         Asked::Sum(asked) => sum(shelf, alloc, sum_asked(&asked), input, out, err),
         Asked::Merge(asked) => {
-            let names = names_of(&asked);
+            let names = merge_names(&asked);
             let mut out = Counted::new(out);
             let answer = merge3(shelf, alloc, &names, asked.lines, &mut input, &mut out);
             merge_status(answer, &mut err)

@@ -58,12 +58,12 @@ pub returns-in-Merge : goal.returns-in-Merge
 returns-in-Merge g c =
     subst (λ z. Does (g.S.Shelf.holds c.args.shelf.now) g.R.Read.remaining g.W.Write.contents g.E.Write.contents z c.args.input c.args.out c.args.err c.merge_status.result) (sym c.in-Merge.is)
     (record {
-      names = c.names_of-names.result;
-      asks = c.names_of-names.ensures;
+      names = c.merge_names-names.result;
+      asks = c.merge_names-names.ensures;
       end = c.merge3-answer.new.input;
       old = c.new-out-in-Merge.result;
       new = c.merge3-answer.new.out;
       writer = c.new-out-in-Merge.ensures.inner;
       no_write = c.new-out-in-Merge.ensures.faults;
-      ends = merge_ends (g.S.Shelf.holds c.args.shelf.now) g.R.Read.remaining g.W.Write.contents c.names_of-names.result c.args.input c.merge3-answer.new.input c.new-out-in-Merge.result c.merge3-answer.new.out c.merge3-answer.result c.merge_status.result c.merge3-answer.ensures.tells c.merge3-answer.ensures.none c.merge_status.ensures.ok c.merge_status.ensures.err;
+      ends = merge_ends (g.S.Shelf.holds c.args.shelf.now) g.R.Read.remaining g.W.Write.contents c.merge_names-names.result c.args.input c.merge3-answer.new.input c.new-out-in-Merge.result c.merge3-answer.new.out c.merge3-answer.result c.merge_status.result c.merge3-answer.ensures.tells c.merge3-answer.ensures.none c.merge_status.ensures.ok c.merge_status.ensures.err;
     })
