@@ -8,6 +8,8 @@ use std::alloc::{AllocError, Global};
 enum Takes {
     /// A file, which has to be given.
     File,
+    /// A file, which can be given.
+    LastFile,
     /// Any number of files.
     Files,
     /// Whether it is given.
@@ -166,6 +168,39 @@ const SUM: [Row; 3] = [
     },
 ];
 
+const MERGE: [Row; 6] = [
+    Row {
+        id: "BASE",
+        takes: Takes::File,
+        help: "The file that both sides changed; `-` is standard input",
+    },
+    Row {
+        id: "OURS",
+        takes: Takes::File,
+        help: "What one side made of it",
+    },
+    Row {
+        id: "THEIRS",
+        takes: Takes::File,
+        help: "What the other side made of it",
+    },
+    Row {
+        id: "RESULT",
+        takes: Takes::LastFile,
+        help: "What was made of both, to be judged",
+    },
+    Row {
+        id: "lines",
+        takes: Takes::Lines,
+        help: "Print at most N lines, and then `...` if there are more; 0 for the status alone",
+    },
+    Row {
+        id: "quiet",
+        takes: Takes::Letter('q'),
+        help: "Print nothing; the status tells the result",
+    },
+];
+
 const GIT: [Row; 1] = [Row {
     id: "WORD",
     takes: Takes::Words,
@@ -212,6 +247,7 @@ fn arg_of<'a>(alloc: Global, row: &Row) -> Result<Arg<'a>, AllocError> {
     let arg = Arg::new(alloc, row.id).help(row.help);
     match row.takes {
         Takes::File => Ok(arg.required(true)),
+        Takes::LastFile => Ok(arg.required(false)),
         Takes::Files => Ok(arg.num_args(0..).action(ArgAction::Append)),
         Takes::Flag => Ok(arg.long(row.id).action(ArgAction::SetTrue)),
         Takes::Letter(letter) => Ok(arg.long(row.id).short(letter).action(ArgAction::SetTrue)),
@@ -285,12 +321,22 @@ const SUM_STATUSES: &str = "Exit status (of several files the greatest):
   2  a file is rejected
   3  the words, a file, LIST or a stream cannot be used";
 
+const MERGE_STATUSES: &str =
+    "Where one side is as BASE, the merge has what the other side has. Values of mappings are merged by their keys, and items of lists
+that have equally many items by their places. A list that one side made longer or shorter is one value. So is a stream of documents.
+
+Exit status:
+  0  both changes can be merged; with RESULT: it is the merge
+  1  they conflict, or RESULT is not the merge
+  2  a file is rejected, or aliases make too many paths to look at
+  3  the words, a file or a stream cannot be used";
+
 const GIT_STATUSES: &str = "Exit status:
   0  whatever is found, since git stops at any other status
   2  memory is refused
   3  the words or the output cannot be used";
 
-const COMMANDS: [Entry; 6] = [
+const COMMANDS: [Entry; 7] = [
     Entry {
         name: "diff",
         about: "Prints where two streams differ",
@@ -320,6 +366,12 @@ const COMMANDS: [Entry; 6] = [
         about: "Prints the SHA-256 of each file's canonical text, as sha256sum does",
         statuses: SUM_STATUSES,
         rows: &SUM,
+    },
+    Entry {
+        name: "merge3",
+        about: "Prints where two changes of a stream conflict, or where RESULT is not their merge",
+        statuses: MERGE_STATUSES,
+        rows: &MERGE,
     },
     Entry {
         name: "git",

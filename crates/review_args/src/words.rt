@@ -112,6 +112,17 @@ pub struct Sum<'a> {
     pub check: Option<&'a str>,
 }
 
+/// A base and two changes of it, and what was made of them, if it is to be judged.
+#[derive(Clone, Copy)]
+pub struct Merge<'a> {
+    pub base: &'a str,
+    pub ours: &'a str,
+    pub theirs: &'a str,
+    pub result: Option<&'a str>,
+    /// The greatest number of lines.
+    pub lines: usize,
+}
+
 /// A command.
 #[derive(Drop)]
 pub enum Asked<'a> {
@@ -124,6 +135,7 @@ pub enum Asked<'a> {
     WarnPage(Page, Report<'a>, Warn<'a>),
     Show(Show<'a>),
     Sum(Sum<'a>),
+    Merge(Merge<'a>),
     /// What `GIT_EXTERNAL_DIFF` passes.
     Git(Vec<&'a str>),
 }
@@ -248,6 +260,25 @@ fn show_of<'a>(alloc: Global, matches: &ArgMatches<'a>) -> Result<Show<'a>, Allo
     })
 }
 
+/// How many lines of conflicts are printed: for the status alone none.
+fn merge_lines_of(matches: &ArgMatches<'_>) -> usize {
+    if matches.get_flag("quiet") {
+        0
+    } else {
+        lines_of(matches)
+    }
+}
+
+fn merge_of<'a>(matches: &ArgMatches<'a>) -> Merge<'a> {
+    Merge {
+        base: matches.get_str("BASE").unwrap_or("-"),
+        ours: matches.get_str("OURS").unwrap_or("-"),
+        theirs: matches.get_str("THEIRS").unwrap_or("-"),
+        result: matches.get_str("RESULT"),
+        lines: merge_lines_of(matches),
+    }
+}
+
 /// What is wrong with a pattern.
 const NO_PATTERN: &str =
     "--ignore takes a path as diff prints it, with `*` for any step: .spec.replicas, .metadata.annotations[\"a/b\"], .containers[*].image";
@@ -323,6 +354,7 @@ fn asked_of<'a>(
             files_from: inner.get_str("files-from"),
             check: inner.get_str("check"),
         })),
+        "merge3" => Ok(Asked::Merge(merge_of(inner))),
         "git" => Ok(Asked::Git(names(alloc, inner, "WORD")?)),
         _ => diff_asked(alloc, inner, by, is_terminal),
     }

@@ -1,2 +1,3 @@
 mod RejectionLaws
 mod RunLaws
+mod MergeLaws

@@ -1,5 +1,5 @@
 -- What the commands do, of readers and writers that were given away.
-use Rattle.std.specs.Prelude.{◌≡◌, ◌⊎◌, ℕ, List, map, Option, Some, None}
+use Rattle.std.specs.Prelude.{◌≡◌, ◌⊎◌, ◌≤◌, ℕ, List, map, Option, Some, None}
 use Rattle.yaml_text.specs.declared.counted.Counted.{Counted}
 use Rattle.yaml_text.specs.CountedModel.{inner_of, faults_of}
 use Rattle.review_args.specs.declared.words.Asked.{Asked}
@@ -10,7 +10,10 @@ use Rattle.review_patterns.specs.declared.pattern.Pattern.{Pattern}
 use Rattle.review_command.specs.Diffs.{DiffTells}
 use Rattle.review_command.specs.Rejections.{DiffRefuses, no_diff_status}
 use Rattle.review_command.specs.declared.diff.NoDiff.{NoDiff}
+use Rattle.review_args.specs.declared.words.Merge.{Merge}
 use Rattle.review_args.specs.declared.words.Sum.{Sum}
+use Rattle.review_merge.specs.Merges.{MergeTells}
+use Rattle.review_merge.specs.declared.merge.Names.{Names}
 use Rattle.review_args.specs.declared.words.Warn.{Warn}
 use Rattle.yaml_sum.specs.Asks.{SumTells}
 use Rattle.yaml_sum.specs.declared.asked.Asked.{Asked as SumAsked}
@@ -30,6 +33,13 @@ AsksSum asked (Files words) = (asked.check ≡ None) × (asked.files_from ≡ No
 abbrev pub AsksWarnings : Warn → Kind → Type 0
 AsksWarnings warn Faults = ⊥
 AsksWarnings warn (Warnings w) = w.now ≡ warn
+
+-- these files are to be merged
+pub record AsksMerge (asked : Merge) (names : Names) : Type 0 where
+  pub base : names.base.now ≡ asked.base.now
+  pub ours : names.ours.now ≡ asked.ours.now
+  pub theirs : names.theirs.now ≡ asked.theirs.now
+  pub result : names.result ≡ asked.result
 
 module _ {R W E : Type 0} (holds : List ℕ → Option (List ℕ)) (remaining : R → Option (List ℕ)) (contents : W → Option (List ℕ)) (told : E → Option (List ℕ)) where
   -- what is told of files, by some state of the reader and of the writer, no call of which had failed
@@ -67,7 +77,18 @@ module _ {R W E : Type 0} (holds : List ℕ → Option (List ℕ)) (remaining : 
     pub no_write : faults_of old ≡ 0
     pub ends : DiffEnds asked ignored input old new status
 
-  -- What `diff`, `faults`, `warn` and `sum` do; of the other commands nothing is said here.
+  -- It is said whether two changes can be merged, or whether a file is the merge. Else the status is 2 or more.
+  pub record MergeRuns (asked : Merge) (input : R) (out : W) (status : ℕ) : Type 0 where
+    pub names : Names
+    pub asks : AsksMerge asked names
+    pub end : R
+    pub old : Counted W
+    pub new : Counted W
+    pub writer : inner_of old ≡ out
+    pub no_write : faults_of old ≡ 0
+    pub ends : MergeTells holds remaining contents names input end old new status ⊎ (2 ≤ status)
+
+  -- What `diff`, `faults`, `warn`, `sum` and `merge3` do; of the other commands nothing is said here.
   abbrev pub Does : Asked → R → W → E → ℕ → Type 0
   Does (asks.Diff asked ignored) input out err status = DiffRuns asked ignored.items input out status
   Does (asks.Faults asked) input out err status = ReportsTell Faults asked input out status
@@ -75,4 +96,5 @@ module _ {R W E : Type 0} (holds : List ℕ → Option (List ℕ)) (remaining : 
   Does (asks.FaultsPage page asked) input out err status = PagesTell Faults asked input out status
   Does (asks.WarnPage page asked warn) input out err status = (kind : Kind) × AsksWarnings warn kind × PagesTell kind asked input out status
   Does (asks.Sum asked) input out err status = (is : SumAsked) × AsksSum asked is × SumRuns is input out err status
+  Does (asks.Merge asked) input out err status = MergeRuns asked input out status
   Does _ input out err status = Unit {0}

@@ -1,7 +1,8 @@
 //! The commands.
 ghost use Rattle.std.specs.Prelude.{◌≡◌, IfOk, IfErr};
 ghost use Rattle.review_command.specs.Rejections.{no_diff_status};
-ghost use Rattle.review_command.specs.Runs.{AsksSum, SumRuns, Does};
+ghost use Rattle.review_command.specs.Runs.{AsksSum, SumRuns, AsksMerge, Does};
+ghost use Rattle.review_merge.specs.Merges.{no_merge_status};
 
 use crate::diff::{NoDiff, diff, diff_page};
 use crate::folders::folders;
@@ -10,9 +11,10 @@ use crate::host::Host;
 use crate::names::are_folders;
 use crate::show::show_files;
 use clap::Error;
-use review_args::{Asked, Sum, in_order, read_keys, read_words};
+use review_args::{Asked, Merge, Sum, in_order, read_keys, read_words};
 use review_files::telling::{UNUSABLE, put_line, tell_bare, tell_unread, tell_usage};
 use review_files::unread::Unread;
+use review_merge::{Names, NoMerge, merge3};
 use review_reports::pages::pages;
 use review_reports::reports::{Kind, reports};
 use review_text::put_shown;
@@ -72,6 +74,34 @@ fn diff_status<E: Write>(answer: Result<u8, NoDiff>, err: &mut E) -> u8
     }
 }
 
+/// The names of the files of a merge.
+fn merge_names<'a>(asked: &Merge<'a>) -> Names<'a>
+    ensures { AsksMerge asked.now result }
+{
+    Names {
+        base: asked.base,
+        ours: asked.ours,
+        theirs: asked.theirs,
+        result: asked.result,
+    }
+}
+
+/// The status of a merge, of which it is told why nothing is said.
+fn merge_status<E: Write>(answer: Result<u8, NoMerge>, err: &mut E) -> u8
+    ensures ok { IfOk answer (λ status. result ≡ status) }
+    ensures err { IfErr answer (λ none. result ≡ no_merge_status none) }
+{
+    match answer {
+        Ok(status) => status,
+        Err(NoMerge::OneInput) => tell_usage(ONE_INPUT, err),
+        Err(NoMerge::Told(text, told)) => {
+            put_line(&text, err);
+            told
+        }
+        Err(NoMerge::Fault(fault)) => tell_bare(fault, err),
+    }
+}
+
 /// Does what is asked, and answers the status.
 fn run<S: Shelf, R: Read + Drop, W: Write + Drop, E: Write + Drop>(
     shelf: &S,
@@ -118,6 +148,12 @@ fn run<S: Shelf, R: Read + Drop, W: Write + Drop, E: Write + Drop>(
         Asked::Show(asked) => { show_files(shelf, alloc, &asked, &mut input, &mut out, &mut err) }
         Asked::Git(words) => git(shelf, alloc, &words, &mut out, &mut err),
         Asked::Sum(asked) => sum(shelf, alloc, sum_asked(&asked), input, out, err),
+        Asked::Merge(asked) => {
+            let names = merge_names(&asked);
+            let mut out = Counted::new(out);
+            let answer = merge3(shelf, alloc, &names, asked.lines, &mut input, &mut out);
+            merge_status(answer, &mut err)
+        }
     }
 }
 

@@ -1,6 +1,7 @@
 use Rattle.std.proofs.Common.{Bor, refl, sym, subst}
 use Rattle.review_args.specs.declared.words.Warn.{Warn}
 use Rattle.review_command.specs.Runs.{Does}
+use Rattle.review_command.proofs.MergeLaws.{merge_ends}
 use Rattle.review_command.proofs.RejectionLaws.{diff_ends}
 use Rattle.review_command.proofs.RunLaws.{warns, warns_page}
 use Rattle.review_command.proofs.command.run.Goals as goal
@@ -51,4 +52,18 @@ returns-in-Diff g c =
       writer = c.new-out.ensures.inner;
       no_write = c.new-out.ensures.faults;
       ends = diff_ends (g.S.Shelf.holds c.args.shelf.now) g.R.Read.remaining g.W.Write.contents g.E.Write.contents c.in-Diff.asked c.in-Diff.ignored.items c.args.input c.new-out.result c.diff-answer.new.out c.diff-answer.result c.diff_status.result tells refuses c.diff_status.ensures.ok c.diff_status.ensures.err;
+    })
+
+pub returns-in-Merge : goal.returns-in-Merge
+returns-in-Merge g c =
+    subst (λ z. Does (g.S.Shelf.holds c.args.shelf.now) g.R.Read.remaining g.W.Write.contents g.E.Write.contents z c.args.input c.args.out c.args.err c.merge_status.result) (sym c.in-Merge.is)
+    (record {
+      names = c.merge_names-names.result;
+      asks = c.merge_names-names.ensures;
+      end = c.merge3-answer.new.input;
+      old = c.new-out-in-Merge.result;
+      new = c.merge3-answer.new.out;
+      writer = c.new-out-in-Merge.ensures.inner;
+      no_write = c.new-out-in-Merge.ensures.faults;
+      ends = merge_ends (g.S.Shelf.holds c.args.shelf.now) g.R.Read.remaining g.W.Write.contents c.merge_names-names.result c.args.input c.merge3-answer.new.input c.new-out-in-Merge.result c.merge3-answer.new.out c.merge3-answer.result c.merge_status.result c.merge3-answer.ensures.tells c.merge3-answer.ensures.none c.merge_status.ensures.ok c.merge_status.ensures.err;
     })

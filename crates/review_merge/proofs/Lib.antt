@@ -1,0 +1,3 @@
+pub mod FourLaws
+pub mod JudgeLaws
+pub mod MergeLaws

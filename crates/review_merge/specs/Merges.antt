@@ -1,0 +1,74 @@
+-- What `merge3` promises.
+use Rattle.std.specs.Prelude.{◌≡◌, ℕ, Bool, true, false, cond, List, [], Option, Some, None}
+use Rattle.std.specs.Option.{is_some, option_map}
+use Rattle.yaml_definitions.specs.model.Tree.{Tree}
+use Rattle.yaml_definitions.specs.model.Means.{Means}
+use Rattle.yaml_text.specs.declared.counted.Counted.{Counted}
+use Rattle.yaml_text.specs.Writers.{Printed}
+use Rattle.yaml_merge.specs.Merge.{IsMerge, IsKeyed}
+use Rattle.review_files.specs.Named.{ReadsNamed}
+use Rattle.review_files.specs.Statuses.{fault_status}
+use Rattle.review_merge.specs.Judged.{stream_of}
+use Rattle.review_merge.specs.declared.merge.Names.{Names}
+use Rattle.review_merge.specs.declared.merge.Bytes.{Bytes}
+use Rattle.review_merge.specs.declared.merge.NoMerge.{NoMerge}
+use Rattle.review_merge.specs.declared.merge.NoMerge.TheVariants as no
+
+-- ---- streams
+
+-- what is asked: whether there is a merge of the three streams, or whether the fourth one is it
+abbrev pub Asks : Bool → (b o t m : List Tree) → Type 0
+Asks false b o t m = (n : Option Tree) × IsKeyed n × IsMerge (stream_of b) (stream_of o) (stream_of t) n
+Asks true b o t m = IsMerge (stream_of b) (stream_of o) (stream_of t) (stream_of m)
+
+-- that is so, or not; nothing is said where it is not known
+abbrev pub Says : Bool → (b o t m : List Tree) → Option Bool → Type 0
+Says given b o t m (Some true) = Asks given b o t m
+Says given b o t m (Some false) = Asks given b o t m → ⊥
+Says given b o t m None = Unit {0}
+
+-- The bytes of the base, of ours, of theirs and of the result mean documents, and what is asked of these is answered.
+pub record TellsMerge (given : Bool) (base ours theirs result : List ℕ) (answer : Option Bool) : Type 0 where
+  pub b : List Tree
+  pub o : List Tree
+  pub t : List Tree
+  pub m : List Tree
+  pub base_means : Means base b
+  pub ours_mean : Means ours o
+  pub theirs_mean : Means theirs t
+  pub result_means : Means result m
+  pub says : Says given b o t m answer
+
+-- ---- files
+
+module _ {R : Type 0} (holds : List ℕ → Option (List ℕ)) (remaining : R → Option (List ℕ)) where
+  -- the bytes of the result, or none where no name is given
+  abbrev pub ReadsResult : Option (List ℕ) → R → R → List ℕ → Type 0
+  ReadsResult (Some name) old new bytes = ReadsNamed holds remaining name old new bytes
+  ReadsResult None old new bytes = (new ≡ old) × (bytes ≡ [])
+
+  -- The files were read one after another.
+  pub record HaveBytes (names : Names) (old new : R) (bytes : Bytes) : Type 0 where
+    pub one : R
+    pub two : R
+    pub three : R
+    pub base : ReadsNamed holds remaining names.base.now old one bytes.base.items
+    pub ours : ReadsNamed holds remaining names.ours.now one two bytes.ours.items
+    pub theirs : ReadsNamed holds remaining names.theirs.now two three bytes.theirs.items
+    pub result : ReadsResult (option_map (λ name. name.now) names.result) three new bytes.result.items
+
+  -- The files of these names were read, and the status is 0 if there is a merge of them, or the result is it, and else 1. Some text was written.
+  pub record MergeTells {W : Type 0} (contents : W → Option (List ℕ)) (names : Names) (input end : R) (old new : Counted W) (status : ℕ) : Type 0 where
+    pub bytes : Bytes
+    pub read : HaveBytes names input end bytes
+    pub answer : Bool
+    pub tells : TellsMerge (is_some names.result) bytes.base.items bytes.ours.items bytes.theirs.items bytes.result.items (Some answer)
+    pub told : status ≡ cond answer 0 1
+    pub text : List ℕ
+    pub printed : Printed contents old new text
+
+-- the status of each reason why nothing is said
+abbrev pub no_merge_status : NoMerge → ℕ
+no_merge_status no.OneInput = 3
+no_merge_status (no.Told text status) = status
+no_merge_status (no.Fault fault) = fault_status fault

@@ -1,0 +1,9 @@
+//! The command `merge3`: whether two changes of a stream conflict, and whether a third one is their merge.
+#![tactic(auto)]
+
+mod four;
+mod judge;
+mod lines;
+pub mod merge;
+
+pub use merge::{Names, NoMerge, merge3};

@@ -1,0 +1,302 @@
+//! The command `merge3`.
+ghost use Rattle.std.specs.Prelude.{◌≡◌, ◌<◌, ◌≤◌, ◌-◌, ◌^◌, cond, IfOk, IfErr};
+ghost use Rattle.std.specs.Option.{is_some, option_map};
+ghost use Rattle.yaml_text.specs.CountedModel.{faults_of};
+ghost use Rattle.yaml_canon.specs.Both.{HasBoth};
+ghost use Rattle.review_files.specs.Named.{ReadsNamed};
+ghost use Rattle.review_merge.specs.Merges.{no_merge_status, ReadsResult, HaveBytes, TellsMerge, MergeTells};
+
+use crate::four::graph_of;
+use crate::judge::{judge, roots_of, verdict_of};
+use crate::lines::text_of;
+use review_args::Form;
+use review_files::files::read_named;
+use review_files::rejected::{Named, put_no_bytes, put_rejection};
+use review_files::unread::{Unread, greater};
+use std::alloc::Global;
+use std::io::{Read, Write};
+use yaml_canon::both::{BothForests, forest_of_both};
+use yaml_command::shelf::Shelf;
+use yaml_command::streams::write_out;
+use yaml_conflicts::Room;
+use yaml_text::counted::Counted;
+use yaml_text::fault::Fault;
+
+/// The name of standard input.
+const INPUT: &str = "-";
+
+const GOOD: u8 = 0;
+
+const BAD: u8 = 1;
+
+/// The status of a file that is rejected, and of streams of which not all places are looked at.
+const REJECTED: u8 = 2;
+
+/// How many places are looked at that both sides changed.
+const PLACES: usize = 1_000_000;
+
+/// What is printed where these were not all, and nothing was found at them.
+const TOO_MANY: &str =
+    "yamlreview: merge3: unknown: both sides changed more than 1,000,000 places, counted once for each path that aliases make\n";
+
+/// The files of a merge, by their names. `-` is standard input.
+#[derive(Clone, Copy)]
+pub struct Names<'n> {
+    pub base: &'n str,
+    pub ours: &'n str,
+    pub theirs: &'n str,
+    /// What was made of them, if it is to be judged.
+    pub result: Option<&'n str>,
+}
+
+/// Why nothing is said of a merge.
+#[derive(Drop)]
+pub enum NoMerge {
+    /// Two files are standard input, which is read once.
+    OneInput,
+    /// A file is not read or is rejected, or not all places were looked at: what is printed, and the status.
+    Told(String, u8),
+    /// The output fails, or memory is refused.
+    Fault(Fault),
+}
+
+/// The bytes of the base, of ours, of theirs and of the result, which is empty if there is none.
+#[derive(Drop)]
+struct Bytes {
+    base: Vec<u8>,
+    ours: Vec<u8>,
+    theirs: Vec<u8>,
+    result: Vec<u8>,
+}
+
+/// Whether two of the names are that of standard input.
+fn has_two_inputs(names: &Names<'_>) -> bool {
+    let base = names.base == INPUT;
+    let ours = names.ours == INPUT;
+    let theirs = names.theirs == INPUT;
+    let result = match names.result {
+        Some(name) => name == INPUT,
+        None => false,
+    };
+    (base && (ours || (theirs || result))) || ((ours && (theirs || result)) || (theirs && result))
+}
+
+/// The status, or that of a file that is rejected if it is less.
+fn at_least(status: u8) -> u8
+    ensures { 2 ≤ result }
+{
+    if status < REJECTED { REJECTED } else { status }
+}
+
+/// What is printed of a file that is not read.
+fn not_read(alloc: Global, name: &str, unread: Unread) -> NoMerge
+    ensures { 2 ≤ no_merge_status result }
+{
+    let mut text = String::new(alloc);
+    match put_no_bytes(alloc, &mut text, name, unread, Form::Line) {
+        Ok(status) => NoMerge::Told(text, at_least(status)),
+        Err(fault) => NoMerge::Fault(fault),
+    }
+}
+
+/// All of a file.
+fn bytes_of<S: Shelf, R: Read>(
+    shelf: &S,
+    alloc: Global,
+    name: &str,
+    input: &mut R,
+) -> Result<Vec<u8>, NoMerge>
+    ensures ok { IfOk result (λ v. ReadsNamed (S.holds shelf.now) R.remaining name.now input.old input.new v.items) }
+    ensures err { IfErr result (λ none. 2 ≤ no_merge_status none) }
+{
+    match read_named(shelf, alloc, name, input) {
+        Ok(bytes) => Ok(bytes),
+        Err(unread) => Err(not_read(alloc, name, unread)),
+    }
+}
+
+/// All of the result, or no bytes if there is none.
+fn result_of<S: Shelf, R: Read>(
+    shelf: &S,
+    alloc: Global,
+    name: Option<&str>,
+    input: &mut R,
+) -> Result<Vec<u8>, NoMerge>
+    ensures ok { IfOk result (λ v. ReadsResult (S.holds shelf.now) R.remaining (option_map (λ n. n.now) name.entry) input.old input.new v.items) }
+    ensures err { IfErr result (λ none. 2 ≤ no_merge_status none) }
+{
+    match name {
+        Some(name) => bytes_of(shelf, alloc, name, input),
+        None => Ok(Vec::new(alloc)),
+    }
+}
+
+/// All of the files, one after another.
+fn read_files<S: Shelf, R: Read>(
+    shelf: &S,
+    alloc: Global,
+    names: &Names<'_>,
+    input: &mut R,
+) -> Result<Bytes, NoMerge>
+    ensures ok { IfOk result (HaveBytes (S.holds shelf.now) R.remaining names.now input.old input.new) }
+    ensures err { IfErr result (λ none. 2 ≤ no_merge_status none) }
+{
+    if has_two_inputs(names) {
+        return Err(NoMerge::OneInput);
+    }
+    let base = bytes_of(shelf, alloc, names.base, input)?;
+    let ours = bytes_of(shelf, alloc, names.ours, input)?;
+    let theirs = bytes_of(shelf, alloc, names.theirs, input)?;
+    let result = result_of(shelf, alloc, names.result, input)?;
+    Ok(Bytes {
+        base,
+        ours,
+        theirs,
+        result,
+    })
+}
+
+/// Writes why files are rejected, of each that is, and answers the greatest status.
+fn put_rejections(
+    alloc: Global,
+    out: &mut String,
+    names: &Names<'_>,
+    bytes: Bytes,
+) -> Result<u8, Fault> {
+    let base = Ok(bytes.base);
+    let ours = Ok(bytes.ours);
+    let theirs = Ok(bytes.theirs);
+    let result = Ok(bytes.result);
+    let files = [
+        Named {
+            name: names.base,
+            answer: &base,
+        },
+        Named {
+            name: names.ours,
+            answer: &ours,
+        },
+        Named {
+            name: names.theirs,
+            answer: &theirs,
+        },
+        Named {
+            name: names.result.unwrap_or(""),
+            answer: &result,
+        },
+    ];
+    let mut status = 0;
+    for file in files {
+        status = greater(status, put_rejection(alloc, out, file, Form::Line)?);
+    }
+    Ok(status)
+}
+
+/// What is printed of files of which one is rejected. Where none is, as where memory is refused, the fault is reported.
+fn rejected(alloc: Global, names: &Names<'_>, bytes: Bytes, fault: Fault) -> NoMerge
+    ensures { 2 ≤ no_merge_status result }
+{
+    let mut text = String::new(alloc);
+    match put_rejections(alloc, &mut text, names, bytes) {
+        Ok(status) => {
+            if status == 0 {
+                NoMerge::Fault(fault)
+            } else {
+                NoMerge::Told(text, at_least(status))
+            }
+        }
+        Err(fault) => NoMerge::Fault(fault),
+    }
+}
+
+/// What is printed where places are left that were not looked at.
+fn too_many(alloc: Global) -> NoMerge
+    ensures { 2 ≤ no_merge_status result }
+{
+    match TOO_MANY.to_string(alloc) {
+        Ok(text) => NoMerge::Told(text, REJECTED),
+        Err(_) => NoMerge::Fault(Fault::OutOfMemory),
+    }
+}
+
+/// How much is looked at: one line at least, without which it is not known whether there is one.
+fn room_of(lines: usize) -> Room {
+    Room {
+        places: PLACES,
+        lines: if lines == 0 { 1 } else { lines },
+    }
+}
+
+/// What is found, and its lines.
+#[derive(Drop)]
+struct Told {
+    answer: Option<bool>,
+    text: String,
+}
+
+/// Two streams in one store.
+fn forests_of<'l>(
+    alloc: Global,
+    left: &'l Vec<u8>,
+    right: &Vec<u8>,
+) -> Result<BothForests<'l>, Fault>
+    ensures { IfOk result (HasBoth left.now.items right.now.items) }
+{
+    match forest_of_both(alloc, left, right) {
+        Ok(both) => Ok(both),
+        Err((_, fault)) => Err(fault),
+    }
+}
+
+/// What is found of the files' bytes, and its lines.
+fn told_of(alloc: Global, bytes: &Bytes, given: bool, lines: usize) -> Result<Told, Fault>
+    ensures { IfOk result (λ told. TellsMerge given bytes.now.base.items bytes.now.ours.items bytes.now.theirs.items bytes.now.result.items told.answer) }
+{
+    let first = forests_of(alloc, &bytes.base, &bytes.ours)?;
+    let second = forests_of(alloc, &bytes.theirs, &bytes.result)?;
+    let four = graph_of(alloc, &first, &second)?;
+    let outcome = judge(alloc, &four, given, room_of(lines))?;
+    let answer = verdict_of(&outcome);
+    let text = if lines == 0 {
+        String::new(alloc)
+    } else {
+        text_of(alloc, &four, &roots_of(&four, given), &outcome, given)?
+    };
+    Ok(Told { answer, text })
+}
+
+/// The status of an answer.
+fn status_of(answer: bool) -> u8
+    ensures { result ≡ cond answer 0 1 }
+{
+    if answer { GOOD } else { BAD }
+}
+
+/// Writes a line for each path at which ours and theirs conflict or, if a result is given, at which it is not their merge, at most so
+/// many. Answers 0 exactly if a merge exists or the result is one, and else 1. Where that is not known, `NoMerge` says why.
+pub fn merge3<S: Shelf, R: Read, W: Write>(
+    shelf: &S,
+    alloc: Global,
+    names: &Names<'_>,
+    lines: usize,
+    input: &mut R,
+    out: &mut Counted<W>,
+) -> Result<u8, NoMerge>
+    requires { faults_of out.old < 2 ^ 64 - 1 }
+    ensures tells { IfOk result (MergeTells (S.holds shelf.now) R.remaining W.contents names.now input.old input.new out.old out.new) }
+    ensures none { IfErr result (λ none. 2 ≤ no_merge_status none) }
+{
+    let bytes = read_files(shelf, alloc, names, input)?;
+    let given = names.result.is_some();
+    let told = match told_of(alloc, &bytes, given, lines) {
+        Ok(told) => told,
+        Err(fault) => return Err(rejected(alloc, names, bytes, fault)),
+    };
+    let Some(answer) = told.answer else {
+        return Err(too_many(alloc));
+    };
+    match write_out(out, told.text.as_bytes()) {
+        Ok(()) => Ok(status_of(answer)),
+        Err(fault) => Err(NoMerge::Fault(fault)),
+    }
+}
