@@ -254,6 +254,7 @@ fn both_told<T: Files>(
         stat: asked.stat,
         by_position: asked.by_position,
         by: asked.by,
+        folds: asked.folds,
     };
     match compare_sides(alloc, &of_name, ignored, one, other) {
         Ok(compared) => {
