@@ -1,4 +1,2 @@
-mod PageLaws
 mod RejectionLaws
-mod ReportLaws
 mod RunLaws

@@ -1,43 +1,25 @@
 -- What is told of files that are not compared.
 use Rattle.std.specs.Prelude.{IfOk, IfErr}
-use Rattle.std.proofs.Common.{◌≡◌, ℕ, ◌≤◌, max, List, ◌++◌, codes, Option, Result, Ok, Err, Vec, refl, inl, inr, sym, subst, ◌∙◌, ap, arith}
+use Rattle.std.proofs.Common.{◌≡◌, ℕ, ◌≤◌, max, List, Option, Result, Ok, Err, Vec, inl, inr, sym, subst, arith}
 use Rattle.std.specs.declared.alloc.Global.{Global}
-use Rattle.std.proofs.lemmas.List.{append_assoc}
 use Rattle.yaml_text.specs.declared.fault.Fault.{Fault}
 use Rattle.yaml_text.specs.declared.fault.Fault.TheVariants.{ReadFault, WriteFault}
 use Rattle.yaml_text.specs.declared.side.Side.{Side}
-use Rattle.yaml_canon.specs.Claims.{CanonicalRefuses}
-use Rattle.yaml_canon.specs.FaultPlaces.{TellsPlace}
-use Rattle.review_text.specs.Terminal.{terminal}
-use Rattle.review_args.specs.declared.words.Form.{Form}
-use Rattle.review_lines.specs.FaultLines.{TellsFault}
-use Rattle.review_command.specs.Reports.{TellsBytes}
 use Rattle.yaml_text.specs.declared.counted.Counted.{Counted}
+use Rattle.review_args.specs.declared.words.Form.{Form}
 use Rattle.review_patterns.specs.declared.pattern.Pattern.{Pattern}
 use Rattle.review_args.specs.declared.words.Diff.{Diff}
+use Rattle.review_files.specs.Named.{AreNamed, NotBothRead, IsAnswer}
+use Rattle.review_files.specs.Statuses.{fault_status, unread_status}
+use Rattle.review_files.specs.Told.{TellsUnread, TellsAnswer, TellsBoth, TellsNotCompared}
+use Rattle.review_files.specs.declared.rejected.Named.{Named}
+use Rattle.review_files.specs.declared.unread.Unread.{Unread}
+use Rattle.review_files.specs.declared.unread.Unread.TheVariants as unread
 use Rattle.review_command.specs.Diffs.{DiffTells}
 use Rattle.review_command.specs.Runs.{DiffEnds}
-use Rattle.review_command.specs.Named.{AreNamed}
-use Rattle.review_command.specs.Rejections.{TellsName, TellsUnread, TellsAnswer, TellsBoth, TellsNotCompared, TellsRejected, Refuses, DiffRefuses, no_diff_status, NotBothRead, IsAnswer, side_name}
-use Rattle.review_command.specs.Statuses.{fault_status, unread_status}
+use Rattle.review_command.specs.Rejections.{TellsRejected, Refuses, DiffRefuses, no_diff_status}
 use Rattle.review_command.specs.declared.diff.NoDiff.{NoDiff}
 use Rattle.review_command.specs.declared.diff.NoDiff.TheVariants as no
-use Rattle.review_command.specs.declared.rejected.Named.{Named}
-use Rattle.review_command.specs.declared.reports.Kind.TheVariants.{Faults}
-use Rattle.review_command.specs.declared.unread.Unread.{Unread}
-use Rattle.review_command.specs.declared.unread.Unread.TheVariants as unread
-
--- what stands behind a file's name
-pub behind_name : (name more : List ℕ) → TellsName name ((codes "yamlreview: " ++ (terminal name ++ codes ": ")) ++ more)
-behind_name name more = (more, append_assoc (codes "yamlreview: ") (terminal name ++ codes ": ") more ∙ ap (λ z. codes "yamlreview: " ++ z) (append_assoc (terminal name) (codes ": ") more))
-
--- bytes that are rejected
-pub refused_bytes : (form : Form) (name bytes : List ℕ) (fault : Fault) (text : List ℕ) → CanonicalRefuses bytes fault → TellsPlace bytes fault → TellsFault form name bytes fault text → TellsBytes Faults form name bytes text 2
-refused_bytes form name bytes fault text r p t = inr ((fault, r, p, t), refl)
-
--- a line of one file, behind what is told of both
-pub a_line_more : (form : Form) (left right : Named) (side : Side) (fault : Fault) (before line : List ℕ) (status : ℕ) → TellsBoth form left right before 0 → TellsName (side_name side left right) line → status ≡ fault_status fault → TellsNotCompared form left right side fault (before ++ line) status
-a_line_more form left right side fault before line status b n s = inr (before, line, b, n, refl, s)
 
 -- ---- the status is not 0
 

@@ -4,11 +4,11 @@ use Rattle.yaml_text.specs.declared.counted.Counted.{Counted}
 use Rattle.yaml_text.specs.CountedModel.{inner_of, faults_of}
 use Rattle.review_args.specs.declared.words.Report.{Report}
 use Rattle.review_args.specs.declared.words.Warn.{Warn}
-use Rattle.review_command.specs.Pages.{TellsPage}
-use Rattle.review_command.specs.Reports.{TellsFiles}
+use Rattle.review_reports.specs.Pages.{TellsPage}
+use Rattle.review_reports.specs.Reports.{TellsFiles}
 use Rattle.review_command.specs.Runs.{AsksWarnings, ReportsTell, PagesTell}
-use Rattle.review_command.specs.declared.reports.Kind.{Kind}
-use Rattle.review_command.specs.declared.reports.Kind.TheVariants.{Warnings}
+use Rattle.review_reports.specs.declared.reports.Kind.{Kind}
+use Rattle.review_reports.specs.declared.reports.Kind.TheVariants.{Warnings}
 
 module _ {R W E : Type 0} (holds : List ℕ → Option (List ℕ)) (remaining : R → Option (List ℕ)) (contents : W → Option (List ℕ)) (told : E → Option (List ℕ)) where
   pub warns : (asked : Report) (warn : Warn) (w : Bor Warn) (input : R) (out : W) (status : ℕ) (end : R) (old new : Counted W)

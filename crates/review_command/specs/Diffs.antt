@@ -7,7 +7,7 @@ use Rattle.review_patterns.specs.declared.pattern.Pattern.{Pattern}
 use Rattle.review_args.specs.declared.words.Diff.{Diff}
 use Rattle.review_lines.specs.declared.listed.Listed.{Listed}
 use Rattle.review_compare.specs.Compared.{DiffLines, DiffLists}
-use Rattle.review_command.specs.Named.{AreNamed}
+use Rattle.review_files.specs.Named.{AreNamed}
 
 -- The two files of these names are accepted, the lines of their differences were written and nothing else. The status is 0 if no difference is left, and else 1; without patterns it is 0 if their streams are the same, and else 1.
 pub record DiffTells {W : Type 0} (holds : List ℕ → Option (List ℕ)) (rest : Option (List ℕ)) (contents : W → Option (List ℕ)) (asked : Diff) (ignored : List Pattern) (old new : Counted W) (status : ℕ) : Type 0 where

@@ -15,10 +15,10 @@ use Rattle.review_args.specs.declared.words.Warn.{Warn}
 use Rattle.yaml_sum.specs.Asks.{SumTells}
 use Rattle.yaml_sum.specs.declared.asked.Asked.{Asked as SumAsked}
 use Rattle.yaml_sum.specs.declared.asked.Asked.TheVariants.{Files, FilesFrom, Check}
-use Rattle.review_command.specs.Pages.{TellsPage}
-use Rattle.review_command.specs.Reports.{TellsFiles}
-use Rattle.review_command.specs.declared.reports.Kind.{Kind}
-use Rattle.review_command.specs.declared.reports.Kind.TheVariants.{Faults, Warnings}
+use Rattle.review_reports.specs.Pages.{TellsPage}
+use Rattle.review_reports.specs.Reports.{TellsFiles}
+use Rattle.review_reports.specs.declared.reports.Kind.{Kind}
+use Rattle.review_reports.specs.declared.reports.Kind.TheVariants.{Faults, Warnings}
 
 -- what is asked of sums: a list is checked, the files of a list are summed, or those that are named
 abbrev pub AsksSum : Sum → SumAsked → Type 0

@@ -7,15 +7,13 @@ use crate::diff::{NoDiff, diff, diff_page};
 use crate::folders::{are_folders, folders};
 use crate::git::{git_asked, git_text, put_page};
 use crate::host::Host;
-use crate::pages::pages;
-use crate::reports::{Kind, reports};
 use crate::show::show_files;
-use crate::telling::{
-    GIT_WORDS, ONE_INPUT, UNUSABLE, put_line, tell_bare, tell_unread, tell_usage,
-};
-use crate::unread::Unread;
 use clap::Error;
 use review_args::{Asked, Sum, in_order, read_words};
+use review_files::telling::{UNUSABLE, put_line, tell_bare, tell_unread, tell_usage};
+use review_files::unread::Unread;
+use review_reports::pages::pages;
+use review_reports::reports::{Kind, reports};
 use review_text::put_shown;
 use std::alloc::Global;
 use std::io::{Read, Write};
@@ -30,6 +28,11 @@ use yaml_text::counted::Counted;
 use yaml_text::fault::Fault;
 
 const DONE: u8 = 0;
+
+/// What is wrong with words that give a command, and are none that it can do.
+const ONE_INPUT: &str = "yamlreview: usage: `-` is standard input, which is read once\n";
+
+const GIT_WORDS: &str = "yamlreview: usage: git passes 1, 7 or 9 words\n";
 
 /// Writes what git asks for, and answers the status.
 fn git<S: Shelf, W: Write, E: Write>(

@@ -1,21 +1,21 @@
 //! The command `diff`.
 ghost use Rattle.std.specs.Prelude.{◌≡◌, ◌<◌, ◌-◌, ◌^◌, ℕ, List, Option, cond, IfOk, IfErr};
 ghost use Rattle.yaml_text.specs.CountedModel.{faults_of};
+ghost use Rattle.review_files.specs.Named.{AreNamed, AreNotBoth};
 ghost use Rattle.review_command.specs.Diffs.{DiffTells, DiffShows};
-ghost use Rattle.review_command.specs.Named.{AreNamed};
-ghost use Rattle.review_command.specs.Rejections.{AreNotBoth, Refuses, DiffRefuses};
+ghost use Rattle.review_command.specs.Rejections.{Refuses, DiffRefuses};
 ghost use Rattle.review_command.specs.declared.diff.NoDiff.TheVariants.{Fault as NoText};
 
-use crate::files::{NotBoth, read_both};
-use crate::findings::difference_found;
-use crate::pages::page_text;
-use crate::rejected::{Named, put_not_compared, put_rejections};
-use crate::unread::Unread;
 use review_args::{Diff, Page};
 use review_compare::{compare_sides, list_sides};
+use review_files::files::{NotBoth, read_both};
+use review_files::rejected::{Named, put_not_compared, put_rejections};
+use review_files::unread::Unread;
 use review_formats::{Findings, Shown};
 use review_lines::Listed;
 use review_patterns::Pattern;
+use review_reports::findings::difference_found;
+use review_reports::pages::page_text;
 use review_text::put_visible;
 use std::alloc::Global;
 use std::io::{Read, Write};

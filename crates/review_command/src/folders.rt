@@ -1,11 +1,11 @@
 //! The files of two folders, compared by their names.
-use crate::files::read_file;
 use crate::host::Host;
-use crate::rejected::{Named, put_not_compared, put_rejection, put_rejections};
-use crate::telling::{put_line, tell_bare, tell_unread};
-use crate::unread::Unread;
 use review_args::{Diff, Form};
 use review_compare::compare_sides;
+use review_files::files::read_file;
+use review_files::rejected::{Named, put_not_compared, put_rejection, put_rejections};
+use review_files::telling::{put_line, tell_bare, tell_unread};
+use review_files::unread::Unread;
 use review_patterns::Pattern;
 use review_text::json::{Said, put_object};
 use review_text::put_shown;

@@ -1,10 +1,10 @@
 //! What git passes to an external diff.
-use crate::files::read_file;
 use crate::git_show::put_shown_lines;
-use crate::rejected::{Named, put_not_compared, put_rejection, put_rejections};
-use crate::unread::Unread;
 use review_args::{Diff, Form};
 use review_compare::compare_sides;
+use review_files::files::read_file;
+use review_files::rejected::{Named, put_not_compared, put_rejection, put_rejections};
+use review_files::unread::Unread;
 use review_text::put_shown;
 use std::alloc::Global;
 use std::io::{ErrorKind, Write};

@@ -4,15 +4,8 @@
 pub mod arguments;
 pub mod command;
 pub mod diff;
-mod files;
-mod findings;
 mod folders;
 mod git;
 mod git_show;
 mod host;
-mod pages;
-mod rejected;
-pub mod reports;
 mod show;
-pub mod telling;
-pub mod unread;

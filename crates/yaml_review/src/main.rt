@@ -3,7 +3,7 @@
 
 use review_command::arguments::words_of;
 use review_command::command::command;
-use review_command::telling::tell_no_words;
+use review_files::telling::tell_no_words;
 use std::io::IsTerminal;
 use std::process::ExitCode;
 

@@ -1,5 +1,5 @@
 use Rattle.std.proofs.Common.{◌++◌, string_bytes, ◌∙◌, ap, subst}
-use Rattle.review_command.specs.Rejections.{AreNotBoth}
+use Rattle.review_files.specs.Named.{AreNotBoth}
 use Rattle.review_command.proofs.RejectionLaws.{not_both}
 use Rattle.review_command.proofs.diff.not_read.Goals as goal
 

@@ -1,0 +1,119 @@
+//! The lines of standard error.
+ghost use Rattle.std.specs.Prelude.{◌≡◌, ◌++◌, ℕ, List, OnOk, codes, string_bytes};
+ghost use Rattle.review_text.specs.Terminal.{terminal};
+ghost use Rattle.review_files.specs.Told.{TellsName};
+ghost use Rattle.review_files.specs.Statuses.{fault_status, unread_status};
+
+use crate::unread::{Unread, fault_status};
+use review_text::put_shown;
+use std::alloc::Global;
+use std::io::Write;
+use yaml_args::WordsFault;
+use yaml_command::line::tell_fault;
+use yaml_spell::page::write_whole;
+use yaml_text::counted::Counted;
+use yaml_text::fault::Fault;
+
+/// The status where the words, a file or a stream cannot be used.
+pub const UNUSABLE: u8 = 3;
+
+/// What each line begins with.
+const FRONT: &str = "yamlreview: ";
+
+/// What is wrong with the program's own words.
+const NO_WORDS: &str = "yamlreview: usage: the words cannot be read\n";
+
+/// Writes a line. Where standard error fails too, the status alone is left to tell what the line would.
+pub fn put_line<E: Write>(line: &str, err: &mut E) {
+    let _ = write_whole(&mut Counted::new(err), line.as_bytes());
+}
+
+/// Writes the line of wrong usage, and answers the status.
+pub fn tell_usage<E: Write>(line: &str, err: &mut E) -> u8
+    ensures { result ≡ 3 }
+{
+    put_line(line, err);
+    UNUSABLE
+}
+
+/// Writes what the line of a file begins with: the program's name and the file's, with `?` for what of it a terminal would not print.
+fn put_front(out: &mut String, name: &str) -> Result<(), Fault>
+    ensures { OnOk result (string_bytes out.new ≡ string_bytes out.old ++ (codes "yamlreview: " ++ (terminal name.now ++ codes ": "))) }
+{
+    out.push_str(FRONT)?;
+    put_shown(out, name)?;
+    out.push_str(": ")?;
+    Ok(())
+}
+
+/// Writes what the line of a file begins with, and these two texts.
+fn put_name_line(out: &mut String, name: &str, words: &str, more: &str) -> Result<(), Fault>
+    ensures { OnOk result ((text : List ℕ) × (string_bytes out.new ≡ string_bytes out.old ++ text) × TellsName name.now text) }
+{
+    put_front(out, name)?;
+    out.push_str(words)?;
+    out.push_str(more)?;
+    Ok(())
+}
+
+/// Writes the line of a fault of a file that has no place in it.
+pub fn put_fault_line(
+    alloc: Global,
+    out: &mut String,
+    name: &str,
+    fault: Fault,
+) -> Result<(), Fault>
+    ensures { OnOk result ((text : List ℕ) × (string_bytes out.new ≡ string_bytes out.old ++ text) × TellsName name.now text) }
+{
+    let line = format!(in alloc; "{fault}\n")?;
+    put_name_line(out, name, "", line.as_str())
+}
+
+/// Writes the line of a file that is not read.
+pub(crate) fn put_unread(
+    alloc: Global,
+    out: &mut String,
+    name: &str,
+    unread: Unread,
+) -> Result<(), Fault>
+    ensures { OnOk result ((text : List ℕ) × (string_bytes out.new ≡ string_bytes out.old ++ text) × TellsName name.now text) }
+{
+    match unread {
+        Unread::CannotOpen(why) => {
+            let line = format!(in alloc; "{}\n", why.words())?;
+            put_name_line(out, name, "cannot open: ", line.as_str())
+        }
+        Unread::Fault(fault) => put_fault_line(alloc, out, name, fault),
+    }
+}
+
+/// Tells that a list cannot be opened, or why a file is not read, and answers the status.
+pub fn tell_unread<E: Write>(alloc: Global, name: &str, unread: Unread, err: &mut E) -> u8
+    ensures { result ≡ unread_status unread }
+{
+    let mut line = String::new(alloc);
+    if put_unread(alloc, &mut line, name, unread).is_ok() {
+        put_line(&line, err);
+    }
+    unread.status()
+}
+
+/// Tells a fault of no file, and answers the status.
+pub fn tell_bare<E: Write>(fault: Fault, err: &mut E) -> u8
+    ensures { result ≡ fault_status fault }
+{
+    // Where standard error fails too, the status alone is left to tell it.
+    let _ = tell_fault(FRONT, fault, &mut Counted::new(err));
+    fault_status(fault)
+}
+
+/// Tells why the program's own words can't be read, and answers the status.
+pub fn tell_no_words<E: Write + Drop>(fault: WordsFault, mut err: E) -> u8 {
+    match fault {
+        WordsFault::Usage => tell_usage(NO_WORDS, &mut err),
+        WordsFault::OutOfMemory => {
+            tell_bare(Fault::OutOfMemory, &mut err);
+            UNUSABLE
+        }
+    }
+}

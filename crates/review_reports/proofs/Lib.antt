@@ -1,0 +1,2 @@
+mod PageLaws
+mod ReportLaws

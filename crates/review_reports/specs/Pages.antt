@@ -1,0 +1,86 @@
+-- What `faults` and `warn` find in files, and what is written of it as a whole.
+use Rattle.std.specs.Prelude.{◌≡◌, ◌⊎◌, ◌==◌, ◌&&◌, ℕ, max, not, cond, List, [], ◌∷◌, ◌++◌, length, Option, string_bytes}
+use Rattle.yaml_text.specs.Fault.{fault_name}
+use Rattle.yaml_text.specs.declared.fault.Fault.{Fault}
+use Rattle.yaml_text.specs.declared.fault.Fault.TheVariants.{TooLong}
+use Rattle.yaml_text.specs.declared.counted.Counted.{Counted}
+use Rattle.yaml_text.specs.Writers.{Printed, Broken}
+use Rattle.yaml_canon.specs.Claims.{CanonicalRefuses}
+use Rattle.yaml_canon.specs.FaultPlaces.{TellsPlace}
+use Rattle.review_args.specs.declared.words.Warn.{Warn}
+use Rattle.review_formats.specs.declared.finding.Finding.{Finding}
+use Rattle.review_lines.specs.Spotted.{IsSpotted}
+use Rattle.review_files.specs.Named.{ReadsNamed, ReadsNot}
+use Rattle.review_files.specs.Told.{IsAccepted}
+use Rattle.review_reports.specs.Reports.{HasNoText}
+use Rattle.review_files.specs.Statuses.{fault_status, unread_status}
+use Rattle.review_files.specs.declared.unread.Unread.{Unread}
+use Rattle.review_files.specs.declared.unread.Unread.TheVariants as unread
+use Rattle.review_reports.specs.declared.reports.Kind.{Kind}
+use Rattle.review_reports.specs.declared.reports.Kind.TheVariants.{Faults, Warnings}
+
+-- ---- one file
+
+-- it is this fault of a file of this name and these bytes, at its place
+pub record IsFault (name bytes : List ℕ) (fault : Fault) (one : Finding) : Type 0 where
+  pub file : string_bytes one.file ≡ name
+  pub rule : one.rule.now ≡ fault_name fault
+  pub place : IsSpotted bytes fault one.place
+
+-- one fault is found
+abbrev pub FindsFault : List ℕ → List ℕ → Fault → List Finding → Type 0
+FindsFault name bytes fault list = (one : Finding) × (list ≡ one ∷ []) × IsFault name bytes fault one
+
+-- Nothing is found in a file that is accepted, but for warnings, of which it is not said which. With `--strict` the status is 1 if there is one. Those that are not asked for are not listed.
+abbrev pub FindsWarnings : Warn → List Finding → ℕ → Type 0
+FindsWarnings w list status = (all : List Finding) × (list ≡ cond (w.lines == 0) [] all) × (status ≡ cond (w.is_strict && not (length all == 0)) 1 0)
+
+abbrev pub FindsAccepted : Kind → List Finding → ℕ → Type 0
+FindsAccepted Faults list status = (list ≡ []) × (status ≡ 0)
+FindsAccepted (Warnings w) list status = FindsWarnings w.now list status
+
+-- what is found in bytes: the fault with which `canonical` refuses them
+abbrev pub FindsBytes : Kind → List ℕ → List ℕ → List Finding → ℕ → Type 0
+FindsBytes kind name bytes list status =
+    (IsAccepted bytes × FindsAccepted kind list status)
+    ⊎ ((fault : Fault) × CanonicalRefuses bytes fault × TellsPlace bytes fault × FindsFault name bytes fault list × (status ≡ 2))
+
+-- ---- what is written
+
+module _ {W : Type 0} (contents : W → Option (List ℕ)) where
+  -- Some text was written of what was found, and the status is that; or the output fails behind a beginning of it, or nothing is written because of a fault.
+  abbrev pub WritesPage : Counted W → Counted W → ℕ → ℕ → Type 0
+  WritesPage out end found status =
+      ((text : List ℕ) × Printed contents out end text × (status ≡ found))
+      ⊎ (((text : List ℕ) × Broken contents out end text × (status ≡ max found 3))
+      ⊎ ((fault : Fault) × (end ≡ out) × (status ≡ max found (fault_status fault))))
+
+-- ---- a file
+
+module _ {R : Type 0} (holds : List ℕ → Option (List ℕ)) (remaining : R → Option (List ℕ)) where
+  -- in a file, which has more bytes than a text may have or is read
+  abbrev pub HasFound : Kind → List ℕ → R → R → List Finding → ℕ → Type 0
+  HasFound kind name old new list status =
+      ((bytes : List ℕ) × ReadsNamed holds remaining name old new bytes × FindsBytes kind name bytes list status)
+      ⊎ (ReadsNot holds remaining name old new (unread.Fault TooLong) × FindsFault name [] TooLong list × (status ≡ 2))
+
+  -- or nothing, with the status of why it is not read or nothing is made of it
+  abbrev pub FindsFile : Kind → List ℕ → R → R → List Finding → ℕ → Type 0
+  FindsFile kind name old new list status =
+      HasFound kind name old new list status
+      ⊎ ((why : Unread) × HasNoText holds remaining name old new why × (list ≡ []) × (status ≡ unread_status why))
+
+  -- ---- files in turn
+
+  -- What is found in each, one behind the other. The status is the greatest of all: 0 exactly if each file is read and accepted, and none has a warning where that is asked.
+  abbrev pub FindsFiles : Kind → List (List ℕ) → R → R → List Finding → ℕ → Type 0
+  FindsFiles kind [] old new list status = (new ≡ old) × (list ≡ []) × (status ≡ 0)
+  FindsFiles kind (name ∷ names) old new list status =
+      (next : R) × (found : List Finding) × (more : List Finding) × (first : ℕ) × (rest : ℕ) × FindsFile kind name old next found first × FindsFiles kind names next new more rest × (list ≡ found ++ more) × (status ≡ max first rest)
+
+  module _ {W : Type 0} (contents : W → Option (List ℕ)) where
+    -- The files are looked at in turn and the page is written. Where memory for what was found is refused, nothing is written, and the status tells it.
+    abbrev pub TellsPage : Kind → List (List ℕ) → R → R → Counted W → Counted W → ℕ → Type 0
+    TellsPage kind names old new out end status =
+        ((list : List Finding) × (found : ℕ) × FindsFiles kind names old new list found × WritesPage contents out end found status)
+        ⊎ ((fault : Fault) × (end ≡ out) × (status ≡ fault_status fault))

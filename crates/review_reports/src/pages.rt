@@ -1,0 +1,240 @@
+//! The commands `faults` and `warn`, of which all that is found is written as a whole.
+ghost use Rattle.std.specs.Prelude.{◌≡◌, ◌<◌, ◌-◌, ◌^◌, ◌++◌, map, [], IfOk, IfErr, OnOk};
+ghost use Rattle.yaml_text.specs.CountedModel.{faults_of};
+ghost use Rattle.review_reports.specs.Reports.{HasNoText};
+ghost use Rattle.review_reports.specs.Pages.{FindsWarnings, FindsAccepted, FindsFault, FindsBytes, HasFound, FindsFile, FindsFiles, WritesPage, TellsPage};
+
+use crate::findings::{fault_found, warning_found};
+use crate::reports::{Kind, room_of, warned_status};
+use review_args::{Page, Report, Warn};
+use review_compare::fault_of;
+use review_files::files::read_named;
+use review_files::telling::{tell_bare, tell_unread};
+use review_files::unread::{Unread, greater};
+use review_formats::{Finding, Findings, Shown, github_text, html_text, markdown_text, sarif_text};
+use review_lines::list_warnings;
+use std::alloc::Global;
+use std::io::{Read, Write};
+use yaml_command::shelf::Shelf;
+use yaml_command::streams::write_out;
+use yaml_text::counted::Counted;
+use yaml_text::fault::Fault;
+
+const DONE: u8 = 0;
+
+/// The status of a file that is rejected.
+const REJECTED: u8 = 2;
+
+/// What is found as text. Only a page shows lines of the two files.
+pub fn page_text(
+    alloc: Global,
+    page: Page,
+    found: &Findings,
+    shown: Option<(&Shown, &Shown)>,
+) -> Result<String, Fault> {
+    match page {
+        Page::Html => html_text(alloc, found, shown),
+        Page::Markdown => markdown_text(alloc, found),
+        Page::Sarif => sarif_text(alloc, found),
+        Page::Github => github_text(alloc, found),
+    }
+}
+
+/// A fault of a file, as a list.
+fn fault_list(alloc: Global, name: &str, bytes: &[u8], fault: Fault) -> Result<Vec<Finding>, Fault>
+    ensures { IfOk result (λ list. FindsFault name.now bytes.now fault list.items) }
+{
+    let mut list = Vec::new(alloc);
+    list.push(fault_found(alloc, name, bytes, fault)?)?;
+    Ok(list)
+}
+
+/// The warnings of a file.
+fn warnings_found(
+    alloc: Global,
+    warn: &Warn<'_>,
+    name: &str,
+    bytes: &[u8],
+) -> Result<Vec<Finding>, Fault> {
+    let warnings = list_warnings(alloc, bytes, &warn.allowed, room_of(warn.lines))?;
+    let mut list = Vec::new(alloc);
+    for warning in &warnings.list {
+        list.push(warning_found(alloc, name, warning)?)?;
+    }
+    Ok(list)
+}
+
+/// The warnings of a file that are asked for, and the status.
+fn warned_list(
+    alloc: Global,
+    warn: &Warn<'_>,
+    name: &str,
+    bytes: &[u8],
+) -> Result<(Vec<Finding>, u8), Fault>
+    ensures { IfOk result (λ told. FindsWarnings warn.now told.0.items told.1) }
+{
+    let all = warnings_found(alloc, warn, name, bytes)?;
+    let status = warned_status(warn.is_strict, all.len() == 0);
+    if warn.lines == 0 {
+        return Ok((Vec::new(alloc), status));
+    }
+    Ok((all, status))
+}
+
+/// What is found in a file that is accepted, and the status.
+fn accepted_list(
+    alloc: Global,
+    kind: Kind<'_>,
+    name: &str,
+    bytes: &[u8],
+) -> Result<(Vec<Finding>, u8), Fault>
+    ensures { IfOk result (λ told. FindsAccepted kind.entry told.0.items told.1) }
+{
+    match kind {
+        Kind::Faults => Ok((Vec::new(alloc), DONE)),
+        Kind::Warnings(warn) => warned_list(alloc, warn, name, bytes),
+    }
+}
+
+/// What is found in a file that was read, and the status.
+fn bytes_list(
+    alloc: Global,
+    kind: Kind<'_>,
+    name: &str,
+    bytes: &[u8],
+) -> Result<(Vec<Finding>, u8), Fault>
+    ensures { IfOk result (λ told. FindsBytes kind.entry name.now bytes.now told.0.items told.1) }
+{
+    match fault_of(alloc, bytes) {
+        Some(fault) => Ok((fault_list(alloc, name, bytes, fault)?, REJECTED)),
+        None => accepted_list(alloc, kind, name, bytes),
+    }
+}
+
+/// What is found in a file, and its status; or why nothing is.
+fn list_of<S: Shelf, R: Read>(
+    shelf: &S,
+    alloc: Global,
+    kind: Kind<'_>,
+    name: &str,
+    input: &mut R,
+) -> Result<(Vec<Finding>, u8), Unread>
+    ensures ok { IfOk result (λ told. HasFound (S.holds shelf.now) R.remaining kind.entry name.now input.old input.new told.0.items told.1) }
+    ensures err { IfErr result (HasNoText (S.holds shelf.now) R.remaining name.now input.old input.new) }
+{
+    match read_named(shelf, alloc, name, input) {
+        Ok(bytes) => match bytes_list(alloc, kind, name, &bytes) {
+            Ok(told) => Ok(told),
+            Err(fault) => Err(Unread::Fault(fault)),
+        },
+        Err(Unread::Fault(Fault::TooLong)) => match fault_list(alloc, name, &[], Fault::TooLong) {
+            Ok(list) => Ok((list, REJECTED)),
+            Err(fault) => Err(Unread::Fault(fault)),
+        },
+        Err(unread) => Err(unread),
+    }
+}
+
+/// What is found in a file, and its status. Why a file cannot be read goes to standard error.
+fn file_list<S: Shelf, R: Read, E: Write>(
+    shelf: &S,
+    alloc: Global,
+    kind: Kind<'_>,
+    name: &str,
+    input: &mut R,
+    err: &mut E,
+) -> (Vec<Finding>, u8)
+    ensures { FindsFile (S.holds shelf.now) R.remaining kind.entry name.now input.old input.new result.0.items result.1 }
+{
+    match list_of(shelf, alloc, kind, name, input) {
+        Ok(told) => told,
+        Err(unread) => {
+            let status = tell_unread(alloc, name, unread, err);
+            (Vec::new(alloc), status)
+        }
+    }
+}
+
+/// Adds what is found in a file to a list.
+fn add(list: &mut Vec<Finding>, mut more: Vec<Finding>) -> Result<(), Fault>
+    ensures { OnOk result (list.new.items ≡ list.old.items ++ more.items) }
+{
+    list.append(&mut more)?;
+    Ok(())
+}
+
+/// What is found in files, one after another, and the greatest status of all.
+fn files_list<S: Shelf, R: Read, E: Write>(
+    shelf: &S,
+    alloc: Global,
+    kind: Kind<'_>,
+    files: &[&str],
+    input: &mut R,
+    err: &mut E,
+) -> Result<(Vec<Finding>, u8), Fault>
+    ensures { IfOk result (λ told. FindsFiles (S.holds shelf.now) R.remaining kind.entry (map (λ s. s.now) files.now) input.old input.new told.0.items told.1) }
+{
+    let mut list = Vec::new(alloc);
+    let mut status = DONE;
+    'files: for name in files {
+        let (more, answer) = file_list(shelf, alloc, kind, *name, input, err);
+        add(&mut list, more)?;
+        status = greater(status, answer);
+    }
+    Ok((list, status))
+}
+
+/// Writes what is found, and answers the status: that of the files, unless the output fails or memory is refused.
+fn put_page<W: Write, E: Write>(
+    text: Result<String, Fault>,
+    status: u8,
+    out: &mut Counted<W>,
+    err: &mut E,
+) -> u8
+    requires { faults_of out.old < 2 ^ 64 - 1 }
+    ensures { WritesPage W.contents out.old out.new status result }
+{
+    match text {
+        Ok(text) => match write_out(out, text.as_bytes()) {
+            Ok(()) => status,
+            Err(fault) => greater(status, tell_bare(fault, err)),
+        },
+        Err(fault) => greater(status, tell_bare(fault, err)),
+    }
+}
+
+/// What a command found, of which all is listed.
+fn as_found(kind: Kind<'_>, list: Vec<Finding>) -> Findings {
+    Findings {
+        command: match kind {
+            Kind::Faults => "faults",
+            Kind::Warnings(_) => "warn",
+        },
+        names: None,
+        list,
+        whole: true,
+    }
+}
+
+/// Looks at each file, and writes what is found as a whole. The status is the greatest of all.
+pub fn pages<S: Shelf, R: Read, W: Write, E: Write>(
+    shelf: &S,
+    alloc: Global,
+    told: (Kind<'_>, Page),
+    asked: &Report<'_>,
+    input: &mut R,
+    out: &mut Counted<W>,
+    err: &mut E,
+) -> u8
+    requires { faults_of out.old < 2 ^ 64 - 1 }
+    ensures { TellsPage (S.holds shelf.now) R.remaining W.contents told.entry.0 (map (λ s. s.now) asked.now.files.items) input.old input.new out.old out.new result }
+{
+    let (kind, page) = told;
+    match files_list(shelf, alloc, kind, &asked.files, input, err) {
+        Ok((list, status)) => {
+            let text = page_text(alloc, page, &as_found(kind, list), None);
+            put_page(text, status, out, err)
+        }
+        Err(fault) => tell_bare(fault, err),
+    }
+}
