@@ -35,7 +35,7 @@ last-more (y ∷ xs) t = last-more xs t
 same-at : (list : List Difference) (k : ℕ) → OfSameAt list k k
 same-at list k d e f g = let h : d ≡ e = some-is (sym f ∙ g) in (ap (λ z. z.left) h, ap (λ z. z.right) h)
 
-pub abbrev SoFar : List Difference → List ℕ → Type 0
+abbrev pub SoFar : List Difference → List ℕ → Type 0
 SoFar list tellers = (k i : ℕ) → slice_get tellers k ≡ Some i → TellsFor list tellers k i
 
 kept : (list : List Difference) (xs : List ℕ) (t k i : ℕ) → TellsFor list xs k i → TellsFor list (xs ++ (t ∷ [])) k i

@@ -3,4 +3,4 @@
 
 pub mod fold;
 
-pub use fold::counts;
+pub use fold::{Cause, counts};
