@@ -38,7 +38,11 @@ pub record IsFold (list : List Difference) (counts : List ℕ) : Type 0 where
   pub are : Tellers list tellers
   pub counted : Counted tellers counts
 
+-- this number stands so many times in the list, and no other does
+abbrev pub Filled : ℕ → ℕ → List ℕ → Type 0
+Filled n count xs = (length xs ≡ count) × ((k m : ℕ) → slice_get xs k ≡ Some m → m ≡ n)
+
 -- the same or, without folds, a line for each difference alone
 abbrev pub Folds : Bool → List Difference → List ℕ → Type 0
 Folds true list counts = IsFold list counts
-Folds false list counts = (length counts ≡ length list) × ((k n : ℕ) → slice_get counts k ≡ Some n → n ≡ 1)
+Folds false list counts = Filled 1 (length list) counts

@@ -1,8 +1,8 @@
 //! How many differences each line tells.
-ghost use Rattle.std.specs.Prelude.{◌≡◌, ◌⊎◌, ◌<◌, ◌≤◌, true, length, Some, IfOk, IfErr};
+ghost use Rattle.std.specs.Prelude.{◌≡◌, ◌⊎◌, true, length, Some, IfOk, IfErr};
 ghost use Rattle.std.specs.List.{slice_get};
 ghost use Rattle.yaml_diff.specs.declared.difference.Difference.{Difference};
-ghost use Rattle.review_folds.specs.Folds.{OfSameNodes, OfSameAt, TellsFor, Tellers, Counted, Folds};
+ghost use Rattle.review_folds.specs.Folds.{OfSameNodes, OfSameAt, TellsFor, Tellers, Counted, Filled, Folds};
 
 use std::alloc::Global;
 use std::collections::BTreeMap;
@@ -117,31 +117,28 @@ fn tellers(
     Ok(tellers)
 }
 
+/// A list of one number, so many times.
+fn filled(alloc: Global, number: usize, len: usize) -> Result<Vec<usize>, Fault>
+    ensures ok { IfOk result (λ it. Filled number len it.items) }
+    ensures err { IfErr result (λ fault. fault ≡ Fault.OutOfMemory) }
+{
+    let mut list = Vec::new(alloc);
+    for _ in 0..len {
+        list.push(number)?;
+    }
+    Ok(list)
+}
+
 /// How often each number below the length of a list stands in it.
 fn times(alloc: Global, list: &[usize]) -> Result<Vec<usize>, Fault>
     ensures ok { IfOk result (λ it. Counted list.now it.items) }
     ensures err { IfErr result (λ fault. fault ≡ Fault.OutOfMemory) }
 {
-    let mut counts = Vec::new(alloc);
-    for _ in 0..list.len() {
-        counts.push(0)?;
-    }
+    let mut counts = filled(alloc, 0, list.len())?;
     for number in list {
         if *number < counts.len() {
             counts[*number] += 1;
         }
-    }
-    Ok(counts)
-}
-
-/// One for each difference of a list.
-fn ones(alloc: Global, list: &[Difference]) -> Result<Vec<usize>, Fault>
-    ensures ok { IfOk result (λ it. Folds false list.now it.items) }
-    ensures err { IfErr result (λ fault. fault ≡ Fault.OutOfMemory) }
-{
-    let mut counts = Vec::new(alloc);
-    for _ in list {
-        counts.push(1)?;
     }
     Ok(counts)
 }
@@ -159,7 +156,7 @@ pub fn counts(
     ensures err { IfErr result (λ fault. fault ≡ Fault.OutOfMemory) }
 {
     if !folds {
-        return ones(alloc, list);
+        return filled(alloc, 1, list.len());
     }
     let tellers = tellers(alloc, list, causes)?;
     times(alloc, &tellers)
