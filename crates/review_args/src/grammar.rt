@@ -47,7 +47,7 @@ struct Row {
     help: &'static str,
 }
 
-const DIFF: [Row; 13] = [
+const DIFF: [Row; 14] = [
     Row {
         id: "A",
         takes: Takes::File,
@@ -96,7 +96,12 @@ const DIFF: [Row; 13] = [
     Row {
         id: "by",
         takes: Takes::Keys,
-        help: "Pair items first by the values of these keys, parted by commas: `host,spec.id`",
+        help: "Pair items first by the values of these keys, parted by commas: `host,spec.id`; repeatable",
+    },
+    Row {
+        id: "no-fold",
+        takes: Takes::Flag,
+        help: "Print a line for each place at which aliases show one change",
     },
     Row {
         id: "color",
@@ -225,7 +230,7 @@ fn arg_of<'a>(alloc: Global, row: &Row) -> Result<Arg<'a>, AllocError> {
         Takes::OneOf(name, words) => {
             Ok(one_of(arg, row, name, words.as_slice()).default_value(words[0]))
         }
-        Takes::Keys => Ok(arg.long(row.id).value_name("KEYS")),
+        Takes::Keys => Ok(texts(arg, row, "KEYS")),
         Takes::Names => arg.long(row.id).value_name("LIST").conflicts_with("FILE"),
         Takes::Digests => arg
             .long(row.id)

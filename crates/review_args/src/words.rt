@@ -58,8 +58,10 @@ pub struct Diff<'a> {
     pub stat: bool,
     /// Whether items are paired by their places, so that none moves.
     pub by_position: bool,
-    /// Keys whose values name items, before other names: `spec.id,host`. Empty where none is given.
-    pub by: &'a str,
+    /// Keys whose values name items, before other names, each text with some of them: `spec.id,host`.
+    pub by: &'a [&'a str],
+    /// Whether one line tells all differences of one node for which aliases stand.
+    pub folds: bool,
     pub ghost few: { context ≤ 1000 },
 }
 
@@ -220,7 +222,12 @@ fn warn_of<'a>(alloc: Global, matches: &ArgMatches<'a>) -> Result<Warn<'a>, Allo
     })
 }
 
-fn diff_of<'a>(matches: &ArgMatches<'a>, is_terminal: bool) -> Diff<'a> {
+/// Whether one line tells several differences: in lines of text, unless it is asked otherwise.
+fn folds_of(matches: &ArgMatches<'_>) -> bool {
+    matches.get_str("format") == Some("line") && !matches.get_flag("no-fold")
+}
+
+fn diff_of<'a>(matches: &ArgMatches<'a>, by: &'a [&'a str], is_terminal: bool) -> Diff<'a> {
     Diff {
         left: matches.get_str("A").unwrap_or("-"),
         right: matches.get_str("B").unwrap_or("-"),
@@ -232,7 +239,8 @@ fn diff_of<'a>(matches: &ArgMatches<'a>, is_terminal: bool) -> Diff<'a> {
         color: color_of(matches, is_terminal),
         stat: matches.get_flag("stat"),
         by_position: matches.get_flag("by-position"),
-        by: matches.get_str("by").unwrap_or(""),
+        by,
+        folds: folds_of(matches),
     }
 }
 
@@ -275,10 +283,11 @@ const NO_STAT: &str =
 fn diff_asked<'a>(
     alloc: Global,
     inner: &ArgMatches<'a>,
+    by: &'a [&'a str],
     is_terminal: bool,
 ) -> Result<Asked<'a>, Error> {
     let ignored = ignored_of(alloc, inner)?;
-    let diff = diff_of(inner, is_terminal);
+    let diff = diff_of(inner, by, is_terminal);
     match page_of(inner) {
         None => Ok(Asked::Diff(diff, ignored)),
         Some(_) if diff.stat => Err(grammar(alloc)?.error(ErrorKind::ArgumentConflict, NO_STAT)?),
@@ -310,6 +319,7 @@ fn asked_of<'a>(
     alloc: Global,
     name: &str,
     inner: &ArgMatches<'a>,
+    by: &'a [&'a str],
     is_terminal: bool,
 ) -> Result<Asked<'a>, Error> {
     match name {
@@ -322,20 +332,33 @@ fn asked_of<'a>(
             check: inner.get_str("check"),
         })),
         "git" => Ok(Asked::Git(names(alloc, inner, "WORD")?)),
-        _ => diff_asked(alloc, inner, is_terminal),
+        _ => diff_asked(alloc, inner, by, is_terminal),
     }
 }
 
-/// Reads the words behind the program's own name, of a run whose output is a terminal or not. An error has the text for the user: what is wrong with the words, or the help
-/// or version that they ask for.
+/// The texts of `diff --by` among the words behind the program's own name, which `read_words` takes; none if the words ask for no
+/// command.
+pub fn read_keys<'a>(alloc: Global, words: &'a [String]) -> Result<Vec<&'a str>, AllocError> {
+    let Ok(matches) = grammar(alloc)?.try_get_matches_from(words) else {
+        return Ok(Vec::new(alloc));
+    };
+    match matches.subcommand() {
+        Some(("diff", inner)) => names(alloc, inner, "by"),
+        _ => Ok(Vec::new(alloc)),
+    }
+}
+
+/// Reads the words behind the program's own name, with the texts that `read_keys` finds in them, of a run whose output is a terminal or
+/// not. An error has the text for the user: what is wrong with the words, or the help or version that they ask for.
 pub fn read_words<'a>(
     alloc: Global,
     words: &'a [String],
+    by: &'a [&'a str],
     is_terminal: bool,
 ) -> Result<Asked<'a>, Error> {
     let matches = grammar(alloc)?.try_get_matches_from(words)?;
     match matches.subcommand() {
-        Some((name, inner)) => asked_of(alloc, name, inner, is_terminal),
+        Some((name, inner)) => asked_of(alloc, name, inner, by, is_terminal),
         None => Err(grammar(alloc)?.error(ErrorKind::MissingSubcommand, "no command is given")?),
     }
 }

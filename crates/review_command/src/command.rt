@@ -10,7 +10,7 @@ use crate::host::Host;
 use crate::names::are_folders;
 use crate::show::show_files;
 use clap::Error;
-use review_args::{Asked, Sum, in_order, read_words};
+use review_args::{Asked, Sum, in_order, read_keys, read_words};
 use review_files::telling::{UNUSABLE, put_line, tell_bare, tell_unread, tell_usage};
 use review_files::unread::Unread;
 use review_reports::pages::pages;
@@ -215,7 +215,11 @@ pub fn command_over<S: Shelf, R: Read + Drop, W: Write + Drop, E: Write + Drop>(
         Ok(words) => words,
         Err(_) => return tell_bare(Fault::OutOfMemory, &mut err),
     };
-    match read_words(alloc, &words, false) {
+    let by = match read_keys(alloc, &words) {
+        Ok(by) => by,
+        Err(_) => return tell_bare(Fault::OutOfMemory, &mut err),
+    };
+    match read_words(alloc, &words, &by, false) {
         Ok(asked) => run(shelf, alloc, asked, input, out, err),
         Err(error) => told(alloc, error, &mut out, &mut err),
     }
@@ -241,7 +245,11 @@ pub fn command<
         Ok(words) => words,
         Err(_) => return tell_bare(Fault::OutOfMemory, &mut err),
     };
-    match read_words(alloc, &words, is_terminal) {
+    let by = match read_keys(alloc, &words) {
+        Ok(by) => by,
+        Err(_) => return tell_bare(Fault::OutOfMemory, &mut err),
+    };
+    match read_words(alloc, &words, &by, is_terminal) {
         Ok(Asked::Sum(asked)) => {
             let asked = sum_asked(&asked);
             let shelf = Regular::new(rt, asked.list());

@@ -251,7 +251,8 @@ fn lines_of<'n>(left: &'n str, right: &'n str) -> Diff<'n> {
         color: false,
         stat: false,
         by_position: false,
-        by: "",
+        by: &[],
+        folds: true,
     }
 }
 

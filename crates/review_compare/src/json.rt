@@ -31,7 +31,8 @@ fn asked_json(lines: usize) -> Diff<'static>
         color: false,
         stat: false,
         by_position: false,
-        by: "",
+        by: &[],
+        folds: false,
     }
 }
 

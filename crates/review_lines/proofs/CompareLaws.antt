@@ -1,7 +1,7 @@
 -- The lines of the differences that were found.
-use Rattle.std.proofs.Common.{◌≡◌, ℕ, zero, suc, ◌+◌, ◌<◌, ◌≤◌, true, false, cond, List, [], ◌∷◌, ◌++◌, length, take, drop, get_or, refl, sym, ◌∙◌, ap, subst, add-one, drop-cons}
+use Rattle.std.proofs.Common.{◌≡◌, ℕ, zero, suc, ◌+◌, ◌<◌, ◌≤◌, true, false, cond, List, [], ◌∷◌, ◌++◌, length, map, take, drop, get_or, refl, sym, ◌∙◌, ap, subst, add-one, drop-cons}
 use Rattle.std.proofs.Math.ListN.{drop_of_length-le}
-use Rattle.std.proofs.lemmas.List.{append_assoc, append-nil}
+use Rattle.std.proofs.lemmas.List.{append_assoc, append-nil, map-append}
 use Rattle.yaml_diff.specs.declared.difference.Difference.{Difference}
 use Rattle.review_args.specs.declared.words.Diff.{Diff}
 use Rattle.review_text.specs.declared.both.Both.{Both}
@@ -12,6 +12,7 @@ use Rattle.std.proofs.lemmas.List.{take_more, take_all}
 use Rattle.yaml_graph.specs.declared.graph.Graph.{Graph}
 use Rattle.review_patterns.specs.declared.pattern.Pattern.{Pattern}
 use Rattle.review_ignore.specs.Ignored.{Keeps}
+use Rattle.review_folds.specs.Folds.{Folds}
 use Rattle.review_lines.specs.Compared.{TellsOne, TellsEach, TellsMoves, TellsFound, TellsAsked}
 
 -- one difference and its line more
@@ -28,6 +29,14 @@ tells_next both asked ds ls new i d e l m q h k p =
 pub tells_whole : (both : Both) (asked : Diff) (ds : List Difference) (ls : List Line) (i : ℕ) → length ds ≤ i → TellsEach both asked (take i ds) ls → TellsEach both asked ds ls
 tells_whole both asked ds ls i m h = subst (λ z. TellsEach both asked z ls) (take_all i ds m) h
 
+-- and what each line tells
+pub counts_next : (ns : List ℕ) (ls new : List Line) (i d n : ℕ) (l : Line) → i < length ns → n ≡ get_or ns i d → map (λ m. m.count) ls ≡ take i ns → l.count ≡ n → new ≡ ls ++ (l ∷ []) → map (λ m. m.count) new ≡ take (i + 1) ns
+counts_next ns ls new i d n l m q h k p =
+    ap (map (λ m. m.count)) p ∙ map-append (λ m. m.count) ls (l ∷ []) ∙ ap (λ z. z ++ (l.count ∷ [])) h ∙ ap (λ z. take i ns ++ (z ∷ [])) (k ∙ q) ∙ sym (take_more ns i d m)
+
+pub counts_whole : (ns : List ℕ) (ls : List Line) (i : ℕ) → length ns ≤ i → map (λ m. m.count) ls ≡ take i ns → map (λ m. m.count) ls ≡ ns
+counts_whole ns ls i m h = h ∙ take_all i ns m
+
 drop_next : {X : Type 0} (xs : List X) (i : ℕ) (d : X) → i < length xs → drop i xs ≡ get_or xs i d ∷ drop (i + 1) xs
 drop_next xs i d l = rw add-one (drop-cons xs i d l)
 
@@ -40,7 +49,7 @@ lines_next f ls i d o a whole l h e =
 pub lines_all : (f : Diff) (ls : List Line) (i : ℕ) (o whole : List ℕ) → length ls ≤ i → o ++ lines_text f (drop i ls) ≡ whole → o ≡ whole
 lines_all f ls i o whole l h = sym (append-nil o) ∙ ap (λ z. o ++ lines_text f z) (sym (drop_of_length-le ls l)) ∙ h
 
-module _ (both : Both) (asked : Diff) (f : Found) (ls ms : List Line) (o a c : List ℕ) (each : TellsEach both asked f.list.items ls) (moves : TellsMoves both asked f ms) (empty : o ≡ []) (put : a ≡ o ++ lines_text asked ls) (more : c ≡ a ++ lines_text asked ms) where
+module _ (both : Both) (asked : Diff) (f : Found) (ls ms : List Line) (o a c : List ℕ) (each : TellsEach both asked f.list.items ls) (folds : Folds asked.folds f.list.items (map (λ l. l.count) ls)) (moves : TellsMoves both asked f ms) (empty : o ≡ []) (put : a ≡ o ++ lines_text asked ls) (more : c ≡ a ++ lines_text asked ms) where
   all_put : c ≡ lines_text asked ls ++ lines_text asked ms
   all_put = more ∙ ap (λ z. z ++ lines_text asked ms) (put ∙ ap (λ z. z ++ lines_text asked ls) empty)
 
@@ -49,6 +58,7 @@ module _ (both : Both) (asked : Diff) (f : Found) (ls ms : List Line) (o a c : L
   found_whole w = record {
     lines = ls;
     each = each;
+    folds = folds;
     move_lines = ms;
     moves = moves;
     is = all_put ∙ sym (append-nil (lines_text asked ls ++ lines_text asked ms)) ∙ ap (λ z. (lines_text asked ls ++ lines_text asked ms) ++ cond z [] (more_text asked.form)) (sym w);
@@ -59,6 +69,7 @@ module _ (both : Both) (asked : Diff) (f : Found) (ls ms : List Line) (o a c : L
   found_cut b w h = record {
     lines = ls;
     each = each;
+    folds = folds;
     move_lines = ms;
     moves = moves;
     is = h ∙ ap (λ z. z ++ more_text asked.form) all_put ∙ ap (λ z. (lines_text asked ls ++ lines_text asked ms) ++ cond z [] (more_text asked.form)) (sym w);

@@ -4,6 +4,7 @@ ghost use Rattle.yaml_definitions.specs.model.Same.{Alike};
 ghost use Rattle.yaml_graph.specs.GraphView.{roots_of, tree};
 ghost use Rattle.yaml_rank.specs.RanksView.{RanksAre};
 ghost use Rattle.yaml_diff.specs.Found.{FindsItems};
+ghost use Rattle.review_folds.specs.Folds.{Folds};
 ghost use Rattle.review_lines.specs.Lines.{lines_text};
 ghost use Rattle.review_lines.specs.Compared.{room_of, room_for, search_room, is_numbered, ShowsNode, ShowsBoth, TellsOne, TellsEach, TellsMoves, TellsFound, TellsAsked, TellsStreams};
 
@@ -11,6 +12,7 @@ use crate::lines::{Line, put_more};
 use crate::stat::stat_text;
 use crate::strings::{Budget, changed_lines, differing_parts};
 use review_args::Diff;
+use review_folds::{Cause, counts};
 use review_ignore::kept;
 use review_patterns::Pattern;
 use review_places::finder::{Finder, Hand, Stream};
@@ -27,14 +29,16 @@ use yaml_pair::Asked;
 use yaml_place::Place;
 use yaml_text::fault::Fault;
 
-/// Keys that commas part.
-fn keys_of(alloc: Global, text: &str) -> Result<Vec<&str>, Fault>
+/// The keys of texts, in each of which commas part them.
+fn keys_of<'a>(alloc: Global, texts: &[&'a str]) -> Result<Vec<&'a str>, Fault>
     ensures err { IfErr result (λ fault. fault ≡ Fault.OutOfMemory) }
 {
     let mut keys = Vec::new(alloc);
-    for key in text.split(',') {
-        if !key.is_empty() {
-            keys.push(key)?;
+    for text in texts {
+        for key in text.split(',') {
+            if !key.is_empty() {
+                keys.push(key)?;
+            }
         }
     }
     Ok(keys)
@@ -140,11 +144,12 @@ fn shown_both(
     }
 }
 
-/// The places of the nodes of each difference, where they are told.
+/// The places of the nodes of each difference, where they are told, and what each has as its cause, where that is known.
 #[derive(Drop)]
 pub(crate) struct Places {
     left: Vec<Option<Place>>,
     right: Vec<Option<Place>>,
+    causes: Vec<Option<Cause>>,
 }
 
 /// Whether paths tell the number of the document: unless each side has one document.
@@ -154,7 +159,7 @@ fn is_numbered(both: &Both<'_>) -> bool
     !(both.documents == 1 && both.graph.roots().len() == 2)
 }
 
-/// The line of a difference, with these places of its nodes.
+/// The line of a difference, with these places of its nodes, which tells so many differences.
 #[tactic(auto, using(crate::proofs::StringLaws::one_told))]
 fn line_of(
     alloc: Global,
@@ -162,10 +167,12 @@ fn line_of(
     difference: &Difference,
     asked: &Diff<'_>,
     places: (Option<Place>, Option<Place>),
+    count: usize,
     budget: &mut Budget,
 ) -> Result<Line, Fault>
     requires ranked { RanksAre both.now.graph both.now.ranks }
-    ensures { IfOk result (TellsOne both.now asked.now difference.now) }
+    ensures one { IfOk result (TellsOne both.now asked.now difference.now) }
+    ensures count { IfOk result (λ line. line.count ≡ count) }
 {
     let path = path_text(alloc, both, &difference.path, is_numbered(both))?;
     let nodes = shown_both(alloc, both, difference, room_of(asked.whole), budget)?;
@@ -177,6 +184,7 @@ fn line_of(
         left_place: places.0,
         right_place: places.1,
         changes: lines,
+        count,
     })
 }
 
@@ -188,16 +196,19 @@ fn place_at(places: &[Option<Place>], number: usize) -> Option<Place> {
     }
 }
 
-/// The lines of differences.
-pub(crate) fn lines_of(
+/// The lines of differences, each of which tells so many of them.
+fn lines_with(
     alloc: Global,
     both: &Both<'_>,
     list: &[Difference],
     asked: &Diff<'_>,
     places: &Places,
+    counts: &[usize],
 ) -> Result<Vec<Line>, Fault>
     requires ranked { RanksAre both.now.graph both.now.ranks }
-    ensures { IfOk result (λ lines. TellsEach both.now asked.now list.now lines.items) }
+    requires level { length counts.now ≡ length list.now }
+    ensures each { IfOk result (λ lines. TellsEach both.now asked.now list.now lines.items) }
+    ensures counts { IfOk result (λ lines. map (λ line. line.count) lines.items ≡ counts.now) }
 {
     let mut lines = Vec::new(alloc);
     let mut budget = Budget::new();
@@ -206,9 +217,27 @@ pub(crate) fn lines_of(
             place_at(&places.left, number),
             place_at(&places.right, number),
         );
-        lines.push(line_of(alloc, both, difference, asked, at, &mut budget)?)?;
+        let count = counts[number];
+        lines.push(line_of(alloc, both, difference, asked, at, count, &mut budget)?)?;
     }
     Ok(lines)
+}
+
+/// The lines of differences: of those of the same cause one tells all, if that is asked for.
+pub(crate) fn lines_of(
+    alloc: Global,
+    both: &Both<'_>,
+    list: &[Difference],
+    asked: &Diff<'_>,
+    folds: bool,
+    places: &Places,
+) -> Result<Vec<Line>, Fault>
+    requires ranked { RanksAre both.now.graph both.now.ranks }
+    ensures each { IfOk result (λ lines. TellsEach both.now asked.now list.now lines.items) }
+    ensures folds { IfOk result (λ lines. Folds folds list.now (map (λ line. line.count) lines.items)) }
+{
+    let counts = counts(alloc, folds, list, &places.causes)?;
+    lines_with(alloc, both, list, asked, places, &counts)
 }
 
 /// One of two streams.
@@ -231,26 +260,69 @@ fn has_node(difference: &Difference, hand: Hand) -> bool {
     }
 }
 
-/// The places of one side's nodes, each with the number of its line, which rise.
+/// The places of one side's nodes, each with the number of its line, which rise; and the numbers of all these nodes.
+#[derive(Drop)]
+struct SidePlaces {
+    places: Vec<(usize, Place)>,
+    nodes: Vec<Option<usize>>,
+}
+
+/// Where the nodes of one side stand.
 fn side_places(
     alloc: Global,
     both: &Both<'_>,
     list: &[Difference],
     hand: Hand,
     side: Traced<'_>,
-) -> Result<Vec<(usize, Place)>, Fault> {
+) -> Result<SidePlaces, Fault> {
     let layout = lay_out_from(alloc, side.trace, side.first, side.end)?;
     let mut finder = Finder::new(alloc, both, stream_of(both, hand), layout);
     let mut offsets = Vec::new(alloc);
+    let mut nodes = vec![in alloc; None; list.len()]?;
     for (number, difference) in list.iter().enumerate() {
         if !has_node(difference, hand) {
             continue;
         }
-        if let Some(offset) = finder.offset(alloc, &difference.path)? {
-            offsets.push((offset, number))?;
+        if let Some(seat) = finder.seat(alloc, &difference.path)? {
+            offsets.push((seat.offset, number))?;
+            if let Some(slot) = nodes.get_mut(number) {
+                *slot = seat.node;
+            }
         }
     }
-    places(alloc, unmarked(side.bytes), offsets)
+    Ok(SidePlaces {
+        places: places(alloc, unmarked(side.bytes), offsets)?,
+        nodes,
+    })
+}
+
+/// The number of the node itself that a difference has on one side, from 1; 0 where it has none there. None where it is not known.
+fn node_number(node: Option<NodeId>, nodes: &[Option<usize>], number: usize) -> Option<usize> {
+    match (node, nodes.get(number)) {
+        (None, _) => Some(0),
+        (Some(_), Some(Some(own))) => Some(own.saturating_add(1)),
+        _ => None,
+    }
+}
+
+/// What each difference has as its cause, where that is known; what moved has none.
+fn causes_of(
+    alloc: Global,
+    list: &[Difference],
+    lefts: &[Option<usize>],
+    rights: &[Option<usize>],
+) -> Result<Vec<Option<Cause>>, Fault> {
+    let mut causes = Vec::with_capacity(alloc, list.len())?;
+    for (number, difference) in list.iter().enumerate() {
+        let left = node_number(difference.left, lefts, number);
+        let right = node_number(difference.right, rights, number);
+        causes.push(match (left, right) {
+            (Some(0), Some(0)) => None,
+            (Some(left), Some(right)) => Some((left, right)),
+            _ => None,
+        })?;
+    }
+    Ok(causes)
 }
 
 /// The places of one side by the numbers of their lines, of which there are so many.
@@ -280,13 +352,15 @@ pub(crate) fn find_places(
             let lefts = side_places(alloc, both, list, Hand::Left, left)?;
             let rights = side_places(alloc, both, list, Hand::Right, right)?;
             Ok(Places {
-                left: spread(alloc, &lefts, list.len())?,
-                right: spread(alloc, &rights, list.len())?,
+                left: spread(alloc, &lefts.places, list.len())?,
+                right: spread(alloc, &rights.places, list.len())?,
+                causes: causes_of(alloc, list, &lefts.nodes, &rights.nodes)?,
             })
         }
         None => Ok(Places {
             left: Vec::new(alloc),
             right: Vec::new(alloc),
+            causes: Vec::new(alloc),
         }),
     }
 }
@@ -322,7 +396,7 @@ pub(crate) fn lines_of_moves(
     let list = as_differences(alloc, &found.moves)?;
     let sides = if list.is_empty() { None } else { sides };
     let places = find_places(alloc, both, &list, sides)?;
-    lines_of(alloc, both, &list, asked, &places)
+    lines_of(alloc, both, &list, asked, false, &places)
 }
 
 /// The lines of listed differences and moves as text.
@@ -339,7 +413,7 @@ fn text_of(
     let traced = sides;
     let sides = if found.list.is_empty() { None } else { sides };
     let places = find_places(alloc, both, &found.list, sides)?;
-    let lines = lines_of(alloc, both, &found.list, asked, &places)?;
+    let lines = lines_of(alloc, both, &found.list, asked, asked.folds, &places)?;
     let moves = lines_of_moves(alloc, both, asked, traced, found)?;
     let mut text = String::new(alloc);
     put_each(alloc, &mut text, &lines, asked)?;

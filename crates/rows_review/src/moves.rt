@@ -7,7 +7,7 @@ const CONTAINERS: &[u8] = b"- {name: a, image: x}\n- {name: b, image: y}\n- {nam
 
 const OTHERS: &[u8] = b"- {name: c, image: z}\n- {name: a, image: x}\n- {name: b, image: w}\n";
 
-pub static ROWS: [Row; 13] = [
+pub static ROWS: [Row; 14] = [
     Row {
         name: "an item that moved, and one that changed",
         words: &["diff", "left", "right"],
@@ -74,6 +74,24 @@ pub static ROWS: [Row; 13] = [
     Row {
         name: "items by a key that is asked for",
         words: &["diff", "--no-places", "--by", "x,y.host", "left", "right"],
+        left: b"- {y: {host: a}, v: 1, w: 1}\n- {y: {host: b}, v: 2, w: 2}\n",
+        right: b"- {y: {host: b}, v: 1, w: 1}\n- {y: {host: a}, v: 2, w: 2}\n",
+        status: 1,
+        out: "~\t[1:0].v\t!!int \"2\"\t!!int \"1\"\n~\t[1:0].w\t!!int \"2\"\t!!int \"1\"\n~\t[0:1].v\t!!int \"1\"\t!!int \"2\"\n~\t[0:1].w\t!!int \"1\"\t!!int \"2\"\n>\t[1:0]\t\t\n",
+        err: "",
+    },
+    Row {
+        name: "the same where keys are asked for twice",
+        words: &[
+            "diff",
+            "--no-places",
+            "--by",
+            "x",
+            "--by",
+            "u,y.host",
+            "left",
+            "right",
+        ],
         left: b"- {y: {host: a}, v: 1, w: 1}\n- {y: {host: b}, v: 2, w: 2}\n",
         right: b"- {y: {host: b}, v: 1, w: 1}\n- {y: {host: a}, v: 2, w: 2}\n",
         status: 1,
