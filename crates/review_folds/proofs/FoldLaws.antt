@@ -30,7 +30,14 @@ last-more : {X : Type 0} (xs : List X) (t : X) → slice_get (xs ++ (t ∷ [])) 
 last-more [] t = refl
 last-more (y ∷ xs) t = last-more xs t
 
+longer : (xs : List ℕ) (t : ℕ) → length (xs ++ (t ∷ [])) ≡ length xs + 1
+longer [] t = refl
+longer (x ∷ xs) t = let h = longer xs t in omega (arith, h)
+
 -- ---- tellers
+
+pub level_more : (xs new : List ℕ) (n t : ℕ) → length xs ≡ n → new ≡ xs ++ (t ∷ []) → length new ≡ n + 1
+level_more xs new n t l e = ap length e ∙ longer xs t ∙ ap (λ z. z + 1) l
 
 same-at : (list : List Difference) (k : ℕ) → OfSameAt list k k
 same-at list k d e f g = let h : d ≡ e = some-is (sym f ∙ g) in (ap (λ z. z.left) h, ap (λ z. z.right) h)
@@ -154,7 +161,3 @@ counted_all list counts k l c = record { level = c.0; each = λ n m. c.1 n m ∙
 
 pub filled_more : (n count : ℕ) (xs new : List ℕ) → Filled n count xs → new ≡ xs ++ (n ∷ []) → Filled n (count + 1) new
 filled_more n count xs new f e = subst (Filled n (count + 1)) (sym e) (longer xs n ∙ ap (λ z. z + 1) f.0, λ k m g. elim (at-more xs n m k g) [ inl h ↦ f.1 k m h | inr h ↦ h.1 ])
-  where
-    longer : (ys : List ℕ) (t : ℕ) → length (ys ++ (t ∷ [])) ≡ length ys + 1
-    longer [] t = refl
-    longer (y ∷ ys) t = let h = longer ys t in omega (arith, h)
