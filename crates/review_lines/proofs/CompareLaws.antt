@@ -1,5 +1,5 @@
 -- The lines of the differences that were found.
-use Rattle.std.proofs.Common.{◌≡◌, ℕ, zero, suc, ◌+◌, ◌<◌, ◌≤◌, true, false, cond, List, [], ◌∷◌, ◌++◌, length, map, take, drop, get_or, refl, sym, ◌∙◌, ap, subst, add-one, drop-cons}
+use Rattle.std.proofs.Common.{◌≡◌, ℕ, zero, suc, ◌+◌, ◌<◌, ◌≤◌, ◌==◌, ◌&&◌, Bool, true, false, cond, List, [], ◌∷◌, ◌++◌, length, map, take, drop, get_or, refl, sym, ◌∙◌, ap, subst, add-one, drop-cons}
 use Rattle.std.proofs.Math.ListN.{drop_of_length-le}
 use Rattle.std.proofs.lemmas.List.{append_assoc, append-nil, map-append}
 use Rattle.yaml_diff.specs.declared.difference.Difference.{Difference}
@@ -8,6 +8,11 @@ use Rattle.review_text.specs.declared.both.Both.{Both}
 use Rattle.review_lines.specs.Lines.{line_text, lines_text, more_text}
 use Rattle.review_lines.specs.declared.lines.Line.{Line}
 use Rattle.yaml_diff.specs.declared.difference.Found.{Found}
+use Rattle.yaml_diff.specs.declared.difference.Move.{Move}
+use Rattle.yaml_diff.specs.Lines.{line_of}
+use Rattle.yaml_diff.specs.Moves.{moved_line, move_line_of}
+use Rattle.review_lines.specs.Listed.{ListsFound}
+use Rattle.review_lines.specs.declared.listed.Listed.{Listed}
 use Rattle.std.proofs.lemmas.List.{take_more, take_all}
 use Rattle.yaml_graph.specs.declared.graph.Graph.{Graph}
 use Rattle.review_patterns.specs.declared.pattern.Pattern.{Pattern}
@@ -36,6 +41,30 @@ counts_next ns ls new i d n l m q h k p =
 
 pub counts_whole : (ns : List ℕ) (ls : List Line) (i : ℕ) → length ns ≤ i → map (λ m. m.count) ls ≡ take i ns → map (λ m. m.count) ls ≡ ns
 counts_whole ns ls i m h = h ∙ take_all i ns m
+
+pub folds_told : (folds : Bool) (ds : List Difference) (ns seen counts : List ℕ) → ns ≡ seen → seen ≡ counts → Folds folds ds counts → Folds folds ds ns
+folds_told folds ds ns seen counts e f h = subst (Folds folds ds) (sym (e ∙ f)) h
+
+-- the lines of moves, of which a list is seen
+pub moves_told : (both : Both) (asked : Diff) (f : Found) (list seen : List Difference) (moves : List Move) (ls : List Line) → map line_of list ≡ map moved_line (map move_line_of moves) → moves ≡ f.moves.items → seen ≡ list
+    → TellsEach both asked seen ls → Folds false seen (map (λ l. l.count) ls) → TellsMoves both asked f ls
+moves_told both asked f list seen moves ls e m s h k = record {
+  moves = list;
+  are = e ∙ ap (λ z. map moved_line (map move_line_of z)) m;
+  each = subst (λ z. TellsEach both asked z ls) s h;
+  alone = subst (λ z. Folds false z (map (λ l. l.count) ls)) s k;
+}
+
+-- the lines of a list
+pub found_listed : (both : Both) (asked : Diff) (f : Found) (listed : Listed) (seen : List Difference) → seen ≡ f.list.items → TellsEach both asked seen listed.lines.items → Folds false seen (map (λ l. l.count) listed.lines.items)
+    → TellsMoves both asked f listed.moves.items → listed.whole ≡ f.whole → listed.same ≡ ((f.whole && (length f.list.items == 0)) && (length f.moves.items == 0)) → ListsFound both asked f listed
+found_listed both asked f listed seen s h k m w n = record {
+  each = subst (λ z. TellsEach both asked z listed.lines.items) s h;
+  alone = subst (λ z. Folds false z (map (λ l. l.count) listed.lines.items)) s k;
+  moves = m;
+  whole = w;
+  is_none = n;
+}
 
 drop_next : {X : Type 0} (xs : List X) (i : ℕ) (d : X) → i < length xs → drop i xs ≡ get_or xs i d ∷ drop (i + 1) xs
 drop_next xs i d l = rw add-one (drop-cons xs i d l)

@@ -6,6 +6,7 @@ pub mod faults;
 pub mod lines;
 pub mod listed;
 pub mod no_json;
+mod nodes;
 pub mod spotted;
 mod stat;
 mod strings;

@@ -131,6 +131,7 @@ impl Line {
     }
 
     /// The columns and, where the line tells several differences, how many others; nothing where another line tells this one.
+    #[tactic(auto, using(crate::proofs::LineLaws::told_none, crate::proofs::LineLaws::told_some))]
     fn put_told(&self, out: &mut String, places: bool, color: bool) -> Result<(), Fault>
         ensures { OnOk result (string_bytes out.new ≡ string_bytes out.old ++ told_text self.now.count (columns places color self.now)) }
     {
@@ -138,7 +139,8 @@ impl Line {
             return Ok(());
         }
         self.put_columns(out, places, color)?;
-        put_others(out, self.count - 1)
+        put_others(out, self.count - 1)?;
+        Ok(())
     }
 
     /// One JSON object.
@@ -179,12 +181,14 @@ pub fn put_more(out: &mut String, form: Form) -> Result<(), Fault>
 }
 
 /// How many other differences a line tells, on a line of its own behind a tab, if there are some.
+#[tactic(auto, using(crate::proofs::LineLaws::others_none, crate::proofs::LineLaws::others_some))]
 fn put_others(out: &mut String, others: usize) -> Result<(), Fault>
     ensures { OnOk result (string_bytes out.new ≡ string_bytes out.old ++ others_text others) }
 {
-    if others > 0 {
-        write!(out, "\t(and {others} more through aliases)\n")?;
+    if others == 0 {
+        return Ok(());
     }
+    write!(out, "\t(and {others} more through aliases)\n")?;
     Ok(())
 }
 
