@@ -13,10 +13,9 @@
  *   - no pointer is null, but input, left and right where their length is 0, and out and each room where its cap is 0;
  *   - malloc, realloc and free of one allocator; no call from a signal handler, or from the forked child of a process
  *     with threads;
- *   - 2,304 KiB of stack. The deepest input takes 1,310 kB, and in yamlcanon_diff 2,120 kB. Where the stack is smaller, as
- *     on threads that have 128 KiB by default, such an input ends the process by a fault. An input of n bytes, up to
- *     1,024, takes no more than 256 + 2 * n KiB. yamlcanon_message, yamlcanon_position and those without arguments take
- *     less than 16 KiB.
+ *   - 1,792 KiB of stack. The deepest input takes 1,400 kB. Where the stack is smaller, as on threads that have 128 KiB
+ *     by default, such an input ends the process by a fault. An input of n bytes, up to 1,024, takes no more than
+ *     256 + 1.5 * n KiB. yamlcanon_message, yamlcanon_position and those without arguments take less than 16 KiB.
  *
  * The calls print nothing, open nothing, never end the process, hold no state but the bound of memory, keep no memory
  * and no pointer after they return, and may run on any number of threads at once. An input has at most 67,108,864

@@ -340,7 +340,7 @@ static void on_small_stacks(void)
     if (pthread_create(&id, &small, numbers, NULL)) exit(2);
     pthread_join(id, NULL);
     for (size_t i = 0; i < count; i++) {
-        pthread_attr_setstacksize(&small, (256 << 10) + 2048 * (files[i].n < MOST_LEVELS ? files[i].n : MOST_LEVELS));
+        pthread_attr_setstacksize(&small, (256 << 10) + 1536 * (files[i].n < MOST_LEVELS ? files[i].n : MOST_LEVELS));
         if (pthread_create(&id, &small, on_its_stack, &files[i])) exit(2);
         pthread_join(id, NULL);
     }

@@ -7,7 +7,7 @@
 
 /* What a call on n bytes takes at most: a byte opens one level of nesting at most, up to 1,024 of them. */
 #define BASE ((size_t)256 << 10)
-#define LEVEL ((size_t)2048)
+#define LEVEL ((size_t)1536)
 #define LEVELS ((size_t)1024)
 /* The stack of a thread to which a call is handed. */
 #define GIVEN ((size_t)4 << 20)

@@ -124,6 +124,28 @@ class Callers(unittest.TestCase):
         self.assertEqual(wrong, [])
 
 
+def joined(pieces):
+    """What pieces stand for: texts, and lists of a text, what is between two of it, and how often it comes, an @ in it being its number."""
+    parts = (
+        [piece] if isinstance(piece, str) else [piece[1].join(piece[0].replace("@", str(100000 + number)) for number in range(piece[2]))]
+        for piece in pieces
+    )
+    return "".join(text for part in parts for text in part).encode()
+
+
+@unittest.skipUnless(os.path.exists(VECTORS), "the vectors are not there")
+class LongVectors(unittest.TestCase):
+    def test_vectors_that_are_told_by_pieces(self):
+        with open(VECTORS, encoding="utf-8") as file:
+            long = [told for told in map(json.loads, file) if "input_pieces" in told]
+        self.assertGreater(len(long), 5)
+        for told in long:
+            data, number = joined(told["input_pieces"]), told.get("refusal", {}).get("number")
+            for call, pieces in ((canonical, "text_pieces"), (events, "events_pieces")):
+                wanted = joined(told[pieces]) if pieces in told else number
+                self.assertTrue(or_number(call, data) == wanted, (told["name"], call))
+
+
 def as_told(line):
     """The numbers and texts of a line of JSON, in the order of a Difference."""
     told = json.loads(line)

@@ -344,8 +344,9 @@ class Calls(unittest.TestCase):
         self.assertEqual((done.returncode, done.stdout), (0, b"MemoryError True\n"), done.stderr)
 
     def test_what_is_left_of_the_stack(self):
-        left = on_thread(1 << 20, lambda: yamlcanon._thread.stack_left())
-        self.assertTrue(960 << 10 < left < 1 << 20, left)
+        # In a process of its own: the system may give a new thread a larger stack, which another thread had.
+        done = subprocess.run([sys.executable, "-c", LEFT], capture_output=True, env=ENVIRONMENT, timeout=120)
+        self.assertTrue(960 << 10 < int(done.stdout) < 1 << 20, (done.stdout, done.stderr))
 
     def test_many_threads_at_once(self):
         texts = [b"{a: [%d, b], c: 0x%x}" % (number, number) for number in range(200)]
@@ -397,6 +398,15 @@ def answers():
     print(within, answer())
 threading.stack_size(256 << 10)
 thread = threading.Thread(target=answers)
+thread.start()
+thread.join()
+"""
+
+# What is left of the stack of 1 MiB of a thread.
+LEFT = """
+import threading, yamlcanon
+threading.stack_size(1 << 20)
+thread = threading.Thread(target=lambda: print(yamlcanon._thread.stack_left()))
 thread.start()
 thread.join()
 """

@@ -87,9 +87,12 @@ class Large(unittest.TestCase):
 
     def test_growth(self):
         given = few()
+        shapes = len(given["growth"]["shapes"])
         with mock.patch.object(large.shutil, "which", return_value="valgrind"):
-            for grows, count in ((2.0, 0), (4.0, len(given["growth"]["shapes"]))):
-                with mock.patch("bench.lib.growth.growth", return_value=(grows, "shape")):
+            for grows, counted, count in ((2.0, 1, 0), (4.0, 1, shapes), (2.0, 10**9, 1)):
+                with mock.patch("bench.lib.growth.growth", return_value=(grows, "shape")), mock.patch(
+                    "bench.lib.growth.instructions", return_value=(counted, "answered")
+                ):
                     self.assertEqual(len(self.wrong("growth", {}, given)), count)
 
     def test_shapes_are_there(self):

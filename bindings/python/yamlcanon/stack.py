@@ -12,8 +12,8 @@ __all__ = ["elsewhere", "thread"]
 
 _Answer = TypeVar("_Answer")
 
-# What a call on n bytes takes of the stack at most: a level of nesting 2 KiB, of which a byte opens at most one, up to 1,024.
-_STACK_BASE, _STACK_LEVEL, _MOST_LEVELS = 256 << 10, 2048, 1024
+# What a call on n bytes takes of the stack at most: a level of nesting 1.5 KiB, of which a byte opens at most one, up to 1,024.
+_STACK_BASE, _STACK_LEVEL, _MOST_LEVELS = 256 << 10, 1536, 1024
 # The stack of a thread to which a call is handed.
 _STACK_GIVEN = 8 << 20
 # A thread keeps its room between calls up to this many bytes.

@@ -9,10 +9,11 @@
 //! ```
 //!
 //! [`Limits`] has the same calls under a limit of memory. A call may be made on any thread. Where the thread has less stack left than an
-//! input of this length may take, which is 2,304 KiB at most, the call is made on a thread of its own with 8 MiB.
+//! input of this length may take, which is 1,792 KiB at most, the call is made on a thread of its own with 8 MiB.
 #![warn(missing_docs)]
 
-use std::ffi::{c_char, CStr};
+use std::ffi::CStr;
+use std::os::raw::c_char;
 use std::{error, fmt, thread};
 
 mod differences;
@@ -43,7 +44,7 @@ pub fn release() -> &'static str {
 
 // What a call on n bytes takes of the stack at most: a byte opens one level of nesting at most, up to 1,024.
 const STACK_BASE: usize = 256 << 10;
-const STACK_LEVEL: usize = 2048;
+const STACK_LEVEL: usize = 1536;
 const MOST_LEVELS: usize = 1024;
 const STACK_GIVEN: usize = 8 << 20;
 

@@ -41,6 +41,8 @@ fn on_stack(stack: &mut [u8]) -> usize {
 // A stack, and what lies below it, where a call that takes too much of the stack would write.
 const STACK: usize = 256 << 10;
 const BELOW: usize = 4 << 20;
+// The canonical text has `{"a" : ` and `}` for each level, and `--- "x"` with a line feed once.
+const TEXT: usize = 8 * 1023 + 8;
 
 #[test]
 fn a_deep_input_on_stacks_below_and_above_the_thread_s() {
@@ -51,7 +53,7 @@ fn a_deep_input_on_stacks_below_and_above_the_thread_s() {
             rooms.push(vec![0; BELOW + STACK]);
             let untouched = vec![0; BELOW];
             for room in &mut rooms {
-                assert!(on_stack(&mut room[BELOW..]) > 9 * 1023);
+                assert_eq!(on_stack(&mut room[BELOW..]), TEXT);
                 assert!(room[..BELOW] == untouched[..], "the call has left its stack");
             }
             rooms

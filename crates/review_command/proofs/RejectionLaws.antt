@@ -1,9 +1,9 @@
 -- What is told of files that are not compared.
 use Rattle.std.specs.Prelude.{IfOk, IfErr}
-use Rattle.std.proofs.Common.{◌≡◌, ℕ, ◌≤◌, max, List, Option, Result, Ok, Err, Vec, inl, inr, sym, subst, arith}
+use Rattle.std.proofs.Common.{◌≡◌, ℕ, ◌≤◌, max, List, Option, Result, Ok, Err, Vec, inl, inr, refl, sym, subst, arith}
 use Rattle.std.specs.declared.alloc.Global.{Global}
 use Rattle.yaml_text.specs.declared.fault.Fault.{Fault}
-use Rattle.yaml_text.specs.declared.fault.Fault.TheVariants.{ReadFault, WriteFault}
+use Rattle.yaml_text.specs.declared.fault.Fault.TheVariants.{OutOfMemory, ReadFault, WriteFault}
 use Rattle.yaml_text.specs.declared.side.Side.{Side}
 use Rattle.yaml_text.specs.declared.counted.Counted.{Counted}
 use Rattle.review_args.specs.declared.words.Form.{Form}
@@ -41,9 +41,9 @@ one_least (Ok x) (Ok y) form n m t u one other status h p q e = absurd h
 one_least (Ok x) (Err w) form n m t u one other status h p q e = omega (arith, told_least form m w u other q, e)
 one_least (Err w) b form n m t u one other status h p q e = omega (arith, told_least form n w t one p, e)
 
-not_compared_least : (form : Form) (left right : Named) (side : Side) (fault : Fault) (text : List ℕ) (status : ℕ) → TellsNotCompared form left right side fault text status → 1 ≤ status
-not_compared_least form left right side fault text status (inl h) = h.1
-not_compared_least form left right side fault text status (inr (before, line, b, n, e, s)) = omega (arith, s, fault_least fault)
+not_compared_least : (form : Form) (left right : Named) (side : Side) (text : List ℕ) (status : ℕ) → TellsNotCompared form left right side text status → 1 ≤ status
+not_compared_least form left right side text status (inl h) = h.1
+not_compared_least form left right side text status (inr (before, b, e, s)) = omega (arith, s)
 
 -- ---- both files
 
@@ -62,22 +62,22 @@ module _ (holds : List ℕ → Option (List ℕ)) (rest : Option (List ℕ)) (as
         refused = one_least left.answer.now right.answer.now asked.form left.name.now right.name.now h.first h.second h.one h.other status un h.of_left h.of_right h.status_is;
       }
 
-  pub both_read : (first second : Vec ℕ Global) (side : Side) (fault : Fault) (text told : List ℕ) (status : ℕ) → left.answer.now ≡ Ok first → right.answer.now ≡ Ok second → AreNamed holds rest asked.left.now asked.right.now first.items second.items → told ≡ text → TellsNotCompared asked.form left right side fault text status → TellsRejected holds rest asked told status
-  both_read first second side fault text told status e f named is h = record {
+  pub both_read : (first second : Vec ℕ Global) (side : Side) (text told : List ℕ) (status : ℕ) → left.answer.now ≡ Ok first → right.answer.now ≡ Ok second → AreNamed holds rest asked.left.now asked.right.now first.items second.items → told ≡ text → TellsNotCompared asked.form left right side text status → TellsRejected holds rest asked told status
+  both_read first second side text told status e f named is h = record {
     left = left;
     right = right;
     left_name = left_name;
     right_name = right_name;
     left_is = subst (IsAnswer holds rest asked.left.now) (sym e) (record { read = named.one; unread = tt });
     right_is = subst (IsAnswer holds rest asked.right.now) (sym f) (record { read = named.other; unread = tt });
-    tells = inr (side, fault, subst (λ z. TellsNotCompared asked.form left right side fault z status) (sym is) h);
-    refused = not_compared_least asked.form left right side fault text status h;
+    tells = inr (side, subst (λ z. TellsNotCompared asked.form left right side z status) (sym is) h);
+    refused = not_compared_least asked.form left right side text status h;
   }
 
 -- why they are not compared, or that no text is made of it
-pub or_faulted : (holds : List ℕ → Option (List ℕ)) (rest : Option (List ℕ)) (asked : Diff) (answer : Result NoDiff Fault) (none : NoDiff) → IfOk answer (Refuses holds rest asked) → IfOk answer (λ n. none ≡ n) → IfErr answer (λ f. none ≡ no.Fault f) → Refuses holds rest asked none
+pub or_faulted : (holds : List ℕ → Option (List ℕ)) (rest : Option (List ℕ)) (asked : Diff) (answer : Result NoDiff Fault) (none : NoDiff) → IfOk answer (Refuses holds rest asked) → IfOk answer (λ n. none ≡ n) → IfErr answer (λ f. none ≡ no.Fault OutOfMemory) → Refuses holds rest asked none
 or_faulted holds rest asked (Ok n) none h e f = subst (Refuses holds rest asked) (sym e) h
-or_faulted holds rest asked (Err y) none h e f = subst (Refuses holds rest asked) (sym f) tt
+or_faulted holds rest asked (Err y) none h e f = subst (Refuses holds rest asked) (sym f) refl
 
 -- ---- how `diff` ends
 

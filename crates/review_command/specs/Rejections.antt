@@ -1,6 +1,7 @@
 -- What `diff` tells of two files that are not compared.
 use Rattle.std.specs.Prelude.{◌≡◌, ◌⊎◌, ◌≤◌, ℕ, Bool, List, Option, codes, string_bytes}
 use Rattle.yaml_text.specs.declared.fault.Fault.{Fault}
+use Rattle.yaml_text.specs.declared.fault.Fault.TheVariants.{OutOfMemory}
 use Rattle.yaml_text.specs.declared.side.Side.{Side}
 use Rattle.yaml_text.specs.declared.counted.Counted.{Counted}
 use Rattle.yaml_command.specs.Printing.{PrintFails}
@@ -24,14 +25,14 @@ pub record TellsRejected (holds : List ℕ → Option (List ℕ)) (rest : Option
   pub right_is : IsAnswer holds rest asked.right.now right.answer.now
   pub tells :
       (NotBothRead left.answer.now right.answer.now × TellsBoth asked.form left right text status)
-      ⊎ ((side : Side) × (fault : Fault) × TellsNotCompared asked.form left right side fault text status)
+      ⊎ ((side : Side) × TellsNotCompared asked.form left right side text status)
   pub refused : 1 ≤ status
 
--- The standard input is named twice, or the files are rejected, or no text is made of that, as where memory is refused.
+-- The standard input is named twice, or the files are rejected, or memory is refused for the text of that.
 abbrev pub Refuses : (List ℕ → Option (List ℕ)) → Option (List ℕ) → Diff → NoDiff → Type 0
 Refuses holds rest asked no.OneInput = (asked.left.now ≡ codes "-") × (asked.right.now ≡ codes "-")
 Refuses holds rest asked (no.Rejected text status) = TellsRejected holds rest asked (string_bytes text) status
-Refuses holds rest asked (no.Fault fault) = Unit {0}
+Refuses holds rest asked (no.Fault fault) = fault ≡ OutOfMemory
 
 -- the output fails behind a beginning of the lines of the differences
 pub record CutsLines {W : Type 0} (holds : List ℕ → Option (List ℕ)) (rest : Option (List ℕ)) (contents : W → Option (List ℕ)) (asked : Diff) (ignored : List Pattern) (old new : Counted W) (fault : Fault) : Type 0 where

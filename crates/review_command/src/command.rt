@@ -4,6 +4,7 @@ ghost use Rattle.review_command.specs.Rejections.{no_diff_status};
 ghost use Rattle.review_command.specs.Runs.{AsksSum, SumRuns, Does};
 
 use crate::diff::{NoDiff, diff, diff_page};
+use crate::folder_page::folder_page;
 use crate::folders::folders;
 use crate::git::{git_asked, git_text, put_page};
 use crate::host::Host;
@@ -90,14 +91,9 @@ fn run<S: Shelf, R: Read + Drop, W: Write + Drop, E: Write + Drop>(
             diff_status(answer, &mut err)
         }
         Asked::DiffPage(page, asked, ignored) => {
-            let answer = diff_page(
-                shelf,
-                alloc,
-                (&asked, page),
-                &ignored,
-                &mut input,
-                &mut Counted::new(&mut out),
-            );
+            let mut out = Counted::new(out);
+            let drawn = (&asked, page);
+            let answer = diff_page(shelf, alloc, drawn, &ignored, &mut input, &mut out);
             diff_status(answer, &mut err)
         }
         Asked::FaultsPage(page, asked) => {
@@ -112,27 +108,13 @@ fn run<S: Shelf, R: Read + Drop, W: Write + Drop, E: Write + Drop>(
         }
         Asked::Faults(asked) => {
             let mut out = Counted::new(out);
-            reports(
-                shelf,
-                alloc,
-                Kind::Faults,
-                &asked,
-                &mut input,
-                &mut out,
-                &mut err,
-            )
+            let kind = Kind::Faults;
+            reports(shelf, alloc, kind, &asked, &mut input, &mut out, &mut err)
         }
         Asked::Warn(asked, warn) => {
             let mut out = Counted::new(out);
-            reports(
-                shelf,
-                alloc,
-                Kind::Warnings(&warn),
-                &asked,
-                &mut input,
-                &mut out,
-                &mut err,
-            )
+            let kind = Kind::Warnings(&warn);
+            reports(shelf, alloc, kind, &asked, &mut input, &mut out, &mut err)
         }
         Asked::Show(asked) => { show_files(shelf, alloc, &asked, &mut input, &mut out, &mut err) }
         Asked::Git(words) => git(shelf, alloc, &words, &mut out, &mut err),
@@ -260,6 +242,14 @@ pub fn command<
                 return folders(rt, alloc, &asked, &ignored, &mut out, &mut err);
             }
             let asked = Asked::Diff(asked, ignored);
+            run(&Host::new(rt), alloc, asked, input, out, err)
+        }
+        Ok(Asked::DiffPage(page, asked, ignored)) => {
+            if are_folders(rt, &asked) {
+                let told = (&asked, page);
+                return folder_page(rt, alloc, told, &ignored, &mut out, &mut err);
+            }
+            let asked = Asked::DiffPage(page, asked, ignored);
             run(&Host::new(rt), alloc, asked, input, out, err)
         }
         Ok(asked) => run(&Host::new(rt), alloc, asked, input, out, err),

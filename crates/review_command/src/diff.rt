@@ -5,6 +5,7 @@ ghost use Rattle.review_files.specs.Named.{AreNamed, AreNotBoth};
 ghost use Rattle.review_command.specs.Diffs.{DiffTells, DiffShows};
 ghost use Rattle.review_command.specs.Rejections.{Refuses, DiffRefuses};
 ghost use Rattle.review_command.specs.declared.diff.NoDiff.TheVariants.{Fault as NoText};
+ghost use Rattle.yaml_text.specs.declared.fault.Fault.TheVariants.{OutOfMemory};
 
 use review_args::{Diff, Page};
 use review_compare::{compare_sides, list_sides};
@@ -37,14 +38,14 @@ pub enum NoDiff {
     Fault(Fault),
 }
 
-/// The same where no text is made of it.
+/// The same where no text is made of it, which is want of memory.
 fn or_fault(answer: Result<NoDiff, Fault>) -> NoDiff
     ensures ok { IfOk answer (λ none. result ≡ none) }
-    ensures err { IfErr answer (λ fault. result ≡ NoText fault) }
+    ensures err { IfErr answer (λ fault. result ≡ NoText OutOfMemory) }
 {
     match answer {
         Ok(none) => none,
-        Err(fault) => NoDiff::Fault(fault),
+        Err(_) => NoDiff::Fault(Fault::OutOfMemory),
     }
 }
 
@@ -83,7 +84,7 @@ fn not_compared(
     asked: &Diff<'_>,
     left: Vec<u8>,
     right: Vec<u8>,
-    refused: (Side, Fault),
+    side: Side,
 ) -> Result<NoDiff, Fault>
     ensures { (holds : List ℕ → Option (List ℕ)) → (rest : Option (List ℕ)) → AreNamed holds rest asked.now.left.now asked.now.right.now left.items right.items → IfOk result (Refuses holds rest asked.now) }
 {
@@ -91,7 +92,7 @@ fn not_compared(
     let mut text = String::new(alloc);
     let first = named(asked.left, &left);
     let second = named(asked.right, &right);
-    let status = put_not_compared(alloc, &mut text, first, second, refused, asked.form)?;
+    let status = put_not_compared(alloc, &mut text, first, second, side, asked.form)?;
     Ok(NoDiff::Rejected(text, status))
 }
 
@@ -116,7 +117,7 @@ pub fn diff<S: Shelf, R: Read, W: Write>(
     };
     let told = match compare_sides(alloc, asked, ignored, &left, &right) {
         Ok(told) => told,
-        Err(refused) => return Err(or_fault(not_compared(alloc, asked, left, right, refused))),
+        Err((side, _)) => return Err(or_fault(not_compared(alloc, asked, left, right, side))),
     };
     match write_out(out, told.text.as_bytes()) {
         Ok(()) => Ok(status_of(told.same)),
@@ -220,7 +221,7 @@ pub fn diff_page<S: Shelf, R: Read, W: Write>(
     };
     let listed = match list_sides(alloc, asked, ignored, &left, &right) {
         Ok(listed) => listed,
-        Err(refused) => return Err(or_fault(not_compared(alloc, asked, left, right, refused))),
+        Err((side, _)) => return Err(or_fault(not_compared(alloc, asked, left, right, side))),
     };
     let text = match listed_text(alloc, asked, page, &listed, &left, &right) {
         Ok(text) => text,

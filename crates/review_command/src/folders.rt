@@ -109,7 +109,7 @@ fn one_told<T: Files>(
 }
 
 /// What is asked of two folders, for two files.
-pub(crate) fn with_names<'n>(asked: &Diff<'n>, left: &'n str, right: &'n str) -> Diff<'n> {
+pub(crate) fn with_names<'n, 'a: 'n>(asked: &Diff<'a>, left: &'n str, right: &'n str) -> Diff<'n> {
     Diff {
         left,
         right,
@@ -173,15 +173,8 @@ fn both_told<T: Files>(
     };
     match compare_sides(alloc, &with_names(asked, name, name), ignored, one, other) {
         Ok(compared) => put_compared(alloc, &mut told, asked, name, &compared)?,
-        Err(refused) => {
-            told.status = put_not_compared(
-                alloc,
-                &mut told.err,
-                first,
-                second,
-                refused,
-                asked.form,
-            )?;
+        Err((side, _)) => {
+            told.status = put_not_compared(alloc, &mut told.err, first, second, side, asked.form)?;
         }
     }
     Ok(told)

@@ -285,8 +285,8 @@ fn put_differences<S: Shelf>(
     }
     match compare_sides(alloc, &lines_of(left_name, right_name), &[], left, right) {
         Ok(told) => out.push_str(&told.text)?,
-        Err(refused) => {
-            put_not_compared(alloc, out, first, second, refused, Form::Line)?;
+        Err((side, _)) => {
+            put_not_compared(alloc, out, first, second, side, Form::Line)?;
         }
     }
     Ok(())

@@ -2,11 +2,11 @@
 ghost use Rattle.std.specs.Prelude.{◌≡◌, cond, bytes_eq, IfOk};
 
 use review_args::{Form, Format, Show};
+use review_faults::{put_fault, put_no_json};
 use review_files::files::read_named;
 use review_files::rejected::put_no_bytes;
 use review_files::telling::{put_fault_line, put_line, tell_bare};
 use review_files::unread::Unread;
-use review_lines::{put_fault, put_no_json};
 use review_text::put_shown;
 use std::alloc::Global;
 use std::io::{Read, Write};

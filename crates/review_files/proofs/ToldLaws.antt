@@ -7,9 +7,8 @@ use Rattle.yaml_canon.specs.Claims.{CanonicalRefuses}
 use Rattle.yaml_canon.specs.FaultPlaces.{TellsPlace}
 use Rattle.review_text.specs.Terminal.{terminal}
 use Rattle.review_args.specs.declared.words.Form.{Form}
-use Rattle.review_lines.specs.FaultLines.{TellsFault}
-use Rattle.review_files.specs.Statuses.{fault_status}
-use Rattle.review_files.specs.Told.{TellsName, TellsFaults, TellsBoth, TellsNotCompared, side_name}
+use Rattle.review_faults.specs.FaultLines.{TellsFault}
+use Rattle.review_files.specs.Told.{TellsName, TellsFaults, TellsBoth, TellsNotCompared, no_memory, side_name}
 use Rattle.review_files.specs.declared.rejected.Named.{Named}
 
 -- what stands behind a file's name
@@ -20,6 +19,6 @@ behind_name name more = (more, append_assoc (codes "yamlreview: ") (terminal nam
 pub refused_bytes : (form : Form) (name bytes : List ℕ) (fault : Fault) (text : List ℕ) → CanonicalRefuses bytes fault → TellsPlace bytes fault → TellsFault form name bytes fault text → TellsFaults form name bytes text 2
 refused_bytes form name bytes fault text r p t = inr ((fault, r, p, t), refl)
 
--- a line of one file, behind what is told of both
-pub a_line_more : (form : Form) (left right : Named) (side : Side) (fault : Fault) (before line : List ℕ) (status : ℕ) → TellsBoth form left right before 0 → TellsName (side_name side left right) line → status ≡ fault_status fault → TellsNotCompared form left right side fault (before ++ line) status
-a_line_more form left right side fault before line status b n s = inr (before, line, b, n, refl, s)
+-- the line of one file, behind what is told of both
+pub a_line_more : (form : Form) (left right : Named) (side : Side) (before name : List ℕ) → TellsBoth form left right before 0 → name ≡ side_name side left right → TellsNotCompared form left right side (before ++ no_memory name) 2
+a_line_more form left right side before name b n = inr (before, b, ap (λ z. before ++ no_memory z) n, refl)

@@ -9,8 +9,8 @@ use Rattle.yaml_canon.specs.Claims.{IsCanonicalText, CanonicalRefuses}
 use Rattle.yaml_canon.specs.FaultPlaces.{TellsPlace}
 use Rattle.review_text.specs.Terminal.{terminal}
 use Rattle.review_args.specs.declared.words.Form.{Form}
-use Rattle.review_lines.specs.FaultLines.{TellsFault}
-use Rattle.review_files.specs.Statuses.{fault_status, unread_status}
+use Rattle.review_faults.specs.FaultLines.{TellsFault}
+use Rattle.review_files.specs.Statuses.{unread_status}
 use Rattle.review_files.specs.declared.rejected.Named.{Named}
 use Rattle.review_files.specs.declared.unread.Unread.{Unread}
 use Rattle.review_files.specs.declared.unread.Unread.TheVariants as unread
@@ -62,8 +62,12 @@ abbrev pub side_name : Side → Named → Named → List ℕ
 side_name Left left right = left.name.now
 side_name Right left right = right.name.now
 
--- Of two files that are read and not compared: what is told of both or, if neither is rejected, a line of one of them.
-abbrev pub TellsNotCompared : Form → Named → Named → Side → Fault → List ℕ → ℕ → Type 0
-TellsNotCompared form left right side fault text status =
+-- the line of a file for which memory is refused
+abbrev pub no_memory : List ℕ → List ℕ
+no_memory name = (codes "yamlreview: " ++ (terminal name ++ codes ": ")) ++ codes "21 OutOfMemory\n"
+
+-- Of two files that are read and not compared: what is told of both or, if neither is rejected, that memory is refused for one of them.
+abbrev pub TellsNotCompared : Form → Named → Named → Side → List ℕ → ℕ → Type 0
+TellsNotCompared form left right side text status =
     (TellsBoth form left right text status × (1 ≤ status))
-    ⊎ ((before : List ℕ) × (line : List ℕ) × TellsBoth form left right before 0 × TellsName (side_name side left right) line × (text ≡ before ++ line) × (status ≡ fault_status fault))
+    ⊎ ((before : List ℕ) × TellsBoth form left right before 0 × (text ≡ before ++ no_memory (side_name side left right)) × (status ≡ 2))

@@ -2,11 +2,11 @@
 ghost use Rattle.std.specs.Prelude.{◌≡◌, ◌++◌, ℕ, List, IfOk, string_bytes};
 ghost use Rattle.review_files.specs.Told.{TellsUnread, TellsFile, TellsBoth, TellsNotCompared};
 
-use crate::telling::{put_fault_line, put_unread};
-use crate::unread::{Unread, fault_status, greater};
+use crate::telling::{put_no_memory, put_unread};
+use crate::unread::{Unread, greater};
 use review_args::Form;
 use review_compare::fault_of;
-use review_lines::put_fault;
+use review_faults::put_fault;
 use std::alloc::Global;
 use yaml_canon::Side;
 use yaml_text::fault::Fault;
@@ -82,27 +82,26 @@ pub fn put_rejections(
     Ok(greater(first, second))
 }
 
-/// The same of two files that are not compared because of this fault of one of them. Where each of them is accepted by itself, as
-/// where memory is refused for both, the fault is reported.
+/// The same of two files that are not compared because of this one of them. Where each of them is accepted by itself, memory is
+/// refused for both, and that is what is reported.
 pub fn put_not_compared(
     alloc: Global,
     out: &mut String,
     left: Named<'_>,
     right: Named<'_>,
-    refused: (Side, Fault),
+    side: Side,
     form: Form,
 ) -> Result<u8, Fault>
-    ensures { IfOk result (λ status. (text : List ℕ) × (string_bytes out.new ≡ string_bytes out.old ++ text) × TellsNotCompared form left.entry right.entry refused.0 refused.1 text status) }
+    ensures { IfOk result (λ status. (text : List ℕ) × (string_bytes out.new ≡ string_bytes out.old ++ text) × TellsNotCompared form left.entry right.entry side text status) }
 {
     let status = put_rejections(alloc, out, left, right, form)?;
     if status != DONE {
         return Ok(status);
     }
-    let (side, fault) = refused;
     let name = match side {
         Side::Left => left.name,
         Side::Right => right.name,
     };
-    put_fault_line(alloc, out, name, fault)?;
-    Ok(fault_status(fault))
+    put_no_memory(out, name)?;
+    Ok(REJECTED)
 }

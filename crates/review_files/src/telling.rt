@@ -1,7 +1,7 @@
 //! The lines of standard error.
 ghost use Rattle.std.specs.Prelude.{◌≡◌, ◌++◌, ℕ, List, OnOk, codes, string_bytes};
 ghost use Rattle.review_text.specs.Terminal.{terminal};
-ghost use Rattle.review_files.specs.Told.{TellsName};
+ghost use Rattle.review_files.specs.Told.{TellsName, no_memory};
 ghost use Rattle.review_files.specs.Statuses.{fault_status, unread_status};
 
 use crate::unread::{Unread, fault_status};
@@ -22,6 +22,9 @@ const FRONT: &str = "yamlreview: ";
 
 /// What is wrong with the program's own words.
 const NO_WORDS: &str = "yamlreview: usage: the words cannot be read\n";
+
+/// What is said of a file for which memory is refused.
+const NO_MEMORY: &str = "21 OutOfMemory\n";
 
 /// Writes a line. Where standard error fails too, the status alone is left to tell what the line would.
 pub fn put_line<E: Write>(line: &str, err: &mut E) {
@@ -67,6 +70,15 @@ pub fn put_fault_line(
 {
     let line = format!(in alloc; "{fault}\n")?;
     put_name_line(out, name, "", line.as_str())
+}
+
+/// Writes the line of a file for which memory is refused.
+pub(crate) fn put_no_memory(out: &mut String, name: &str) -> Result<(), Fault>
+    ensures { OnOk result (string_bytes out.new ≡ string_bytes out.old ++ no_memory name.now) }
+{
+    put_front(out, name)?;
+    out.push_str(NO_MEMORY)?;
+    Ok(())
 }
 
 /// Writes the line of a file that is not read.

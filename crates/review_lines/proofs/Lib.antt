@@ -1,5 +1,4 @@
 mod CompareLaws
-mod FaultLaws
 mod LineLaws
 mod ListLaws
 mod SameLaws

@@ -9,7 +9,7 @@ use Rattle.yaml_canon.specs.Claims.{CanonicalRefuses}
 use Rattle.yaml_canon.specs.FaultPlaces.{TellsPlace}
 use Rattle.review_args.specs.declared.words.Warn.{Warn}
 use Rattle.review_formats.specs.declared.finding.Finding.{Finding}
-use Rattle.review_lines.specs.Spotted.{IsSpotted}
+use Rattle.review_faults.specs.Spotted.{IsSpotted}
 use Rattle.review_files.specs.Named.{ReadsNamed, ReadsNot}
 use Rattle.review_files.specs.Told.{IsAccepted}
 use Rattle.review_reports.specs.Reports.{HasNoText}

@@ -6,7 +6,7 @@ use Rattle.yaml_text.specs.declared.counted.Counted.{Counted}
 use Rattle.yaml_text.specs.Writers.{Printed, Broken}
 use Rattle.review_args.specs.declared.words.Form.{Form}
 use Rattle.review_args.specs.declared.words.Warn.{Warn}
-use Rattle.review_lines.specs.FaultLines.{TellsFault}
+use Rattle.review_faults.specs.FaultLines.{TellsFault}
 use Rattle.review_files.specs.Named.{ReadsNamed, ReadsNot}
 use Rattle.review_files.specs.Statuses.{unread_status}
 use Rattle.review_files.specs.Told.{IsAccepted, TellsRefusal}

@@ -3,9 +3,9 @@ ghost use Rattle.std.specs.Prelude.{◌≡◌, IfOk, string_bytes};
 ghost use Rattle.review_reports.specs.Pages.{IsFault};
 
 use review_args::Diff;
+use review_faults::{Warning, spot_fault};
 use review_formats::{Finding, Level, Sides, Sign};
 use review_lines::lines::Line;
-use review_lines::{Warning, spot_fault};
 use review_text::put_visible;
 use review_text::text::{CUT, front};
 use std::alloc::Global;

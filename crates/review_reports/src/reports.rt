@@ -1,15 +1,15 @@
 //! The commands `faults` and `warn`.
 ghost use Rattle.std.specs.Prelude.{◌≡◌, ◌<◌, ◌-◌, ◌^◌, ◌&&◌, not, cond, map, IfOk, IfErr, OnOk, string_bytes};
 ghost use Rattle.yaml_text.specs.CountedModel.{faults_of};
-ghost use Rattle.review_lines.specs.FaultLines.{TellsFault};
+ghost use Rattle.review_faults.specs.FaultLines.{TellsFault};
 ghost use Rattle.review_reports.specs.Reports.{AddsWarnings, Adds, TellsBytes, HasText, HasNoText, TellsFile, CutsFile, TellsFiles};
 
 use review_args::{Form, Report, Warn};
 use review_compare::fault_of;
+use review_faults::{list_warnings, put_fault, put_warnings};
 use review_files::files::read_named;
 use review_files::telling::{tell_bare, tell_unread};
 use review_files::unread::{Unread, greater};
-use review_lines::{list_warnings, put_fault, put_warnings};
 use std::alloc::Global;
 use std::io::{Read, Write};
 use yaml_command::shelf::Shelf;

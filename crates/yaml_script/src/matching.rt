@@ -32,6 +32,14 @@ struct Range {
     right_end: usize,
 }
 
+/// A range without the equal lines at its ends, and how many these are.
+#[derive(Clone, Copy)]
+struct Inner {
+    front: usize,
+    middle: Range,
+    back: usize,
+}
+
 /// The lines of two texts.
 #[derive(Clone, Copy)]
 struct Both<'s, 't> {
@@ -174,6 +182,27 @@ impl<'t> Both<'_, 't> {
         Ok(())
     }
 
+    /// A range without the equal lines at its ends.
+    fn inner(self, range: Range) -> Inner {
+        let front = self.front(range);
+        let behind = Range {
+            left: range.left.saturating_add(front),
+            right: range.right.saturating_add(front),
+            ..range
+        };
+        let back = self.back(behind);
+        let middle = Range {
+            left_end: behind.left_end.saturating_sub(back),
+            right_end: behind.right_end.saturating_sub(back),
+            ..behind
+        };
+        Inner {
+            front,
+            middle,
+            back,
+        }
+    }
+
     /// Adds the pairs of equal lines of a range between two pairs: those at its ends, and what is between them if it is small.
     fn add_gap(
         self,
@@ -181,18 +210,11 @@ impl<'t> Both<'_, 't> {
         range: Range,
         pairs: &mut Vec<(usize, usize)>,
     ) -> Result<(), Fault> {
-        let front = self.front(range);
-        let inner = Range {
-            left: range.left.saturating_add(front),
-            right: range.right.saturating_add(front),
-            ..range
-        };
-        let back = self.back(inner);
-        let middle = Range {
-            left_end: inner.left_end.saturating_sub(back),
-            right_end: inner.right_end.saturating_sub(back),
-            ..inner
-        };
+        let Inner {
+            front,
+            middle,
+            back,
+        } = self.inner(range);
         put_run(pairs, range.left, range.right, front)?;
         if middle.left_end.saturating_sub(middle.left) <= FEW
             && middle.right_end.saturating_sub(middle.right) <= FEW
@@ -293,18 +315,11 @@ pub(crate) fn pairs_of(
         left_end: left.len(),
         right_end: right.len(),
     };
-    let front = both.front(whole);
-    let inner = Range {
-        left: front,
-        right: front,
-        ..whole
-    };
-    let back = both.back(inner);
-    let middle = Range {
-        left_end: whole.left_end.saturating_sub(back),
-        right_end: whole.right_end.saturating_sub(back),
-        ..inner
-    };
+    let Inner {
+        front,
+        middle,
+        back,
+    } = both.inner(whole);
     let lone = longest_rising(alloc, &both.lone(alloc, middle)?)?;
     let mut pairs = Vec::new(alloc);
     put_run(&mut pairs, 0, 0, front)?;

@@ -1,182 +1,169 @@
-//! Streams in block style.
-use crate::flow::{LEVELS, all_fit, put_flow, put_key};
+//! Documents in block style.
+ghost use Rattle.std.specs.Prelude.{◌≡◌, ◌<◌, ◌++◌, ◌∷◌, [], map, string_bytes, OnOk, IfOk};
+ghost use Rattle.std.specs.List.{All};
+ghost use Rattle.yaml_definitions.specs.model.Order.{arranged};
+ghost use Rattle.yaml_graph.specs.GraphView.{forest};
+ghost use Rattle.yaml_rank.specs.RanksView.{RanksAre};
+ghost use Rattle.yaml_spell.specs.RankedNodes.{Rooted, tree_of, trees_of, pairs_of};
+ghost use Rattle.yaml_show_scalar.specs.Texts.{written};
+ghost use Rattle.yaml_show.specs.Layout.{node_lines, item_lines, entry_lines, document_lines, shown_text};
+
+use crate::keys::{all_fit, put_key};
+use crate::lines::{goes_on, put_before, put_empty, put_head, put_line, put_scalar_node};
 use crate::nodes::Nodes;
-use crate::out::Out;
-use crate::scalar::put_scalar_lines;
-use crate::stop::Stop;
-use crate::tag::{is_left_out, put_tag, put_tag_before};
+use crate::place::Place;
 use std::alloc::Global;
-use yaml_graph::node::{NodeId, NodeKind};
+use yaml_show_scalar::{Out, Stop};
+use yaml_spell::ranked::RankedNodes;
+use yaml_spell::ranked_graph::RankedGraph;
+use yaml_spell::shown::Inside;
 use yaml_text::core_tag;
 use yaml_text::limits::text_limit;
 
 /// The greatest level of a collection in block style. One that is deeper is on one line, so that indentation does not grow further.
 const DEEPEST: usize = 64;
 
-/// What is before a node on its line.
-#[derive(Clone, Copy, PartialEq, Eq)]
-enum Place {
-    /// `---`
-    Root,
-    /// `key:`
-    Value,
-    /// `- `
-    Item,
-}
-
-/// Writes the space between a node and what is before it.
-fn put_space(out: &mut Out, place: Place) -> Result<(), Stop> {
-    match place {
-        Place::Item => Ok(()),
-        Place::Root | Place::Value => out.put(" "),
-    }
-}
-
-/// Writes an empty collection and the end of its line.
-fn put_empty(
-    out: &mut Out,
-    place: Place,
-    tag: &str,
-    own: &str,
-    brackets: &str,
-) -> Result<(), Stop> {
-    put_space(out, place)?;
-    put_tag_before(out, tag, own)?;
-    out.put(brackets)
-}
-
-/// Writes what of a block collection is on the line that is begun. The answer is whether its first part is on this line too.
-fn put_head(out: &mut Out, place: Place, tag: &str, own: &str) -> Result<bool, Stop> {
-    if is_left_out(tag, own) {
-        return match place {
-            Place::Item => Ok(true),
-            Place::Root | Place::Value => {
-                out.put("\n")?;
-                Ok(false)
-            }
-        };
-    }
-    put_space(out, place)?;
-    put_tag(out, tag)?;
-    out.put("\n")?;
-    Ok(false)
-}
-
-/// Writes a node on one line, and the end of the line.
-fn put_line(
-    nodes: &Nodes<'_>,
-    id: NodeId,
-    place: Place,
-    left: u16,
-    out: &mut Out,
-) -> Result<(), Stop> {
-    put_space(out, place)?;
-    put_flow(nodes, id, left, out)?;
-    out.put("\n")
-}
-
 /// Writes a node and the end of its line. Its parts, or the further lines of a scalar, are at this level.
 #[cycle(block)]
-fn put_node(
+fn put_node<I: Copy, V: RankedNodes<I>>(
     alloc: Global,
-    nodes: &Nodes<'_>,
-    id: NodeId,
+    view: &V,
+    id: I,
     place: Place,
     level: usize,
-    left: u16,
     out: &mut Out,
-) -> Result<(), Stop> {
-    let node = nodes.node(id)?;
-    if left == 0 {
-        return Err(Stop::Lost);
-    }
-    let tag = node.tag.as_str();
-    match &node.kind {
-        NodeKind::Scalar(content) => {
-            put_space(out, place)?;
-            let is_root = place == Place::Root;
-            let lines_at = if is_root { 1 } else { level };
-            put_scalar_lines(out, tag, content.as_str(), lines_at, is_root)
-        }
-        NodeKind::Sequence(items) => {
+) -> Result<(), Stop>
+    requires stands { V.stands view.now }
+    requires within { V.number id < V.count view.now }
+    ensures { OnOk result (written out.new ≡ written out.old ++ node_lines place level (V.tree view.now (V.number id))) }
+{
+    let node = view.node(id);
+    match node.inside {
+        Inside::Scalar(content) => put_scalar_node(out, node.tag, content, place, level),
+        Inside::Sequence(items) => {
             if items.is_empty() {
-                return put_empty(out, place, tag, core_tag::SEQ, "[]\n");
+                return put_empty(out, place, node.tag, core_tag::SEQ, "[]\n");
             }
             if level >= DEEPEST {
-                return put_line(nodes, id, place, left, out);
+                return put_line(view, id, place, out);
             }
-            let begun = put_head(out, place, tag, core_tag::SEQ)?;
-            put_items(alloc, nodes, items, begun, level, left - 1, out)
+            put_head(out, place, node.tag, core_tag::SEQ)?;
+            let begun = goes_on(place, node.tag, core_tag::SEQ);
+            put_items(alloc, view, items, begun, level, out)
         }
-        NodeKind::Mapping(_) => {
-            let entries = nodes.sorted(id);
+        Inside::Mapping(entries) => {
             if entries.is_empty() {
-                return put_empty(out, place, tag, core_tag::MAP, "{}\n");
+                return put_empty(out, place, node.tag, core_tag::MAP, "{}\n");
             }
-            if level >= DEEPEST || !all_fit(alloc, nodes, entries)? {
-                return put_line(nodes, id, place, left, out);
+            if level >= DEEPEST {
+                return put_line(view, id, place, out);
             }
-            let begun = put_head(out, place, tag, core_tag::MAP)?;
-            put_entries(alloc, nodes, entries, begun, level, left - 1, out)
+            if !all_fit(alloc, view, entries)? {
+                return put_line(view, id, place, out);
+            }
+            put_head(out, place, node.tag, core_tag::MAP)?;
+            let begun = goes_on(place, node.tag, core_tag::MAP);
+            put_entries(alloc, view, entries, begun, level, out)
         }
     }
 }
 
 /// Writes items, each on lines of its own. If the line is begun, the first one is on it.
 #[cycle(block)]
-fn put_items(
+fn put_items<I: Copy, V: RankedNodes<I>>(
     alloc: Global,
-    nodes: &Nodes<'_>,
-    items: &[NodeId],
+    view: &V,
+    items: &[I],
     begun: bool,
     level: usize,
-    left: u16,
     out: &mut Out,
-) -> Result<(), Stop> {
+) -> Result<(), Stop>
+    requires stands { V.stands view.now }
+    requires within { All (λ i. V.number i < V.count view.now) items.now }
+    requires low { level < 64 }
+    ensures { OnOk result (written out.new ≡ written out.old ++ item_lines begun level (trees_of V.tree V.number view.now items.now)) }
+{
     let mut is_begun = begun;
     for item in items {
-        out.indent(if is_begun { 0 } else { level })?;
+        put_before(out, is_begun, level)?;
         is_begun = false;
         out.put("- ")?;
-        let below = level.saturating_add(1);
-        put_node(alloc, nodes, *item, Place::Item, below, left, out)?;
+        put_node(alloc, view, *item, Place::Item, level + 1, out)?;
     }
     Ok(())
 }
 
 /// Writes entries in the same way.
 #[cycle(block)]
-fn put_entries(
+fn put_entries<I: Copy, V: RankedNodes<I>>(
     alloc: Global,
-    nodes: &Nodes<'_>,
-    entries: &[(NodeId, NodeId)],
+    view: &V,
+    entries: &[(I, I)],
     begun: bool,
     level: usize,
-    left: u16,
     out: &mut Out,
-) -> Result<(), Stop> {
+) -> Result<(), Stop>
+    requires stands { V.stands view.now }
+    requires within { All (λ p. (V.number p.0 < V.count view.now) × (V.number p.1 < V.count view.now)) entries.now }
+    requires low { level < 64 }
+    ensures { OnOk result (written out.new ≡ written out.old ++ entry_lines begun level (pairs_of V.tree V.number view.now entries.now)) }
+{
     let mut is_begun = begun;
     for entry in entries {
-        out.indent(if is_begun { 0 } else { level })?;
+        put_before(out, is_begun, level)?;
         is_begun = false;
-        put_key(nodes, entry.0, out)?;
+        put_key(view, entry.0, out)?;
         out.put(":")?;
-        let below = level.saturating_add(1);
-        put_node(alloc, nodes, entry.1, Place::Value, below, left, out)?;
+        put_node(alloc, view, entry.1, Place::Value, level + 1, out)?;
+    }
+    Ok(())
+}
+
+/// Writes a document: `---`, and its root.
+fn put_document<I: Copy, V: RankedNodes<I>>(
+    alloc: Global,
+    view: &V,
+    root: I,
+    out: &mut Out,
+) -> Result<(), Stop>
+    requires stands { V.stands view.now }
+    requires within { V.number root < V.count view.now }
+    ensures { OnOk result (written out.new ≡ written out.old ++ document_lines (V.tree view.now (V.number root))) }
+{
+    out.put("---")?;
+    put_node(alloc, view, root, Place::Root, 0, out)
+}
+
+/// Writes the documents of these roots.
+fn put_documents<I: Copy, V: RankedNodes<I>>(
+    alloc: Global,
+    view: &V,
+    roots: &[I],
+    out: &mut Out,
+) -> Result<(), Stop>
+    requires rooted { Rooted V.stands V.count V.number view.now roots.now }
+    ensures { OnOk result (written out.new ≡ written out.old ++ shown_text (map (tree_of V.tree V.number view.now) roots.now)) }
+{
+    for root in roots {
+        put_document(alloc, view, *root, out)?;
     }
     Ok(())
 }
 
 /// The documents in block style: `---`, then a line for each entry and item. Entries are in the order of their keys. Aliases are written
-/// out.
+/// out. The ranks must be those of the graph.
 ///
 /// # Errors
-/// `TooLong`: the text would have more than 67,108,864 bytes. `OutOfMemory`. `Lost`: the graph has no such node.
-pub fn block_text(alloc: Global, nodes: &Nodes<'_>) -> Result<String, Stop> {
+/// `TooLong`: the text would have more than 67,108,864 bytes. `OutOfMemory`.
+pub fn block_text(alloc: Global, nodes: &Nodes<'_>) -> Result<String, Stop>
+    requires { RanksAre nodes.now.graph nodes.now.ranks }
+    ensures { IfOk result (λ text. string_bytes text ≡ shown_text (map arranged (forest nodes.now.graph))) }
+{
+    let view = RankedGraph {
+        graph: &nodes.graph,
+        ranks: &nodes.ranks,
+    };
     let mut out = Out::new(alloc, text_limit());
-    for root in nodes.graph.roots() {
-        out.put("---")?;
-        put_node(alloc, nodes, *root, Place::Root, 0, LEVELS, &mut out)?;
-    }
+    put_documents(alloc, &view, nodes.graph.roots(), &mut out)?;
     Ok(out.text)
 }

@@ -1,138 +1,147 @@
 //! Nodes on one line.
-use crate::nodes::Nodes;
-use crate::out::Out;
-use crate::scalar::{Quotes, put_scalar};
-use crate::stop::Stop;
-use crate::tag::put_tag_before;
-use std::alloc::Global;
-use yaml_graph::node::{Node, NodeId, NodeKind};
+ghost use Rattle.std.specs.Prelude.{◌≡◌, ◌<◌, ◌&&◌, nat_le, length, ◌++◌, ◌∷◌, [], OnOk};
+ghost use Rattle.std.specs.List.{All};
+ghost use Rattle.yaml_spell.specs.RankedNodes.{trees_of, pairs_of};
+ghost use Rattle.yaml_spell.specs.Walked.{separator};
+ghost use Rattle.yaml_show_scalar.specs.Texts.{written};
+ghost use Rattle.yaml_show.specs.Flow.{is_short, mark, colon, flow_text, flow_items, flow_entries};
+
+use yaml_show_scalar::scalar::put_scalar;
+use yaml_show_scalar::tag::put_tag_before;
+use yaml_show_scalar::{Out, Quotes, Stop};
+use yaml_spell::ranked::RankedNodes;
+use yaml_spell::shown::Inside;
 use yaml_text::core_tag;
 
-/// How many nodes may be inside one another.
-pub(crate) const LEVELS: u16 = 1_024;
+/// Whether a scalar has so few bytes that its text is no longer than a key's may be, whatever escapes it needs.
+fn is_short_scalar(tag: &str, content: &str) -> bool
+    ensures { result ≡ (nat_le (length content.now) 200 && nat_le (length tag.now) 64) }
+{
+    content.len() <= 200 && tag.len() <= 64
+}
 
-/// The greatest number of characters of a key in a block mapping.
-const KEY_LIMIT: usize = 1_023;
-
-/// Whether a node is a scalar of so few bytes that its text is no longer than a key's may be, whatever escapes it needs.
-fn is_short(node: &Node<'_>) -> bool {
-    match &node.kind {
-        NodeKind::Scalar(content) => {
-            content.as_str().len() <= 200 && node.tag.as_str().len() <= 64
-        }
-        _ => false,
+/// Whether a node is such a scalar.
+pub(crate) fn is_short<I: Copy, V: RankedNodes<I>>(view: &V, id: I) -> bool
+    requires stands { V.stands view.now }
+    requires within { V.number id < V.count view.now }
+    ensures { result ≡ is_short (V.tree view.now (V.number id)) }
+{
+    let node = view.node(id);
+    match node.inside {
+        Inside::Scalar(content) => is_short_scalar(node.tag, content),
+        Inside::Sequence(_) => false,
+        Inside::Mapping(_) => false,
     }
 }
 
-/// Writes a node on one line. Each string in it is quoted. Of its levels, so many are left.
-#[cycle(flow)]
-pub(crate) fn put_flow(
-    nodes: &Nodes<'_>,
-    id: NodeId,
-    left: u16,
-    out: &mut Out,
-) -> Result<(), Stop> {
-    let node = nodes.node(id)?;
-    if left == 0 {
-        return Err(Stop::Lost);
+/// Writes what is before the part at this place.
+fn put_separator(out: &mut Out, place: usize) -> Result<(), Stop>
+    ensures { OnOk result (written out.new ≡ written out.old ++ separator place) }
+{
+    if place == 0 {
+        return Ok(());
     }
-    let tag = node.tag.as_str();
-    match &node.kind {
-        NodeKind::Scalar(content) => put_scalar(out, tag, content.as_str(), Quotes::Always),
-        NodeKind::Sequence(items) => {
-            put_tag_before(out, tag, core_tag::SEQ)?;
-            put_flow_items(nodes, items, left - 1, out)
+    out.put(", ")
+}
+
+/// Writes what is before a key.
+fn put_mark(out: &mut Out, is_simple: bool) -> Result<(), Stop>
+    ensures { OnOk result (written out.new ≡ written out.old ++ mark is_simple) }
+{
+    if is_simple {
+        return Ok(());
+    }
+    out.put("? ")
+}
+
+/// Writes what is between a key and its value.
+fn put_colon(out: &mut Out, is_simple: bool) -> Result<(), Stop>
+    ensures { OnOk result (written out.new ≡ written out.old ++ colon is_simple) }
+{
+    out.put(if is_simple { ": " } else { " : " })
+}
+
+/// Writes a node on one line. Each string in it is quoted.
+#[cycle(flow)]
+pub(crate) fn put_flow<I: Copy, V: RankedNodes<I>>(
+    view: &V,
+    id: I,
+    out: &mut Out,
+) -> Result<(), Stop>
+    requires stands { V.stands view.now }
+    requires within { V.number id < V.count view.now }
+    ensures { OnOk result (written out.new ≡ written out.old ++ flow_text (V.tree view.now (V.number id))) }
+{
+    let node = view.node(id);
+    match node.inside {
+        Inside::Scalar(content) => put_scalar(out, node.tag, content, Quotes::Always),
+        Inside::Sequence(items) => {
+            put_tag_before(out, node.tag, core_tag::SEQ)?;
+            put_flow_items(view, items, out)
         }
-        NodeKind::Mapping(_) => {
-            put_tag_before(out, tag, core_tag::MAP)?;
-            put_flow_entries(nodes, nodes.sorted(id), left - 1, out)
+        Inside::Mapping(entries) => {
+            put_tag_before(out, node.tag, core_tag::MAP)?;
+            put_flow_entries(view, entries, out)
         }
     }
 }
 
 /// Writes the items of a sequence between brackets.
 #[cycle(flow)]
-fn put_flow_items(
-    nodes: &Nodes<'_>,
-    items: &[NodeId],
-    left: u16,
+fn put_flow_items<I: Copy, V: RankedNodes<I>>(
+    view: &V,
+    items: &[I],
     out: &mut Out,
-) -> Result<(), Stop> {
+) -> Result<(), Stop>
+    requires stands { V.stands view.now }
+    requires within { All (λ i. V.number i < V.count view.now) items.now }
+    ensures { OnOk result (written out.new ≡ written out.old ++ (91 ∷ flow_items [] (trees_of V.tree V.number view.now items.now))) }
+{
     out.put("[")?;
-    let mut between = "";
-    for item in items {
-        out.put(between)?;
-        between = ", ";
-        put_flow(nodes, *item, left, out)?;
+    for (place, item) in items.iter().enumerate() {
+        put_separator(out, place)?;
+        put_flow(view, *item, out)?;
     }
     out.put("]")
 }
 
-/// Writes the entries of a mapping between braces. A key that is no short scalar is behind `? `: some readers take no more than 1,024
-/// characters without it.
+/// Writes the entries of a mapping between braces.
 #[cycle(flow)]
-fn put_flow_entries(
-    nodes: &Nodes<'_>,
-    entries: &[(NodeId, NodeId)],
-    left: u16,
+fn put_flow_entries<I: Copy, V: RankedNodes<I>>(
+    view: &V,
+    entries: &[(I, I)],
     out: &mut Out,
-) -> Result<(), Stop> {
+) -> Result<(), Stop>
+    requires stands { V.stands view.now }
+    requires within { All (λ p. (V.number p.0 < V.count view.now) × (V.number p.1 < V.count view.now)) entries.now }
+    ensures { OnOk result (written out.new ≡ written out.old ++ (123 ∷ flow_entries [] (pairs_of V.tree V.number view.now entries.now))) }
+{
     out.put("{")?;
-    let mut between = "";
-    for entry in entries {
-        out.put(between)?;
-        between = ", ";
-        let is_simple = is_short(nodes.node(entry.0)?);
-        out.put(if is_simple { "" } else { "? " })?;
-        put_flow(nodes, entry.0, left, out)?;
-        out.put(if is_simple { ": " } else { " : " })?;
-        put_flow(nodes, entry.1, left, out)?;
+    for (place, entry) in entries.iter().enumerate() {
+        put_separator(out, place)?;
+        put_flow_entry(view, entry.0, entry.1, out)?;
     }
     out.put("}")
 }
 
-/// Whether the text of a key is short enough for a block mapping.
-fn fits(alloc: Global, nodes: &Nodes<'_>, id: NodeId) -> Result<bool, Stop> {
-    if is_short(nodes.node(id)?) {
-        return Ok(true);
-    }
-    let mut key = Out::new(alloc, 4 * KEY_LIMIT);
-    match put_key(nodes, id, &mut key) {
-        Ok(()) => Ok(key.text.as_str().chars().count() <= KEY_LIMIT),
-        Err(Stop::TooLong) => Ok(false),
-        Err(stop) => Err(stop),
-    }
-}
-
-/// Whether the text of each key is short enough for a block mapping.
-pub(crate) fn all_fit(
-    alloc: Global,
-    nodes: &Nodes<'_>,
-    entries: &[(NodeId, NodeId)],
-) -> Result<bool, Stop> {
-    for entry in entries {
-        if !fits(alloc, nodes, entry.0)? {
-            return Ok(false);
-        }
-    }
-    Ok(true)
-}
-
-/// Writes a key of a block mapping, without its `:`.
-pub(crate) fn put_key(nodes: &Nodes<'_>, id: NodeId, out: &mut Out) -> Result<(), Stop> {
-    let node = nodes.node(id)?;
-    match &node.kind {
-        NodeKind::Scalar(content) => {
-            put_scalar(
-                out,
-                node.tag.as_str(),
-                content.as_str(),
-                Quotes::WhereNeeded,
-            )
-        }
-        _ => {
-            put_flow(nodes, id, LEVELS, out)?;
-            out.put(" ")
-        }
-    }
+/// Writes an entry of a mapping. A key that is no short scalar is behind `? `: some readers take no more than 1,024 characters without
+/// it. It is inlined so that nesting takes no more of the stack.
+#[cycle(flow)]
+#[inline(always)]
+fn put_flow_entry<I: Copy, V: RankedNodes<I>>(
+    view: &V,
+    key: I,
+    value: I,
+    out: &mut Out,
+) -> Result<(), Stop>
+    requires stands { V.stands view.now }
+    requires key_within { V.number key < V.count view.now }
+    requires value_within { V.number value < V.count view.now }
+    ensures { OnOk result (written out.new ≡ written out.old ++ (mark (is_short (V.tree view.now (V.number key))) ++ (flow_text (V.tree view.now (V.number key)) ++ (colon (is_short (V.tree view.now (V.number key))) ++ flow_text (V.tree view.now (V.number value)))))) }
+{
+    let is_simple = is_short(view, key);
+    put_mark(out, is_simple)?;
+    put_flow(view, key, out)?;
+    put_colon(out, is_simple)?;
+    put_flow(view, value, out)
 }

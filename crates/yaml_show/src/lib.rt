@@ -1,21 +1,18 @@
 //! Readable texts of ranked documents: block style, a line for each entry and item (`block_text`), and a line of JSON for each document
-//! (`json_lines`). Nothing is claimed of these texts here: `yaml_shown` checks each before it is handed out.
+//! (`json_lines`). Scalars and tags are written by `yaml_show_scalar`. The text in block style is that of a definition, so it depends on
+//! what the documents mean alone. That it means the same is not claimed here: `yaml_shown` checks each text before it is handed out.
 #![tactic(auto)]
 
 mod block;
-mod chars;
-mod escapes;
 mod flow;
 mod json;
+mod keys;
+mod lines;
 pub mod nodes;
-mod number;
-mod out;
-mod plain;
-mod scalar;
-pub mod stop;
-mod tag;
+pub mod place;
+pub mod unwritten;
 
 pub use block::block_text;
 pub use json::json_lines;
 pub use nodes::Nodes;
-pub use stop::Stop;
+pub use unwritten::Unwritten;

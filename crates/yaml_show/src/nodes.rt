@@ -3,7 +3,7 @@ ghost use Rattle.std.specs.Prelude.{◌≡◌, length};
 ghost use Rattle.yaml_graph.specs.GraphView.{nodes_of};
 ghost use Rattle.yaml_rank.specs.RanksView.{sorted_of};
 
-use crate::stop::Stop;
+use crate::unwritten::Unwritten;
 use yaml_graph::graph::Graph;
 use yaml_graph::node::{Node, NodeId};
 use yaml_rank::ranks::Ranks;
@@ -18,16 +18,16 @@ pub struct Nodes<'a> {
 
 impl<'a> Nodes<'a> {
     /// The node of this number.
-    pub fn node(&self, id: NodeId) -> Result<&Node<'a>, Stop> {
+    pub(crate) fn node(&self, id: NodeId) -> Result<&Node<'a>, Unwritten> {
         if id.0 < self.graph.len() {
             Ok(self.graph.node(id))
         } else {
-            Err(Stop::Lost)
+            Err(Unwritten::Lost)
         }
     }
 
     /// The entries of a mapping, in the order of their keys; none if no node has this number.
-    pub fn sorted(&self, id: NodeId) -> &[(NodeId, NodeId)] {
+    pub(crate) fn sorted(&self, id: NodeId) -> &[(NodeId, NodeId)] {
         if id.0 < self.graph.len() {
             self.ranks.sorted(id)
         } else {

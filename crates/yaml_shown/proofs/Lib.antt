@@ -1,3 +1,4 @@
+pub mod AlikeLaws
 pub mod JoinLaws
 pub mod JsonLaws
 pub mod ShownLaws

@@ -1,3 +1,4 @@
 pub mod Alike
 pub mod Lines
 pub mod Refused
+pub mod Shows

@@ -1,59 +1,36 @@
 //! What a presenter writes of a stream.
-ghost use Rattle.std.specs.Prelude.{ℕ, List, IfErr};
+ghost use Rattle.std.specs.Prelude.{◌≡◌, ◌++◌, ℕ, List, IfOk, IfErr, IfSome, string_bytes};
+ghost use Rattle.yaml_definitions.specs.model.Tree.{Tree};
+ghost use Rattle.yaml_definitions.specs.model.Means.{Means};
+ghost use Rattle.yaml_graph.specs.GraphView.{forest as root_trees};
+ghost use Rattle.yaml_rank.specs.RanksView.{RanksAre};
 ghost use Rattle.yaml_canon.specs.Claims.{CanonicalRefuses};
 ghost use Rattle.yaml_canon.specs.Both.{HasBoth};
+ghost use Rattle.yaml_shown.specs.Refused.{ShowRefuses, JsonRefuses};
+ghost use Rattle.yaml_shown.specs.Shows.{readable};
 
+use crate::unshown::Unshown;
 use std::alloc::Global;
 use yaml_canon::both::{BothForests, forest_of_both};
 use yaml_canon::canonical;
 use yaml_rank::rank;
-use yaml_show::{Nodes, Stop, block_text, json_lines};
+use yaml_show::{Nodes, Unwritten, block_text, json_lines};
+use yaml_show_scalar::Stop;
 use yaml_text::fault::Fault;
 
-/// What writes documents.
-pub(crate) trait Presenter {
-    /// What is written.
-    type Text: Drop;
-
-    /// Writes the documents.
-    fn text(&self, alloc: Global, nodes: &Nodes<'_>) -> Result<Self::Text, Stop>;
-}
-
-/// Writes YAML in block style.
-#[derive(Drop)]
-pub(crate) struct Block;
-
-impl Presenter for Block {
-    type Text = String;
-
-    fn text(&self, alloc: Global, nodes: &Nodes<'_>) -> Result<String, Stop> {
-        block_text(alloc, nodes)
-    }
-}
-
-/// Writes a line of JSON for each document.
-#[derive(Drop)]
-pub(crate) struct Json;
-
-impl Presenter for Json {
-    type Text = Vec<String>;
-
-    fn text(&self, alloc: Global, nodes: &Nodes<'_>) -> Result<Vec<String>, Stop> {
-        json_lines(alloc, nodes)
-    }
-}
-
-/// What is written of the documents of a store; none if two keys are equal, or if memory does not suffice.
-fn store_text<P: Presenter>(
-    alloc: Global,
-    forests: &BothForests<'_>,
-    presenter: &P,
-) -> Option<Result<P::Text, Stop>>
+/// The ranked documents of a store; none if two keys are equal, or if memory does not suffice.
+fn ranked<'s>(alloc: Global, forests: &'s BothForests<'_>) -> Option<Nodes<'s>>
     requires { (left right : List ℕ) × HasBoth left right forests.now }
+    ensures ranks { IfSome result (λ nodes. RanksAre nodes.graph nodes.ranks) }
+    ensures trees { (left right : List ℕ) (has : HasBoth left right forests.now) → IfSome result (λ nodes. root_trees nodes.graph ≡ has.mean.lefts ++ has.mean.rights) }
 {
-    let graph = forests.graph(alloc).ok()?;
-    let ranks = rank(alloc, &graph).ok()?;
-    Some(presenter.text(alloc, &Nodes { graph, ranks }))
+    let Ok(graph) = forests.graph(alloc) else {
+        return None;
+    };
+    match rank(alloc, &graph) {
+        Ok(ranks) => Some(Nodes { graph, ranks }),
+        Err(_) => None,
+    }
 }
 
 /// Why `canonical` rejects these bytes, of which the store has no ranked documents; want of memory if it does not reject them.
@@ -66,22 +43,64 @@ fn rejection(alloc: Global, bytes: &[u8]) -> Fault
     }
 }
 
-/// What is written of the documents that these bytes mean.
+/// The fault of a text that is not finished.
+fn stopped(stop: Stop) -> Fault
+    ensures { (bytes : List ℕ) → ShowRefuses bytes result }
+{
+    match stop {
+        Stop::TooLong => Fault::TextTooLong,
+        Stop::OutOfMemory => Fault::OutOfMemory,
+    }
+}
+
+/// The readable text of the documents that these bytes mean.
 ///
 /// # Errors
-/// Those of `canonical`.
-pub(crate) fn present<P: Presenter>(
-    alloc: Global,
-    bytes: &[u8],
-    presenter: &P,
-) -> Result<Result<P::Text, Stop>, Fault>
-    ensures { IfErr result (CanonicalRefuses bytes.now) }
+/// Those of `canonical`. 20: the readable text would be too long.
+#[tactic(auto, using(crate::proofs::ShownLaws::refused_shown))]
+pub(crate) fn readable_text(alloc: Global, bytes: &[u8]) -> Result<String, Fault>
+    ensures text { IfOk result (λ text. (f : List Tree) → Means bytes.now f → string_bytes text ≡ readable f) }
+    ensures refused { IfErr result (ShowRefuses bytes.now) }
 {
     let Ok(forests) = forest_of_both(alloc, bytes, b"") else {
         return Err(rejection(alloc, bytes));
     };
-    match store_text(alloc, &forests, presenter) {
-        Some(answer) => Ok(answer),
-        None => Err(rejection(alloc, bytes)),
+    let Some(nodes) = ranked(alloc, &forests) else {
+        return Err(rejection(alloc, bytes));
+    };
+    match block_text(alloc, &nodes) {
+        Ok(text) => Ok(text),
+        Err(stop) => Err(stopped(stop)),
+    }
+}
+
+/// The fault of lines that are not finished.
+fn unwritten(why: Unwritten) -> Unshown
+    ensures { (bytes : List ℕ) → JsonRefuses bytes result }
+{
+    match why {
+        Unwritten::Stopped(stop) => Unshown::Rejected(stopped(stop)),
+        Unwritten::NoJson => Unshown::NoJson,
+        Unwritten::Lost => Unshown::Unlike,
+    }
+}
+
+/// The lines of JSON of the documents that these bytes mean.
+///
+/// # Errors
+/// Those of `canonical`. 20: the lines would be too long. Else JSON cannot express a node.
+#[tactic(auto, using(crate::proofs::ShownLaws::refused_shown))]
+pub(crate) fn written_lines(alloc: Global, bytes: &[u8]) -> Result<Vec<String>, Unshown>
+    ensures { IfErr result (JsonRefuses bytes.now) }
+{
+    let Ok(forests) = forest_of_both(alloc, bytes, b"") else {
+        return Err(Unshown::Rejected(rejection(alloc, bytes)));
+    };
+    let Some(nodes) = ranked(alloc, &forests) else {
+        return Err(Unshown::Rejected(rejection(alloc, bytes)));
+    };
+    match json_lines(alloc, &nodes) {
+        Ok(lines) => Ok(lines),
+        Err(why) => Err(unwritten(why)),
     }
 }

@@ -1,5 +1,6 @@
 """base.py: what the parts of tools/bindings share: a line said, a fault told, a command run, a program in C built, and the
 program's own answers."""
+import contextlib
 import os
 import random
 import subprocess
@@ -21,6 +22,15 @@ def say(text):
 def wrong(text):
     WRONG.append(text)
     print("bindings: " + text, file=sys.stderr, flush=True)
+
+
+@contextlib.contextmanager
+def part(text):
+    """A part of what is tried: the text is said behind it, if nothing went wrong in it."""
+    before = len(WRONG)
+    yield
+    if len(WRONG) == before:
+        say(text)
 
 
 def run(*words, out=None, may_end=(0,), **how):

@@ -6,16 +6,19 @@ is installed in the root and with no other module.
 """
 import glob
 import os
+import re
 import shutil
 import subprocess
 import zipfile
 
-from lib.paths import read
-from .bindings import go_module
+from lib.paths import TOP, read
 from .roots import inside
-from .store import EXAMPLES, FILES, KEPT, judged, put_files, put_go, put_rust
+from .store import EXAMPLES, FILES, KEPT, PAGE, judged, put_files, put_rust, write
+from .version import release
 
 PLACE = "/tmp/store"
+# What the page says to build a program in Go with.
+COMMANDS = re.compile(r"^    go mod init app.*\n(?:    .*\n)*", re.M)
 
 
 def put_place(root):
@@ -59,22 +62,28 @@ def try_rust(root, crate, env, say, wrong):
 
 
 def try_go(root, folder, room, say, wrong):
-    """Over the module's archive, and the library that is installed in /opt/own of the root."""
+    """By the commands that LIBRARY has, over the module's archive and the library that is installed in /opt/own of the root."""
     archives = glob.glob(folder + "/yamlcanon-*-go.zip")
     if not (archives and shutil.which("go")):
         say("no module for Go, or no go: left out")
         return
     with zipfile.ZipFile(archives[0]) as file:
         file.extractall(room)
-    put_go(room + "/store", "%s/%s" % (room, go_module()), read(EXAMPLES + "/store.go"), "store")
+    write(room + "/store/main.go", read(EXAMPLES + "/store.go"))
     own = {name: value for name, value in os.environ.items() if not name.startswith(("GO", "CGO_"))}
     flags = {"CGO_CFLAGS": "-I%s/opt/own/include" % root, "CGO_LDFLAGS": "-L%s/opt/own/lib" % root}
     caches = {"GOCACHE": room + "/cache", "GOPATH": room + "/path", "GOPROXY": "off", "GOTOOLCHAIN": "local"}
-    words = ["go", "build", "-o", root + "/tmp/store_in_go", "."]
+    commands = COMMANDS.search(read("%s/%s" % (TOP, PAGE)))[0].replace("VERSION", release()).replace("PATH", room)
     done = subprocess.run(
-        words, cwd=room + "/store", env={**own, **flags, **caches}, stdout=subprocess.PIPE, stderr=subprocess.STDOUT, check=False
+        ["sh", "-e", "-c", commands],
+        cwd=room + "/store",
+        env={**own, **flags, **caches},
+        stdout=subprocess.PIPE,
+        stderr=subprocess.STDOUT,
+        check=False,
     )
     if done.returncode:
         wrong("the module for Go: %s" % done.stdout.decode(errors="replace"))
     else:
+        shutil.copy(room + "/store/app", root + "/tmp/store_in_go")
         try_words(root, "go", "/tmp/store_in_go", "the module for Go", say, wrong)

@@ -130,6 +130,18 @@ def try_debs(root, folder, has_python):
     return say("%d Debian packages, a program in C%s" % (len(own), ", Python" if has_python else ""))
 
 
+def try_lintian(folder):
+    """Debian's own checker finds no error in the packages and warns of nothing."""
+    debs = sorted(glob.glob(folder + "/*.deb"))
+    if not (debs and shutil.which("lintian")):
+        return say("no Debian packages, or no lintian: left out")
+    words = ["lintian", "--allow-root", "--fail-on", "error,warning", *debs]
+    done = subprocess.run(words, stdout=subprocess.PIPE, stderr=subprocess.STDOUT, check=False)
+    if hold("lintian", (done.returncode, done.stdout.decode(errors="replace"))):
+        say("lintian: no error and no warning in %d packages" % len(debs))
+    return None
+
+
 def try_archive(root, folder):
     name = "yamlcanon-%s-x86_64-linux" % release()
     subprocess.run(["tar", "-xzf", "%s/%s.tar.gz" % (folder, name), "-C", root + "/tmp"], check=True)
@@ -354,6 +366,7 @@ def try_folder(folder):
         say("%s has no packages that tools/release wrote" % folder)
         return 2
     try_sums(folder)
+    try_lintian(folder)
     with tempfile.TemporaryDirectory() as room:
         try_others(folder, room, say, wrong, hold)
     try_all(folder)

@@ -1,4 +1,4 @@
-use Rattle.std.proofs.Common.{◌≡◌, ◌++◌, ◌∙◌, ap, arith}
+use Rattle.std.proofs.Common.{◌++◌, ◌∙◌, ap, arith}
 use Rattle.std.specs.String.{string_bytes}
 use Rattle.yaml_shown.specs.Lines.{line_after}
 use Rattle.yaml_shown.proofs.JoinLaws.{flat_next, flat_all, flat_mapped}

@@ -1,0 +1,12 @@
+//! The lines of `faults` and `warn`, and where a file is that JSON cannot express.
+#![tactic(auto)]
+
+pub mod faults;
+pub mod no_json;
+pub mod spotted;
+pub mod warn;
+
+pub use faults::put_fault;
+pub use no_json::put_no_json;
+pub use spotted::{Spotted, spot_fault};
+pub use warn::{Warning, Warnings, list_warnings, put_warnings};

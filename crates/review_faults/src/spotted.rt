@@ -1,0 +1,57 @@
+//! A fault of a file by its parts.
+ghost use Rattle.std.specs.Prelude.{drop, IfOk};
+ghost use Rattle.yaml_definitions.specs.model.Text.{mark_len};
+ghost use Rattle.review_faults.specs.Spotted.{IsSpotted};
+
+use crate::faults::{Told, find_told};
+use review_places::places::unmarked;
+use review_text::fronts::put_source_line;
+use review_text::put_visible;
+use std::alloc::Global;
+use yaml_place::Place;
+use yaml_text::fault::Fault;
+
+/// Where a fault is and what is said of it.
+#[derive(Drop)]
+pub struct Spotted {
+    pub place: Option<Place>,
+    /// The path of the node that the fault is at.
+    pub path: Option<String>,
+    pub words: String,
+    /// The source line and the caret.
+    pub line: Option<String>,
+}
+
+/// The path, with escapes for the characters that a terminal would not show.
+fn path_of(alloc: Global, told: &Told) -> Result<Option<String>, Fault> {
+    let Some(path) = &told.path else {
+        return Ok(None);
+    };
+    let mut out = String::new(alloc);
+    put_visible(&mut out, path)?;
+    Ok(Some(out))
+}
+
+/// The source line of a place, if there is one.
+fn line_of(alloc: Global, text: &[u8], told: &Told) -> Result<Option<String>, Fault> {
+    if told.place.is_none() {
+        return Ok(None);
+    }
+    let mut out = String::new(alloc);
+    put_source_line(alloc, &mut out, text, told.at)?;
+    Ok(Some(out))
+}
+
+/// Where in a file a fault of it is, and what is said of it.
+pub fn spot_fault(alloc: Global, bytes: &[u8], fault: Fault) -> Result<Spotted, Fault>
+    ensures { IfOk result (λ spotted. IsSpotted bytes.now fault spotted.place) }
+{
+    let text = unmarked(bytes);
+    let told = find_told(alloc, bytes, text, fault)?;
+    Ok(Spotted {
+        place: told.place,
+        path: path_of(alloc, &told)?,
+        words: told.words(alloc, fault, text)?,
+        line: line_of(alloc, text, &told)?,
+    })
+}

@@ -1,0 +1,4 @@
+pub mod NodeLaws
+pub mod StepLaws
+pub mod WalkLaws
+pub mod StreamLaws

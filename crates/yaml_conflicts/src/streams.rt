@@ -1,0 +1,185 @@
+//! Where changes of a stream conflict, document by document.
+ghost use Rattle.std.specs.Prelude.{◌≡◌, IfOk, IfErr, true, false};
+ghost use Rattle.std.specs.List.{slice_get};
+ghost use Rattle.yaml_rank.specs.RanksView.{RanksAre};
+ghost use Rattle.yaml_merge.specs.Merge.{alike, follows, is_ruled, settled, one_shape, opens};
+ghost use Rattle.yaml_diff.specs.Found.{Within, AllWithin};
+ghost use Rattle.yaml_conflicts.specs.Found.{SidesWithin};
+ghost use Rattle.yaml_conflicts.specs.Streams.{stream, RootsWithin, DocumentsAre, FindsDocuments, FindsStreams};
+
+use crate::lists::{add, none};
+use crate::parts::item_in;
+use crate::rules::is_alike;
+use crate::sides::{Found, Room, Sides, Step};
+use crate::walk::conflicts;
+use std::alloc::Global;
+use yaml_graph::graph::Graph;
+use yaml_graph::node::NodeId;
+use yaml_rank::ranks::Ranks;
+use yaml_text::fault::Fault;
+
+/// The roots of the documents of the base, of ours, of theirs and of the merge. Where no merge is given, those of the base stand in its
+/// place.
+#[derive(Clone, Copy)]
+pub struct Roots<'r> {
+    pub base: &'r [NodeId],
+    pub ours: &'r [NodeId],
+    pub theirs: &'r [NodeId],
+    pub merge: &'r [NodeId],
+}
+
+/// What is found of streams.
+#[derive(Debug, Drop)]
+pub enum Outcome {
+    /// The paths in their documents. The first step of each leads to a document.
+    Documents(Found),
+    /// The streams themselves, which have not equally many documents.
+    Streams,
+}
+
+/// The document at this place, if there is one.
+fn document(graph: &Graph<'_>, roots: &[NodeId], place: usize) -> Option<NodeId>
+    requires within { AllWithin graph.now roots.now }
+    ensures is { result ≡ slice_get roots.now place }
+    ensures within { Within graph.now result }
+{
+    let _nodes = graph.len();
+    item_in(roots, place)
+}
+
+/// The documents at this place.
+fn documents(graph: &Graph<'_>, roots: &Roots<'_>, place: usize) -> Sides
+    requires within { RootsWithin graph.now roots.now }
+    ensures are { DocumentsAre roots.now place result }
+    ensures within { SidesWithin graph.now result }
+{
+    Sides {
+        base: document(graph, roots.base, place),
+        ours: document(graph, roots.ours, place),
+        theirs: document(graph, roots.theirs, place),
+        merge: document(graph, roots.merge, place),
+    }
+}
+
+/// Whether two streams have equally many documents.
+fn are_long(graph: &Graph<'_>, left: &[NodeId], right: &[NodeId]) -> bool
+    ensures { result ≡ one_shape (stream graph.now left.now) (stream graph.now right.now) }
+{
+    let _nodes = graph.len();
+    left.len() == right.len()
+}
+
+/// Whether two streams have equally many documents, pairwise the same.
+fn are_alike(graph: &Graph<'_>, ranks: &Ranks, left: &[NodeId], right: &[NodeId]) -> bool
+    requires left { AllWithin graph.now left.now }
+    requires right { AllWithin graph.now right.now }
+    requires ranked { RanksAre graph.now ranks.now }
+    ensures { result ≡ alike (stream graph.now left.now) (stream graph.now right.now) }
+{
+    if !are_long(graph, left, right) {
+        return false;
+    }
+    for place in 0..left.len() {
+        let first = document(graph, left, place);
+        let second = document(graph, right, place);
+        if !is_alike(graph, ranks, first, second) {
+            return false;
+        }
+    }
+    true
+}
+
+/// Whether one side is as the base, or both are alike.
+fn has_rule(graph: &Graph<'_>, ranks: &Ranks, roots: &Roots<'_>) -> bool
+    requires within { RootsWithin graph.now roots.now }
+    requires ranked { RanksAre graph.now ranks.now }
+    ensures { result ≡ is_ruled (stream graph.now roots.now.base.now) (stream graph.now roots.now.ours.now) (stream graph.now roots.now.theirs.now) }
+{
+    are_alike(graph, ranks, roots.ours, roots.base)
+        || (are_alike(graph, ranks, roots.theirs, roots.base)
+            || are_alike(graph, ranks, roots.ours, roots.theirs))
+}
+
+/// Whether the merge has what one of the rules says.
+fn is_followed(graph: &Graph<'_>, ranks: &Ranks, roots: &Roots<'_>) -> bool
+    requires within { RootsWithin graph.now roots.now }
+    requires ranked { RanksAre graph.now ranks.now }
+    ensures { result ≡ follows (stream graph.now roots.now.base.now) (stream graph.now roots.now.ours.now) (stream graph.now roots.now.theirs.now) (stream graph.now roots.now.merge.now) }
+{
+    let is_ours = are_alike(graph, ranks, roots.merge, roots.ours);
+    (are_alike(graph, ranks, roots.ours, roots.base)
+        && are_alike(graph, ranks, roots.merge, roots.theirs))
+        || ((are_alike(graph, ranks, roots.theirs, roots.base) && is_ours)
+            || (are_alike(graph, ranks, roots.ours, roots.theirs) && is_ours))
+}
+
+/// Whether nothing is left to ask: a merge that is given follows a rule, or one can.
+fn is_settled(graph: &Graph<'_>, ranks: &Ranks, roots: &Roots<'_>, given: bool) -> bool
+    requires within { RootsWithin graph.now roots.now }
+    requires ranked { RanksAre graph.now ranks.now }
+    ensures { result ≡ settled given (stream graph.now roots.now.base.now) (stream graph.now roots.now.ours.now) (stream graph.now roots.now.theirs.now) (stream graph.now roots.now.merge.now) }
+{
+    if given {
+        is_followed(graph, ranks, roots)
+    } else {
+        has_rule(graph, ranks, roots)
+    }
+}
+
+/// Whether all four have equally many documents.
+fn are_paired(graph: &Graph<'_>, roots: &Roots<'_>) -> bool
+    ensures { result ≡ opens (stream graph.now roots.now.base.now) (stream graph.now roots.now.ours.now) (stream graph.now roots.now.theirs.now) (stream graph.now roots.now.merge.now) }
+{
+    are_long(graph, roots.base, roots.ours)
+        && (are_long(graph, roots.base, roots.theirs) && are_long(graph, roots.base, roots.merge))
+}
+
+/// The places of the documents, one after another.
+fn of_documents(
+    alloc: Global,
+    graph: &Graph<'_>,
+    ranks: &Ranks,
+    roots: &Roots<'_>,
+    given: bool,
+    room: Room,
+) -> Result<Found, Fault>
+    requires within { RootsWithin graph.now roots.now }
+    requires ranked { RanksAre graph.now ranks.now }
+    requires free { settled given (stream graph.now roots.now.base.now) (stream graph.now roots.now.ours.now) (stream graph.now roots.now.theirs.now) (stream graph.now roots.now.merge.now) ≡ false }
+    requires paired { opens (stream graph.now roots.now.base.now) (stream graph.now roots.now.ours.now) (stream graph.now roots.now.theirs.now) (stream graph.now roots.now.merge.now) ≡ true }
+    ensures ok { IfOk result (FindsDocuments graph.now given roots.now) }
+    ensures err { IfErr result (λ fault. fault ≡ Fault.OutOfMemory) }
+{
+    let mut found = none(alloc, room, true);
+    for place in 0..roots.base.len() {
+        let sides = documents(graph, roots, place);
+        let more = conflicts(alloc, graph, ranks, sides, given, found.room)?;
+        add(&mut found, Step::Item(place), more)?;
+    }
+    Ok(found)
+}
+
+/// The paths of `conflicts` in streams. A stream is what a sequence of its documents would be: documents are taken by their places
+/// where all streams have equally many, and a stream is one value where they have not. The only error is want of memory (21).
+pub fn stream_conflicts(
+    alloc: Global,
+    graph: &Graph<'_>,
+    ranks: &Ranks,
+    roots: &Roots<'_>,
+    given: bool,
+    room: Room,
+) -> Result<Outcome, Fault>
+    requires within { RootsWithin graph.now roots.now }
+    requires ranked { RanksAre graph.now ranks.now }
+    ensures ok { IfOk result (FindsStreams graph.now given roots.now) }
+    ensures err { IfErr result (λ fault. fault ≡ Fault.OutOfMemory) }
+{
+    if is_settled(graph, ranks, roots, given) {
+        return Ok(Outcome::Documents(none(alloc, room, true)));
+    }
+    if !are_paired(graph, roots) {
+        return Ok(Outcome::Streams);
+    }
+    let found = of_documents(alloc, graph, ranks, roots, given, room)?;
+    Ok(Outcome::Documents(found))
+}

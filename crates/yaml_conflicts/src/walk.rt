@@ -1,0 +1,50 @@
+//! The paths at which two changes conflict, or a merge strays.
+ghost use Rattle.std.specs.Prelude.{◌≡◌, IfOk, IfErr, true};
+ghost use Rattle.yaml_rank.specs.RanksView.{RanksAre};
+ghost use Rattle.yaml_conflicts.specs.Found.{SidesWithin, Finds, Spends};
+
+use crate::lists::{add, none, one};
+use crate::parts::parts_at;
+use crate::rules::is_settled;
+use crate::shapes::is_open;
+use crate::sides::{Found, Room, Sides};
+use crate::steps::steps_of;
+use std::alloc::Global;
+use yaml_graph::graph::Graph;
+use yaml_rank::ranks::Ranks;
+use yaml_text::fault::Fault;
+
+/// The paths at which the merge that is given strays from the rules; or, if none is given, those at which the sides conflict. All of
+/// them, or as many as there is room for. The only error is want of memory (21).
+pub fn conflicts(
+    alloc: Global,
+    graph: &Graph<'_>,
+    ranks: &Ranks,
+    sides: Sides,
+    given: bool,
+    room: Room,
+) -> Result<Found, Fault>
+    requires within { SidesWithin graph.now sides }
+    requires ranked { RanksAre graph.now ranks.now }
+    ensures ok { IfOk result (Finds graph.now given sides) }
+    ensures room { IfOk result (Spends room) }
+    ensures err { IfErr result (λ fault. fault ≡ Fault.OutOfMemory) }
+{
+    if is_settled(graph, ranks, sides, given) {
+        return Ok(none(alloc, room, true));
+    }
+    if room.is_spent() {
+        return Ok(none(alloc, room, false));
+    }
+    if !is_open(graph, sides) {
+        return one(alloc, sides, room.without_line());
+    }
+    let mut found = none(alloc, room.without_place(), true);
+    let steps = steps_of(alloc, graph, ranks, sides)?;
+    for step in &steps {
+        let parts = parts_at(graph, ranks, sides, *step);
+        let more = conflicts(alloc, graph, ranks, parts, given, found.room)?;
+        add(&mut found, *step, more)?;
+    }
+    Ok(found)
+}

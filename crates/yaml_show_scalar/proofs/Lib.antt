@@ -1,0 +1,5 @@
+pub mod EscapeLaws
+pub mod NumberLaws
+pub mod ScalarLaws
+pub mod TagLaws
+pub mod TextLaws

@@ -1,0 +1,10 @@
+use Rattle.std.proofs.Common.{length}
+use Rattle.yaml_show_scalar.specs.Texts.{written}
+use Rattle.yaml_show_scalar.proofs.TextLaws.{IsLiteral}
+use Rattle.yaml_show_scalar.proofs.lines.put_literal_lines.Given as goal
+
+abbrev pub invariant-lines : goal.invariant-lines
+invariant-lines l = IsLiteral l.level l.body l.rest (written l.initial.out) (written l.out)
+
+abbrev pub decreases-lines : goal.decreases-lines
+decreases-lines l = length l.rest

@@ -1,0 +1,6 @@
+pub mod Texts
+pub mod Escapes
+pub mod Plain
+pub mod Numbers
+pub mod Tags
+pub mod Scalars

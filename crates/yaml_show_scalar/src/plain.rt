@@ -1,0 +1,129 @@
+//! Which strings are written without quotes: those that readers of YAML 1.1 and of 1.2 take for the same string.
+ghost use Rattle.std.specs.Prelude.{◌≡◌, ◌==◌, not};
+ghost use Rattle.std.specs.List.{list_all};
+ghost use Rattle.std.specs.Str.{chars};
+ghost use Rattle.yaml_show_scalar.specs.Escapes.{is_unseen};
+ghost use Rattle.yaml_show_scalar.specs.Texts.{has_pair};
+ghost use Rattle.yaml_show_scalar.specs.Plain.{is_letter, begins_plainly, is_core_word, is_old_word, is_dotted, is_plain_inside, is_plain};
+
+use crate::chars::is_unseen;
+use crate::texts::{byte_at, ends_in};
+
+/// Whether a byte is a letter of ASCII.
+#[tactic(auto, unfolding(crate::specs::Plain::is_letter))]
+fn is_letter(byte: u8) -> bool
+    ensures { result ≡ is_letter byte }
+{
+    matches!(byte, b'A'..=b'Z' | b'a'..=b'z')
+}
+
+/// Whether a text begins as a plain string does.
+#[tactic(auto, unfolding(crate::specs::Plain::begins_plainly))]
+fn begins_plainly(text: &str) -> bool
+    ensures { result ≡ begins_plainly text.now }
+{
+    let first = byte_at(text, 0);
+    let second = byte_at(text, 1);
+    if first == b'.' {
+        return is_letter(second) || second == b'/' || second == b'.';
+    }
+    if first == b'-' {
+        return is_letter(second) || (second == b'-' && is_letter(byte_at(text, 2)));
+    }
+    is_letter(first) || first == b'_' || first == b'/' || first == b'$' || first >= 128
+}
+
+/// Whether a text is null or a Boolean in YAML 1.2.
+fn is_core_word(text: &str) -> bool
+    ensures { result ≡ is_core_word text.now }
+{
+    matches!(
+        text,
+        "null" | "Null" | "NULL" | "true" | "True" | "TRUE" | "false" | "False" | "FALSE"
+    )
+}
+
+/// Whether a text is another Boolean of YAML 1.1.
+fn is_old_word(text: &str) -> bool
+    ensures { result ≡ is_old_word text.now }
+{
+    matches!(
+        text,
+        "yes"
+            | "Yes"
+            | "YES"
+            | "no"
+            | "No"
+            | "NO"
+            | "on"
+            | "On"
+            | "ON"
+            | "off"
+            | "Off"
+            | "OFF"
+            | "y"
+            | "Y"
+            | "n"
+            | "N"
+    )
+}
+
+/// Whether a text is nothing but dots.
+fn is_dots(text: &str) -> bool
+    ensures { result ≡ list_all (λ b. b == 46) text.now }
+{
+    text.as_bytes().iter().all(|byte| *byte == b'.')
+}
+
+/// Whether a text is a float in words, or nothing but dots, which the pattern of YAML 1.1 takes for a float.
+#[tactic(auto, unfolding(crate::specs::Plain::is_dotted))]
+fn is_dotted(text: &str) -> bool
+    ensures { result ≡ is_dotted text.now }
+{
+    text.eq_ignore_ascii_case(".inf") || text.eq_ignore_ascii_case(".nan") || is_dots(text)
+}
+
+/// Whether no character of a text is unseen.
+fn is_all_seen(text: &str) -> bool
+    ensures { result ≡ list_all (λ c. not (is_unseen c)) (chars text.now) }
+{
+    text.chars().all(|c| !is_unseen(c))
+}
+
+/// Whether a text has a colon before a space.
+fn has_colon(text: &str) -> bool
+    ensures { result ≡ has_pair 58 32 text.now }
+{
+    text.contains(": ")
+}
+
+/// Whether a text has a space before `#`.
+fn has_comment(text: &str) -> bool
+    ensures { result ≡ has_pair 32 35 text.now }
+{
+    text.contains(" #")
+}
+
+/// Whether a text has no unseen character and nothing that would end a plain scalar.
+#[tactic(auto, unfolding(crate::specs::Plain::is_plain_inside))]
+fn is_plain_inside(text: &str) -> bool
+    ensures { result ≡ is_plain_inside text.now }
+{
+    !has_colon(text)
+        && !has_comment(text)
+        && !ends_in(text, ' ')
+        && !ends_in(text, ':')
+        && is_all_seen(text)
+}
+
+/// Whether a string is written without quotes.
+#[tactic(auto, unfolding(crate::specs::Plain::is_plain))]
+pub fn is_plain(text: &str) -> bool
+    ensures { result ≡ is_plain text.now }
+{
+    begins_plainly(text)
+        && !is_core_word(text)
+        && !is_old_word(text)
+        && !is_dotted(text)
+        && is_plain_inside(text)
+}

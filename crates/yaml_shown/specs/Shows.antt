@@ -1,0 +1,31 @@
+-- What is shown of a stream.
+use Rattle.std.specs.Prelude.{◌≡◌, ◌⊎◌, ℕ, List, map}
+use Rattle.yaml_definitions.specs.model.Tree.{Tree}
+use Rattle.yaml_definitions.specs.model.Order.{arranged}
+use Rattle.yaml_definitions.specs.model.Same.{Alike}
+use Rattle.yaml_definitions.specs.canonical.Spell.{spell_bytes}
+use Rattle.yaml_canon.specs.Claims.{MeansAlone}
+use Rattle.yaml_show.specs.Layout.{shown_text}
+use Rattle.yaml_shown.specs.Alike.{MeanAlike}
+
+-- the readable text of documents
+abbrev pub readable : List Tree → List ℕ
+readable f = shown_text (map arranged f)
+
+-- The readable text is a stream that means the same documents.
+abbrev pub ReadsBack : List Tree → Type 0
+ReadsBack f = (g : List Tree) × MeansAlone (readable f) g × Alike f g
+
+-- the readable text of these documents, where it means the same, else their canonical text
+abbrev pub IsShownText : List Tree → List ℕ → Type 0
+IsShownText f text = (ReadsBack f × (text ≡ readable f)) ⊎ ((¬ (ReadsBack f)) × (text ≡ spell_bytes f))
+
+-- The bytes mean these documents alone, and the text is what is shown of them.
+pub record Shows (bytes text : List ℕ) : Type 0 where
+  pub forest : List Tree
+  pub means : MeansAlone bytes forest
+  pub shown : IsShownText forest text
+
+-- Streams that mean the same are shown as the same bytes.
+abbrev pub SameIsShownAlike : Type 0
+SameIsShownAlike = (left right text other : List ℕ) → MeanAlike left right → Shows left text → Shows right other → text ≡ other
