@@ -4,9 +4,9 @@ use Rattle.std.specs.Prelude.{Some, None}
 use Rattle.std.specs.List.{slice_get}
 use Rattle.std.proofs.lemmas.Bool.{eqb-true, eq-eqb}
 use Rattle.std.proofs.lemmas.List.{take_more, take_all, length-set, length-take-le}
-use Rattle.std.proofs.lemmas.Option.{slice_get_within, slice_get-get_or, get_or_from_slice_get}
+use Rattle.std.proofs.lemmas.Option.{slice_get-get_or, get_or_from_slice_get}
 use Rattle.yaml_diff.specs.declared.difference.Difference.{Difference}
-use Rattle.review_folds.specs.Folds.{OfSameNodes, OfSameAt, TellsFor, Tellers, times, Counted, Filled, Folds}
+use Rattle.review_folds.specs.Folds.{OfSameAt, TellsFor, times, Counted, Filled}
 
 some-is : {X : Type 0} {x y : X} → Some x ≡ Some y → x ≡ y
 some-is e = cc
