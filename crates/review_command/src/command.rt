@@ -4,7 +4,6 @@ ghost use Rattle.review_command.specs.Rejections.{no_diff_status};
 ghost use Rattle.review_command.specs.Runs.{AsksSum, SumRuns, Does};
 
 use crate::diff::{NoDiff, diff, diff_page};
-use crate::folder_page::folder_page;
 use crate::folders::folders;
 use crate::git::{git_asked, git_text, put_page};
 use crate::host::Host;
@@ -242,14 +241,6 @@ pub fn command<
                 return folders(rt, alloc, &asked, &ignored, &mut out, &mut err);
             }
             let asked = Asked::Diff(asked, ignored);
-            run(&Host::new(rt), alloc, asked, input, out, err)
-        }
-        Ok(Asked::DiffPage(page, asked, ignored)) => {
-            if are_folders(rt, &asked) {
-                let told = (&asked, page);
-                return folder_page(rt, alloc, told, &ignored, &mut out, &mut err);
-            }
-            let asked = Asked::DiffPage(page, asked, ignored);
             run(&Host::new(rt), alloc, asked, input, out, err)
         }
         Ok(asked) => run(&Host::new(rt), alloc, asked, input, out, err),

@@ -109,7 +109,7 @@ fn one_told<T: Files>(
 }
 
 /// What is asked of two folders, for two files.
-pub(crate) fn with_names<'n, 'a: 'n>(asked: &Diff<'a>, left: &'n str, right: &'n str) -> Diff<'n> {
+pub(crate) fn with_names<'n>(asked: &Diff<'n>, left: &'n str, right: &'n str) -> Diff<'n> {
     Diff {
         left,
         right,

@@ -4,7 +4,6 @@
 pub mod arguments;
 pub mod command;
 pub mod diff;
-mod folder_page;
 mod folders;
 mod git;
 mod git_show;
