@@ -49,7 +49,7 @@ struct Row {
     help: &'static str,
 }
 
-const DIFF: [Row; 13] = [
+const DIFF: [Row; 14] = [
     Row {
         id: "A",
         takes: Takes::File,
@@ -99,6 +99,11 @@ const DIFF: [Row; 13] = [
         id: "by",
         takes: Takes::Keys,
         help: "Pair items first by the values of these keys, parted by commas: `host,spec.id`; repeatable",
+    },
+    Row {
+        id: "no-fold",
+        takes: Takes::Flag,
+        help: "Print a line for each place at which aliases show one change",
     },
     Row {
         id: "color",

@@ -60,6 +60,8 @@ pub struct Diff<'a> {
     pub by_position: bool,
     /// Keys whose values name items, before other names, each text with some of them: `spec.id,host`.
     pub by: &'a [&'a str],
+    /// Whether one line tells all differences of one node for which aliases stand.
+    pub folds: bool,
     pub ghost few: { context ≤ 1000 },
 }
 
@@ -232,6 +234,11 @@ fn warn_of<'a>(alloc: Global, matches: &ArgMatches<'a>) -> Result<Warn<'a>, Allo
     })
 }
 
+/// Whether one line tells several differences: in lines of text, unless it is asked otherwise.
+fn folds_of(matches: &ArgMatches<'_>) -> bool {
+    matches.get_str("format") == Some("line") && !matches.get_flag("no-fold")
+}
+
 fn diff_of<'a>(matches: &ArgMatches<'a>, by: &'a [&'a str], is_terminal: bool) -> Diff<'a> {
     Diff {
         left: matches.get_str("A").unwrap_or("-"),
@@ -245,6 +252,7 @@ fn diff_of<'a>(matches: &ArgMatches<'a>, by: &'a [&'a str], is_terminal: bool) -
         stat: matches.get_flag("stat"),
         by_position: matches.get_flag("by-position"),
         by,
+        folds: folds_of(matches),
     }
 }
 

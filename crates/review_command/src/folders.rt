@@ -122,6 +122,7 @@ pub(crate) fn with_names<'n>(asked: &Diff<'n>, left: &'n str, right: &'n str) ->
         stat: asked.stat,
         by_position: asked.by_position,
         by: asked.by,
+        folds: asked.folds,
     }
 }
 

@@ -252,6 +252,7 @@ fn lines_of<'n>(left: &'n str, right: &'n str) -> Diff<'n> {
         stat: false,
         by_position: false,
         by: &[],
+        folds: true,
     }
 }
 

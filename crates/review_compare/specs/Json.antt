@@ -15,6 +15,7 @@ pub record AsksJson (lines : ℕ) (asked : Diff) : Type 0 where
   pub each : asked.stat ≡ false
   pub by_rules : asked.by_position ≡ false
   pub no_keys : asked.by.now ≡ []
+  pub unfolded : asked.folds ≡ false
 
 -- The text is the lines of JSON of the differences of two streams of these bytes, of at most so many; and whether there are none.
 pub record JsonLines (left right : List ℕ) (lines : ℕ) (none : Bool) (text : List ℕ) : Type 0 where

@@ -79,6 +79,11 @@ pub(crate) fn forests_of<'l>(
     }
 }
 
+/// Whether a comparison looks for the places of nodes: to tell them, or to find those that have one cause.
+pub(crate) fn is_traced(asked: &Diff<'_>) -> bool {
+    asked.places || asked.folds
+}
+
 /// Two streams with their traces, of which one has the events of both, so many of the left one.
 pub(crate) fn traced_both<'t>(
     left: &'t [u8],
@@ -114,7 +119,7 @@ pub fn compare_sides(
     ensures same { IfOk result (λ told. ignored.now ≡ [] → Compares left.now right.now told.same) }
     ensures lines { IfOk result (λ told. DiffLines left.now right.now asked.now ignored.now told.same (string_bytes told.text)) }
 {
-    let (forests, trace) = forests_of(alloc, left, right, asked.places)?;
+    let (forests, trace) = forests_of(alloc, left, right, is_traced(asked))?;
     let both = merged(alloc, &forests)?;
     match compare(
         alloc,

@@ -32,6 +32,7 @@ fn asked_json(lines: usize) -> Diff<'static>
         stat: false,
         by_position: false,
         by: &[],
+        folds: false,
     }
 }
 

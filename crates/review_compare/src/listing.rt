@@ -3,7 +3,7 @@ ghost use Rattle.std.specs.Prelude.{◌≡◌, [], IfOk};
 ghost use Rattle.yaml_canon.specs.Comparing.{Compares};
 ghost use Rattle.review_compare.specs.Compared.{DiffLists};
 
-use crate::both::{forests_of, merged, traced_both};
+use crate::both::{forests_of, is_traced, merged, traced_both};
 use review_args::Diff;
 use review_lines::{Listed, list_differences};
 use review_patterns::Pattern;
@@ -23,7 +23,7 @@ pub fn list_sides(
     ensures same { IfOk result (λ told. ignored.now ≡ [] → Compares left.now right.now told.same) }
     ensures lists { IfOk result (DiffLists left.now right.now asked.now ignored.now) }
 {
-    let (forests, trace) = forests_of(alloc, left, right, asked.places)?;
+    let (forests, trace) = forests_of(alloc, left, right, is_traced(asked))?;
     let both = merged(alloc, &forests)?;
     let sides = traced_both(left, right, &trace);
     match list_differences(alloc, &both, asked, ignored, sides) {

@@ -1,17 +1,23 @@
 -- The lines of the differences that were found.
-use Rattle.std.proofs.Common.{◌≡◌, ℕ, zero, suc, ◌+◌, ◌<◌, ◌≤◌, true, false, cond, List, [], ◌∷◌, ◌++◌, length, take, drop, get_or, refl, sym, ◌∙◌, ap, subst, add-one, drop-cons}
+use Rattle.std.proofs.Common.{◌≡◌, ℕ, zero, suc, ◌+◌, ◌<◌, ◌≤◌, ◌==◌, ◌&&◌, Bool, true, false, cond, List, [], ◌∷◌, ◌++◌, length, map, take, drop, get_or, refl, sym, ◌∙◌, ap, subst, add-one, drop-cons}
 use Rattle.std.proofs.Math.ListN.{drop_of_length-le}
-use Rattle.std.proofs.lemmas.List.{append_assoc, append-nil}
+use Rattle.std.proofs.lemmas.List.{append_assoc, append-nil, map-append}
 use Rattle.yaml_diff.specs.declared.difference.Difference.{Difference}
 use Rattle.review_args.specs.declared.words.Diff.{Diff}
 use Rattle.review_text.specs.declared.both.Both.{Both}
 use Rattle.review_lines.specs.Lines.{line_text, lines_text, more_text}
 use Rattle.review_lines.specs.declared.lines.Line.{Line}
 use Rattle.yaml_diff.specs.declared.difference.Found.{Found}
+use Rattle.yaml_diff.specs.declared.difference.Move.{Move}
+use Rattle.yaml_diff.specs.Lines.{line_of}
+use Rattle.yaml_diff.specs.Moves.{moved_line, move_line_of}
+use Rattle.review_lines.specs.Listed.{ListsFound}
+use Rattle.review_lines.specs.declared.listed.Listed.{Listed}
 use Rattle.std.proofs.lemmas.List.{take_more, take_all}
 use Rattle.yaml_graph.specs.declared.graph.Graph.{Graph}
 use Rattle.review_patterns.specs.declared.pattern.Pattern.{Pattern}
 use Rattle.review_ignore.specs.Ignored.{Keeps}
+use Rattle.review_folds.specs.Folds.{Folds}
 use Rattle.review_lines.specs.Compared.{TellsOne, TellsEach, TellsMoves, TellsFound, TellsAsked}
 
 -- one difference and its line more
@@ -28,6 +34,38 @@ tells_next both asked ds ls new i d e l m q h k p =
 pub tells_whole : (both : Both) (asked : Diff) (ds : List Difference) (ls : List Line) (i : ℕ) → length ds ≤ i → TellsEach both asked (take i ds) ls → TellsEach both asked ds ls
 tells_whole both asked ds ls i m h = subst (λ z. TellsEach both asked z ls) (take_all i ds m) h
 
+-- and what each line tells
+pub counts_next : (ns : List ℕ) (ls new : List Line) (i d n : ℕ) (l : Line) → i < length ns → n ≡ get_or ns i d → map (λ m. m.count) ls ≡ take i ns → l.count ≡ n → new ≡ ls ++ (l ∷ []) → map (λ m. m.count) new ≡ take (i + 1) ns
+counts_next ns ls new i d n l m q h k p =
+    ap (map (λ m. m.count)) p ∙ map-append (λ m. m.count) ls (l ∷ []) ∙ ap (λ z. z ++ (l.count ∷ [])) h ∙ ap (λ z. take i ns ++ (z ∷ [])) (k ∙ q) ∙ sym (take_more ns i d m)
+
+pub counts_whole : (ns : List ℕ) (ls : List Line) (i : ℕ) → length ns ≤ i → map (λ m. m.count) ls ≡ take i ns → map (λ m. m.count) ls ≡ ns
+counts_whole ns ls i m h = h ∙ take_all i ns m
+
+pub folds_told : (folds : Bool) (ds : List Difference) (ns seen counts : List ℕ) → ns ≡ seen → seen ≡ counts → Folds folds ds counts → Folds folds ds ns
+folds_told folds ds ns seen counts e f h = subst (Folds folds ds) (sym (e ∙ f)) h
+
+-- the lines of moves, of which a list is seen
+pub moves_told : (both : Both) (asked : Diff) (f : Found) (list seen : List Difference) (moves : List Move) (ls : List Line) → map line_of list ≡ map moved_line (map move_line_of moves) → moves ≡ f.moves.items → seen ≡ list
+    → TellsEach both asked seen ls → Folds false seen (map (λ l. l.count) ls) → TellsMoves both asked f ls
+moves_told both asked f list seen moves ls e m s h k = record {
+  moves = list;
+  are = e ∙ ap (λ z. map moved_line (map move_line_of z)) m;
+  each = subst (λ z. TellsEach both asked z ls) s h;
+  alone = subst (λ z. Folds false z (map (λ l. l.count) ls)) s k;
+}
+
+-- the lines of a list
+pub found_listed : (both : Both) (asked : Diff) (f : Found) (listed : Listed) (seen : List Difference) → seen ≡ f.list.items → TellsEach both asked seen listed.lines.items → Folds false seen (map (λ l. l.count) listed.lines.items)
+    → TellsMoves both asked f listed.moves.items → listed.whole ≡ f.whole → listed.same ≡ ((f.whole && (length f.list.items == 0)) && (length f.moves.items == 0)) → ListsFound both asked f listed
+found_listed both asked f listed seen s h k m w n = record {
+  each = subst (λ z. TellsEach both asked z listed.lines.items) s h;
+  alone = subst (λ z. Folds false z (map (λ l. l.count) listed.lines.items)) s k;
+  moves = m;
+  whole = w;
+  is_none = n;
+}
+
 drop_next : {X : Type 0} (xs : List X) (i : ℕ) (d : X) → i < length xs → drop i xs ≡ get_or xs i d ∷ drop (i + 1) xs
 drop_next xs i d l = rw add-one (drop-cons xs i d l)
 
@@ -40,7 +78,7 @@ lines_next f ls i d o a whole l h e =
 pub lines_all : (f : Diff) (ls : List Line) (i : ℕ) (o whole : List ℕ) → length ls ≤ i → o ++ lines_text f (drop i ls) ≡ whole → o ≡ whole
 lines_all f ls i o whole l h = sym (append-nil o) ∙ ap (λ z. o ++ lines_text f z) (sym (drop_of_length-le ls l)) ∙ h
 
-module _ (both : Both) (asked : Diff) (f : Found) (ls ms : List Line) (o a c : List ℕ) (each : TellsEach both asked f.list.items ls) (moves : TellsMoves both asked f ms) (empty : o ≡ []) (put : a ≡ o ++ lines_text asked ls) (more : c ≡ a ++ lines_text asked ms) where
+module _ (both : Both) (asked : Diff) (f : Found) (ls ms : List Line) (o a c : List ℕ) (each : TellsEach both asked f.list.items ls) (folds : Folds asked.folds f.list.items (map (λ l. l.count) ls)) (moves : TellsMoves both asked f ms) (empty : o ≡ []) (put : a ≡ o ++ lines_text asked ls) (more : c ≡ a ++ lines_text asked ms) where
   all_put : c ≡ lines_text asked ls ++ lines_text asked ms
   all_put = more ∙ ap (λ z. z ++ lines_text asked ms) (put ∙ ap (λ z. z ++ lines_text asked ls) empty)
 
@@ -49,6 +87,7 @@ module _ (both : Both) (asked : Diff) (f : Found) (ls ms : List Line) (o a c : L
   found_whole w = record {
     lines = ls;
     each = each;
+    folds = folds;
     move_lines = ms;
     moves = moves;
     is = all_put ∙ sym (append-nil (lines_text asked ls ++ lines_text asked ms)) ∙ ap (λ z. (lines_text asked ls ++ lines_text asked ms) ++ cond z [] (more_text asked.form)) (sym w);
@@ -59,6 +98,7 @@ module _ (both : Both) (asked : Diff) (f : Found) (ls ms : List Line) (o a c : L
   found_cut b w h = record {
     lines = ls;
     each = each;
+    folds = folds;
     move_lines = ms;
     moves = moves;
     is = h ∙ ap (λ z. z ++ more_text asked.form) all_put ∙ ap (λ z. (lines_text asked ls ++ lines_text asked ms) ++ cond z [] (more_text asked.form)) (sym w);

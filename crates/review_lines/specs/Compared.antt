@@ -16,6 +16,7 @@ use Rattle.yaml_script.specs.declared.script.Edit.{Edit}
 use Rattle.review_args.specs.declared.words.Diff.{Diff}
 use Rattle.review_patterns.specs.declared.pattern.Pattern.{Pattern}
 use Rattle.review_ignore.specs.Ignored.{Keeps}
+use Rattle.review_folds.specs.Folds.{Folds}
 use Rattle.review_text.specs.Shown.{front, shown}
 use Rattle.review_text.specs.NodeText.{text_of}
 use Rattle.review_text.specs.PathText.{path_text}
@@ -123,11 +124,13 @@ pub record TellsMoves (both : Both) (asked : Diff) (f : Found) (lines : List Lin
   pub moves : List Difference
   pub are : map line_of moves ≡ map moved_line (moves_of f)
   pub each : TellsEach both asked moves lines
+  pub alone : Folds false moves (map (λ l. l.count) lines)
 
--- The text is the lines of the differences that were found, and behind them those of the moves, and tells if there are more.
+-- The text is the lines of the differences that were found, and behind them those of the moves, and tells if there are more. Each difference has a line; one that is told by another line of the same nodes, if that is asked for, has one without a text.
 pub record TellsFound (both : Both) (asked : Diff) (f : Found) (text : List ℕ) : Type 0 where
   pub lines : List Line
   pub each : TellsEach both asked f.list.items lines
+  pub folds : Folds asked.folds f.list.items (map (λ l. l.count) lines)
   pub move_lines : List Line
   pub moves : TellsMoves both asked f move_lines
   pub is : text ≡ (lines_text asked lines ++ lines_text asked move_lines) ++ cond f.whole [] (more_text asked.form)

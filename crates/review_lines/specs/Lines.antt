@@ -1,5 +1,5 @@
 -- The lines of a comparison.
-use Rattle.std.specs.Prelude.{ℕ, Bool, cond, List, [], ◌∷◌, ◌++◌, Option, Some, None, option_map, unwrap_or, String, codes, string_bytes}
+use Rattle.std.specs.Prelude.{ℕ, zero, suc, Bool, cond, List, [], ◌∷◌, ◌++◌, Option, Some, None, option_map, unwrap_or, String, codes, string_bytes}
 use Rattle.std.specs.declared.alloc.Global.{Global}
 use Rattle.std.specs.Fmt.{decimal}
 use Rattle.serde_json.specs.Data.{Data, string, object, member, no_members}
@@ -64,6 +64,16 @@ columns places color l =
     cond color (color_text l) [] ++ (sign l ++ (column (visible (string_bytes l.path)) ++ (values l.changes l
     ++ (places_text places l ++ (cond color plain_text [] ++ (codes "\n" ++ below l.changes))))))
 
+-- how many other differences a line tells, on a line of its own behind a tab, if there are some
+abbrev pub others_text : ℕ → List ℕ
+others_text zero = []
+others_text (suc n) = codes "\t(and " ++ (decimal (suc n) ++ codes " more through aliases)\n")
+
+-- a line that tells so many differences: nothing where another line tells its own
+abbrev pub told_text : ℕ → List ℕ → List ℕ
+told_text zero text = []
+told_text (suc n) text = text ++ others_text n
+
 -- ---- JSON
 
 abbrev pub kind : Line → List ℕ
@@ -78,7 +88,7 @@ line_data l =
 -- ---- a line in each form
 
 abbrev pub form_text : Form → Bool → Bool → Line → List ℕ
-form_text form.Line places color l = columns places color l
+form_text form.Line places color l = told_text l.count (columns places color l)
 form_text form.Json places color l = compact_text (line_data l) ++ codes "\n"
 
 abbrev pub line_text : Diff → Line → List ℕ

@@ -4,18 +4,18 @@ ghost use Rattle.yaml_definitions.specs.model.Same.{Alike};
 ghost use Rattle.yaml_graph.specs.GraphView.{roots_of, tree};
 ghost use Rattle.yaml_rank.specs.RanksView.{RanksAre};
 ghost use Rattle.yaml_diff.specs.Found.{FindsItems};
+ghost use Rattle.review_folds.specs.Folds.{Folds};
 ghost use Rattle.review_lines.specs.Lines.{lines_text};
 ghost use Rattle.review_lines.specs.Compared.{room_of, room_for, search_room, is_numbered, ShowsNode, ShowsBoth, TellsOne, TellsEach, TellsMoves, TellsFound, TellsAsked, TellsStreams};
 
 use crate::lines::{Line, put_more};
+use crate::nodes::{Places, find_places, place_at};
 use crate::stat::stat_text;
 use crate::strings::{Budget, changed_lines, differing_parts};
 use review_args::Diff;
+use review_folds::counts;
 use review_ignore::kept;
 use review_patterns::Pattern;
-use review_places::finder::{Finder, Hand, Stream};
-use review_places::layout::lay_out_from;
-use review_places::places::{places, unmarked};
 use review_places::trace::Traced;
 use review_text::both::Both;
 use review_text::path::path_text;
@@ -142,13 +142,6 @@ fn shown_both(
     }
 }
 
-/// The places of the nodes of each difference, where they are told.
-#[derive(Drop)]
-pub(crate) struct Places {
-    left: Vec<Option<Place>>,
-    right: Vec<Option<Place>>,
-}
-
 /// Whether paths tell the number of the document: unless each side has one document.
 fn is_numbered(both: &Both<'_>) -> bool
     ensures { result ≡ is_numbered both.now }
@@ -156,7 +149,7 @@ fn is_numbered(both: &Both<'_>) -> bool
     !(both.documents == 1 && both.graph.roots().len() == 2)
 }
 
-/// The line of a difference, with these places of its nodes.
+/// The line of a difference, with these places of its nodes, which tells so many differences.
 #[tactic(auto, using(crate::proofs::StringLaws::one_told))]
 fn line_of(
     alloc: Global,
@@ -164,10 +157,12 @@ fn line_of(
     difference: &Difference,
     asked: &Diff<'_>,
     places: (Option<Place>, Option<Place>),
+    count: usize,
     budget: &mut Budget,
 ) -> Result<Line, Fault>
     requires ranked { RanksAre both.now.graph both.now.ranks }
-    ensures { IfOk result (TellsOne both.now asked.now difference.now) }
+    ensures one { IfOk result (TellsOne both.now asked.now difference.now) }
+    ensures count { IfOk result (λ line. line.count ≡ count) }
 {
     let path = path_text(alloc, both, &difference.path, is_numbered(both))?;
     let nodes = shown_both(alloc, both, difference, room_of(asked.whole), budget)?;
@@ -179,27 +174,23 @@ fn line_of(
         left_place: places.0,
         right_place: places.1,
         changes: lines,
+        count,
     })
 }
 
-/// The place at a number, if one is told.
-fn place_at(places: &[Option<Place>], number: usize) -> Option<Place> {
-    match places.get(number) {
-        Some(place) => *place,
-        None => None,
-    }
-}
-
-/// The lines of differences.
-pub(crate) fn lines_of(
+/// The lines of differences, each of which tells so many of them.
+fn lines_with(
     alloc: Global,
     both: &Both<'_>,
     list: &[Difference],
     asked: &Diff<'_>,
     places: &Places,
+    counts: &[usize],
 ) -> Result<Vec<Line>, Fault>
     requires ranked { RanksAre both.now.graph both.now.ranks }
-    ensures { IfOk result (λ lines. TellsEach both.now asked.now list.now lines.items) }
+    requires level { length counts.now ≡ length list.now }
+    ensures each { IfOk result (λ lines. TellsEach both.now asked.now list.now lines.items) }
+    ensures counts { IfOk result (λ lines. map (λ line. line.count) lines.items ≡ counts.now) }
 {
     let mut lines = Vec::new(alloc);
     let mut budget = Budget::new();
@@ -208,89 +199,29 @@ pub(crate) fn lines_of(
             place_at(&places.left, number),
             place_at(&places.right, number),
         );
-        lines.push(line_of(alloc, both, difference, asked, at, &mut budget)?)?;
+        let count = counts[number];
+        lines.push(line_of(alloc, both, difference, asked, at, count, &mut budget)?)?;
     }
     Ok(lines)
 }
 
-/// One of two streams.
-fn stream_of<'g>(both: &'g Both<'_>, hand: Hand) -> Stream<'g> {
-    let (lefts, rights) = both.sides();
-    match hand {
-        Hand::Left => Stream { hand, roots: lefts },
-        Hand::Right => Stream {
-            hand,
-            roots: rights,
-        },
-    }
-}
-
-/// Whether there is a node on this side: of a difference, or of a pair of items that moved, which is told with no nodes.
-fn has_node(difference: &Difference, hand: Hand) -> bool {
-    match hand {
-        Hand::Left => difference.left.is_some() || difference.right.is_none(),
-        Hand::Right => difference.right.is_some() || difference.left.is_none(),
-    }
-}
-
-/// The places of one side's nodes, each with the number of its line, which rise.
-fn side_places(
+/// The lines of differences: of those of the same cause one tells all, if that is asked for.
+#[tactic(auto, using(crate::proofs::CompareLaws::folds_told))]
+pub(crate) fn lines_of(
     alloc: Global,
     both: &Both<'_>,
     list: &[Difference],
-    hand: Hand,
-    side: Traced<'_>,
-) -> Result<Vec<(usize, Place)>, Fault> {
-    let layout = lay_out_from(alloc, side.trace, side.first, side.end)?;
-    let mut finder = Finder::new(alloc, both, stream_of(both, hand), layout);
-    let mut offsets = Vec::new(alloc);
-    for (number, difference) in list.iter().enumerate() {
-        if !has_node(difference, hand) {
-            continue;
-        }
-        if let Some(offset) = finder.offset(alloc, &difference.path)? {
-            offsets.push((offset, number))?;
-        }
-    }
-    places(alloc, unmarked(side.bytes), offsets)
-}
-
-/// The places of one side by the numbers of their lines, of which there are so many.
-fn spread(
-    alloc: Global,
-    places: &[(usize, Place)],
-    len: usize,
-) -> Result<Vec<Option<Place>>, Fault> {
-    let mut list = vec![in alloc; None; len]?;
-    for (number, place) in places {
-        if let Some(slot) = list.get_mut(*number) {
-            *slot = Some(*place);
-        }
-    }
-    Ok(list)
-}
-
-/// The places of both sides' nodes; none where they are not asked for.
-pub(crate) fn find_places(
-    alloc: Global,
-    both: &Both<'_>,
-    list: &[Difference],
-    sides: Option<(Traced<'_>, Traced<'_>)>,
-) -> Result<Places, Fault> {
-    match sides {
-        Some((left, right)) => {
-            let lefts = side_places(alloc, both, list, Hand::Left, left)?;
-            let rights = side_places(alloc, both, list, Hand::Right, right)?;
-            Ok(Places {
-                left: spread(alloc, &lefts, list.len())?,
-                right: spread(alloc, &rights, list.len())?,
-            })
-        }
-        None => Ok(Places {
-            left: Vec::new(alloc),
-            right: Vec::new(alloc),
-        }),
-    }
+    asked: &Diff<'_>,
+    folds: bool,
+    places: &Places,
+) -> Result<Vec<Line>, Fault>
+    requires ranked { RanksAre both.now.graph both.now.ranks }
+    ensures each { IfOk result (λ lines. TellsEach both.now asked.now list.now lines.items) }
+    ensures folds { IfOk result (λ lines. Folds folds list.now (map (λ line. line.count) lines.items)) }
+{
+    let counts = counts(alloc, folds, list, &places.causes)?;
+    let lines = lines_with(alloc, both, list, asked, places, &counts)?;
+    Ok(lines)
 }
 
 /// Lines as text.
@@ -311,6 +242,7 @@ fn room_of(whole: bool) -> usize
 }
 
 /// The lines of pairs of items that moved.
+#[tactic(auto, using(crate::proofs::CompareLaws::moves_told))]
 pub(crate) fn lines_of_moves(
     alloc: Global,
     both: &Both<'_>,
@@ -324,7 +256,8 @@ pub(crate) fn lines_of_moves(
     let list = as_differences(alloc, &found.moves)?;
     let sides = if list.is_empty() { None } else { sides };
     let places = find_places(alloc, both, &list, sides)?;
-    lines_of(alloc, both, &list, asked, &places)
+    let lines = lines_of(alloc, both, &list, asked, false, &places)?;
+    Ok(lines)
 }
 
 /// The lines of listed differences and moves as text.
@@ -341,7 +274,7 @@ fn text_of(
     let traced = sides;
     let sides = if found.list.is_empty() { None } else { sides };
     let places = find_places(alloc, both, &found.list, sides)?;
-    let lines = lines_of(alloc, both, &found.list, asked, &places)?;
+    let lines = lines_of(alloc, both, &found.list, asked, asked.folds, &places)?;
     let moves = lines_of_moves(alloc, both, asked, traced, found)?;
     let mut text = String::new(alloc);
     put_each(alloc, &mut text, &lines, asked)?;

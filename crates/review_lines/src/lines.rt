@@ -1,7 +1,7 @@
 //! The lines of a comparison.
 ghost use Rattle.std.specs.Prelude.{◌≡◌, ◌++◌, cond, unwrap_or, option_map, [], string_bytes, OnOk};
 ghost use Rattle.review_text.specs.Hidden.{visible};
-ghost use Rattle.review_lines.specs.Lines.{column, place_text, more_text};
+ghost use Rattle.review_lines.specs.Lines.{column, place_text, more_text, others_text};
 
 use review_args::{Diff, Form};
 use review_text::json::{Said, put_object, text_of};
@@ -31,6 +31,8 @@ pub struct Line {
     pub right_place: Option<Place>,
     /// The changed lines, where both nodes are strings and one of them has a line feed.
     pub changes: Option<Changes>,
+    /// How many differences the line tells: 0 where another line tells this one.
+    pub count: usize,
 }
 
 /// What stands behind lines that are not all.
@@ -42,7 +44,7 @@ const PLAIN: &str = "\u{1b}[0m";
 impl Line {
     ghost use Rattle.std.specs.Prelude.{◌≡◌, ◌++◌, [], cond, codes, string_bytes, OnOk};
     ghost use Rattle.serde_json.specs.Written.{compact_text};
-    ghost use Rattle.review_lines.specs.Lines.{sign, kind, color_text, plain_text, values, below, places_text, columns, line_data, line_text};
+    ghost use Rattle.review_lines.specs.Lines.{sign, kind, color_text, plain_text, values, below, places_text, columns, told_text, line_data, line_text};
 
     /// What the two sides have at the path: other things, or one of them nothing. Where both have no text, a pair of items moved.
     fn sign(&self) -> &'static str
@@ -128,6 +130,19 @@ impl Line {
         Ok(())
     }
 
+    /// The columns and, where the line tells several differences, how many others; nothing where another line tells this one.
+    #[tactic(auto, using(crate::proofs::LineLaws::told_none, crate::proofs::LineLaws::told_some))]
+    fn put_told(&self, out: &mut String, places: bool, color: bool) -> Result<(), Fault>
+        ensures { OnOk result (string_bytes out.new ≡ string_bytes out.old ++ told_text self.now.count (columns places color self.now)) }
+    {
+        if self.count == 0 {
+            return Ok(());
+        }
+        self.put_columns(out, places, color)?;
+        put_others(out, self.count - 1)?;
+        Ok(())
+    }
+
     /// One JSON object.
     fn put_json(&self, alloc: Global, out: &mut String) -> Result<(), Fault>
         ensures { OnOk result (string_bytes out.new ≡ string_bytes out.old ++ (compact_text (line_data self.now) ++ codes "\n")) }
@@ -148,7 +163,7 @@ impl Line {
         ensures { OnOk result (string_bytes out.new ≡ string_bytes out.old ++ line_text asked.now self.now) }
     {
         match asked.form {
-            Form::Line => self.put_columns(out, asked.places, asked.color),
+            Form::Line => self.put_told(out, asked.places, asked.color),
             Form::Json => self.put_json(alloc, out),
         }
     }
@@ -162,6 +177,18 @@ pub fn put_more(out: &mut String, form: Form) -> Result<(), Fault>
         Form::Line => out.push_str(MORE)?,
         Form::Json => out.push_str("{\"kind\":\"more\"}\n")?,
     }
+    Ok(())
+}
+
+/// How many other differences a line tells, on a line of its own behind a tab, if there are some.
+#[tactic(auto, using(crate::proofs::LineLaws::others_none, crate::proofs::LineLaws::others_some))]
+fn put_others(out: &mut String, others: usize) -> Result<(), Fault>
+    ensures { OnOk result (string_bytes out.new ≡ string_bytes out.old ++ others_text others) }
+{
+    if others == 0 {
+        return Ok(());
+    }
+    write!(out, "\t(and {others} more through aliases)\n")?;
     Ok(())
 }
 

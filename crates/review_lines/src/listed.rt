@@ -5,10 +5,9 @@ ghost use Rattle.yaml_graph.specs.GraphView.{roots_of, tree};
 ghost use Rattle.yaml_rank.specs.RanksView.{RanksAre};
 ghost use Rattle.review_lines.specs.Listed.{ListsFound, ListsStreams};
 
-use crate::diff::{
-    find_places, lines_of, lines_of_moves, list_of, lists_none, room_for, search_room,
-};
+use crate::diff::{lines_of, lines_of_moves, list_of, lists_none, room_for, search_room};
 use crate::lines::Line;
+use crate::nodes::find_places;
 use review_args::Diff;
 use review_ignore::kept;
 use review_patterns::Pattern;
@@ -28,6 +27,7 @@ pub struct Listed {
 }
 
 /// The lines of differences that were found, with their places where both sides are given with their traces.
+#[tactic(auto, using(crate::proofs::CompareLaws::found_listed))]
 fn lines_listed(
     alloc: Global,
     both: &Both<'_>,
@@ -41,7 +41,7 @@ fn lines_listed(
     let traced = sides;
     let sides = if found.list.is_empty() { None } else { sides };
     let places = find_places(alloc, both, &found.list, sides)?;
-    let lines = lines_of(alloc, both, &found.list, asked, &places)?;
+    let lines = lines_of(alloc, both, &found.list, asked, false, &places)?;
     let moves = lines_of_moves(alloc, both, asked, traced, found)?;
     Ok(Listed {
         lines,

@@ -120,6 +120,23 @@ pub struct Stream<'g> {
     pub roots: &'g [NodeId],
 }
 
+/// Where a node stands.
+#[derive(Clone, Copy)]
+pub struct Seat {
+    /// The offset of its text or, of an alias, of the alias.
+    pub offset: usize,
+    /// The number of the node itself among those of its stream, if it has one.
+    pub node: Option<usize>,
+}
+
+/// The seat of the node that an event begins, or that it stands for.
+fn seat_of(layout: &Layout, event: usize) -> Option<Seat> {
+    Some(Seat {
+        offset: layout.offset(event)?,
+        node: layout.node(event),
+    })
+}
+
 /// Where the nodes of one stream stand.
 #[derive(Drop)]
 pub struct Finder<'g> {
@@ -194,8 +211,9 @@ impl<'g> Finder<'g> {
         Some((node, self.layout.root(document)?))
     }
 
-    /// The offset of the node to which a path leads: of an alias its own.
-    pub fn offset(&mut self, alloc: Global, path: &[Step]) -> Result<Option<usize>, Fault> {
+    /// The offset of the node to which a path leads, of an alias its own; and the number of the node itself, which is that of the node
+    /// for which an alias stands.
+    pub fn seat(&mut self, alloc: Global, path: &[Step]) -> Result<Option<Seat>, Fault> {
         let mut steps = path.iter().rev();
         let Some((mut node, mut event)) = steps.next().and_then(|step| self.root(*step)) else {
             return Ok(None);
@@ -210,7 +228,7 @@ impl<'g> Finder<'g> {
             node = part;
             event = next;
         }
-        Ok(self.layout.offset(event))
+        Ok(seat_of(&self.layout, event))
     }
 }
 

@@ -40,6 +40,14 @@ impl Layout {
         self.part(node as usize, place)
     }
 
+    /// The number of the node that an event begins; of an alias that of the node that it stands for.
+    pub fn node(&self, event: usize) -> Option<usize> {
+        match self.nodes.get(event) {
+            Some(node) if *node != NONE => Some(*node as usize),
+            _ => None,
+        }
+    }
+
     /// The offset of an event's own text.
     pub fn offset(&self, event: usize) -> Option<usize> {
         let offset = self.offsets.get(event)?;

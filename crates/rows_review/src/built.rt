@@ -58,10 +58,18 @@ struct Row {
     is_all: bool,
 }
 
-static DIFFERENCES: [Row; 5] = [
+static DIFFERENCES: [Row; 6] = [
     Row {
-        name: "of 2^60 - 1 places the first four are told, and that there are more",
-        words: &["diff", "--no-places", "--lines", "4", "left", "right"],
+        name: "of 2^60 - 1 places the first four are told without folds, and that there are more",
+        words: &[
+            "diff",
+            "--no-fold",
+            "--no-places",
+            "--lines",
+            "4",
+            "left",
+            "right",
+        ],
         left: Text {
             front: "- &a0 [x, x]\n",
             ..DOUBLING
@@ -73,6 +81,24 @@ static DIFFERENCES: [Row; 5] = [
         status: 1,
         told: Text {
             front: "~\t[0][1]\t\"x\"\t\"y\"\n~\t[1][0][1]\t\"x\"\t\"y\"\n~\t[1][1][1]\t\"x\"\t\"y\"\n~\t[2][0][0][1]\t\"x\"\t\"y\"\n...\n",
+            ..NONE
+        },
+        is_all: true,
+    },
+    Row {
+        name: "of 2^60 - 1 places four are told in one line, and that there are more",
+        words: &["diff", "--no-places", "--lines", "4", "left", "right"],
+        left: Text {
+            front: "- &a0 [x, x]\n",
+            ..DOUBLING
+        },
+        right: Text {
+            front: "- &a0 [x, y]\n",
+            ..DOUBLING
+        },
+        status: 1,
+        told: Text {
+            front: "~\t[0][1]\t\"x\"\t\"y\"\n\t(and 3 more through aliases)\n...\n",
             ..NONE
         },
         is_all: true,

@@ -10,6 +10,8 @@ mod empty_nodes;
 #[cfg(test)]
 mod faults;
 #[cfg(test)]
+mod folds;
+#[cfg(test)]
 mod git;
 #[cfg(test)]
 mod git_shown;
