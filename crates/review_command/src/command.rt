@@ -6,10 +6,10 @@ ghost use Rattle.review_merge.specs.Merges.{no_merge_status};
 
 use crate::diff::{NoDiff, diff, diff_page};
 use crate::folders::folders;
-use crate::git::{git_asked, git_text, put_page};
+use review_git::{git_asked, git_text, put_page};
 use crate::host::Host;
 use crate::names::are_folders;
-use crate::show::show_files;
+use review_show::show_files;
 use clap::Error;
 use review_args::{Asked, Merge, Sum, in_order, read_keys, read_words};
 use review_files::telling::{UNUSABLE, put_line, tell_bare, tell_unread, tell_usage};

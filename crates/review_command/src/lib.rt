@@ -5,8 +5,5 @@ pub mod arguments;
 pub mod command;
 pub mod diff;
 mod folders;
-mod git;
-mod git_show;
 mod host;
 mod names;
-mod show;

@@ -1,7 +1,6 @@
 //! Where two changes of a tree conflict, and where a merge of them is not what it should be: the paths of which `Breaks` (`yaml_merge`) speaks.
 #![tactic(auto)]
 
-mod find;
 mod lists;
 mod parts;
 mod rules;

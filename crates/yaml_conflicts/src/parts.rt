@@ -8,8 +8,8 @@ ghost use Rattle.yaml_diff.specs.Lines.{trees_of};
 ghost use Rattle.yaml_diff.specs.Found.{Within};
 ghost use Rattle.yaml_conflicts.specs.Found.{plain_of, StepWithin, IsBelow, SidesWithin, PartsAre, SidesBelow};
 
-use crate::find::find;
 use crate::sides::{Sides, Step};
+use yaml_diff::value_of;
 use yaml_graph::graph::Graph;
 use yaml_graph::node::{NodeId, NodeKind};
 use yaml_rank::ranks::Ranks;
@@ -43,7 +43,7 @@ fn value_at(graph: &Graph<'_>, ranks: &Ranks, node: NodeId, key: NodeId) -> Opti
     ensures below { IsBelow result (Some node) }
 {
     let _nodes = graph.len();
-    find(ranks, ranks.sorted(node), ranks.of(key))
+    value_of(graph, ranks, node, ranks.of(key))
 }
 
 /// What stands one step below a node, if there is a node.

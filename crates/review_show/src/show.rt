@@ -53,7 +53,7 @@ fn text_of(alloc: Global, bytes: &[u8], format: Format) -> Result<String, Unshow
 }
 
 /// Writes why a file is not shown.
-pub(crate) fn put_unshown(
+pub fn put_unshown(
     alloc: Global,
     out: &mut String,
     name: &str,
@@ -144,7 +144,7 @@ fn show_file<S: Shelf, R: Read, W: Write, E: Write>(
 }
 
 /// Shows each file, and goes on to the next one unless the output fails. The status is the greatest of all.
-pub(crate) fn show_files<S: Shelf, R: Read, W: Write, E: Write>(
+pub fn show_files<S: Shelf, R: Read, W: Write, E: Write>(
     shelf: &S,
     alloc: Global,
     asked: &Show<'_>,

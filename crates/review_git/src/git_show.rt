@@ -1,5 +1,5 @@
 //! The changed lines of what `show` writes of two files.
-use crate::show::put_unshown;
+use review_show::put_unshown;
 use review_text::put_shown;
 use std::alloc::Global;
 use yaml_script::script_of;

@@ -29,7 +29,7 @@ const SHOWN: &str = "--lines=show";
 
 /// One side: the file to read, its hash and its mode.
 #[derive(Clone, Copy)]
-pub(crate) struct Side<'a> {
+pub struct Side<'a> {
     file: &'a str,
     hash: &'a str,
     mode: &'a str,
@@ -58,7 +58,7 @@ impl Side<'_> {
 
 /// The words of one file: its path, both sides, and the path that it has now and git's lines on it if it was renamed or copied.
 #[derive(Clone, Copy)]
-pub(crate) struct Pair<'a> {
+pub struct Pair<'a> {
     path: &'a str,
     left: Side<'a>,
     right: Side<'a>,
@@ -69,7 +69,7 @@ pub(crate) struct Pair<'a> {
 
 /// What git asks for.
 #[derive(Clone, Copy)]
-pub(crate) enum GitAsked<'a> {
+pub enum GitAsked<'a> {
     /// A path that is not merged, of which there is nothing to compare.
     Unmerged(&'a str),
     Changed(Pair<'a>),
@@ -95,7 +95,7 @@ fn split_shown<'w, 'a>(words: &'w [&'a str]) -> (&'w [&'a str], bool) {
 
 /// What 1, 7 or 9 words ask for: a path; the path, the old file with its hash and mode, and the new one with its own; or these
 /// and the new path with lines on what was renamed or copied.
-pub(crate) fn git_asked<'a>(given: &[&'a str]) -> Option<GitAsked<'a>> {
+pub fn git_asked<'a>(given: &[&'a str]) -> Option<GitAsked<'a>> {
     let (words, is_shown) = split_shown(given);
     let path = words.first().copied()?;
     match words.len() {
@@ -352,7 +352,7 @@ fn pair_text<S: Shelf>(shelf: &S, alloc: Global, pair: Pair<'_>) -> Result<Strin
 }
 
 /// What is printed of what git asks for. A side that cannot be read or is rejected is reported there.
-pub(crate) fn git_text<S: Shelf>(
+pub fn git_text<S: Shelf>(
     shelf: &S,
     alloc: Global,
     asked: GitAsked<'_>,
@@ -373,7 +373,7 @@ pub(crate) fn git_text<S: Shelf>(
 }
 
 /// Writes what is told and flushes. Where whoever reads it has gone, as `head` and a pager do, nothing is left to be told.
-pub(crate) fn put_page<W: Write>(out: &mut W, text: &[u8]) -> Result<(), Fault> {
+pub fn put_page<W: Write>(out: &mut W, text: &[u8]) -> Result<(), Fault> {
     let written = match out.write_all(text) {
         Ok(()) => out.flush(),
         Err(error) => Err(error),
