@@ -352,11 +352,7 @@ fn pair_text<S: Shelf>(shelf: &S, alloc: Global, pair: Pair<'_>) -> Result<Strin
 }
 
 /// What is printed of what git asks for. A side that cannot be read or is rejected is reported there.
-pub fn git_text<S: Shelf>(
-    shelf: &S,
-    alloc: Global,
-    asked: GitAsked<'_>,
-) -> Result<String, Fault> {
+pub fn git_text<S: Shelf>(shelf: &S, alloc: Global, asked: GitAsked<'_>) -> Result<String, Fault> {
     let mut out = String::new(alloc);
     match asked {
         GitAsked::Unmerged(path) => {
