@@ -10,7 +10,7 @@ use Rattle.yaml_path.specs.declared.places.Places.{Places}
 use Rattle.yaml_path.specs.declared.places.Places.TheVariants.{Both, Left, Right}
 use Rattle.yaml_diff.proofs.WayLaws.{either-way, not-so, places-is, places-self, below-or, some-is, none-some, one-there}
 use Rattle.yaml_diff.proofs.MoveLists.{no-line}
-use Rattle.law_moves.specs.Patch.{Told, HasLine, is_at, named, rest, brought, put_at, next, behind, fill, patch, Tells}
+use Rattle.law_patch.specs.Patch.{Told, HasLine, is_at, named, rest, brought, put_at, next, behind, fill, patch, Tells}
 
 option-cases : {X : Type 0} (o : Option X) → (o ≡ None) ⊎ ((v : X) × (o ≡ Some v))
 option-cases None = inl refl

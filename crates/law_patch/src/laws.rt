@@ -1,5 +1,5 @@
 //! Laws of differences and moves. Each function has an empty body, and its contract is a law.
-ghost use Rattle.law_moves.specs.Laws.{ListIsPatch, LevelIsTold, ToldIsLevel};
+ghost use Rattle.law_patch.specs.Laws.{ListIsPatch, LevelIsTold, ToldIsLevel};
 
 /// The lines of a list make either side of the other, in its order.
 pub fn list_is_patch()

@@ -9,7 +9,7 @@ use Rattle.yaml_path.specs.declared.places.Places.TheVariants.{Both}
 use Rattle.yaml_diff.specs.Lines.{Line, way_of, Listed}
 use Rattle.yaml_diff.specs.Moves.{MoveLine, MoveListed}
 use Rattle.yaml_diff.specs.Listing.{Lists}
-use Rattle.law_moves.specs.Patch.{Told, Tells, patch}
+use Rattle.law_patch.specs.Patch.{Told, Tells, patch}
 
 -- The lines of one list, whose paired items are alike (below which nothing is told, or what is told was done), make the right list of the left one, and the left one of the right.
 abbrev pub ListIsPatch : Type 0
