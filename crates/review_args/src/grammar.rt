@@ -173,7 +173,7 @@ const SUM: [Row; 3] = [
     },
 ];
 
-const MERGE: [Row; 6] = [
+const MERGE: [Row; 9] = [
     Row {
         id: "BASE",
         takes: Takes::File,
@@ -195,6 +195,16 @@ const MERGE: [Row; 6] = [
         help: "What was made of both, to be judged",
     },
     Row {
+        id: "no-places",
+        takes: Takes::Flag,
+        help: "Leave the lines and columns out",
+    },
+    Row {
+        id: "whole",
+        takes: Takes::Flag,
+        help: "Show texts of more than 60 bytes whole",
+    },
+    Row {
         id: "lines",
         takes: Takes::Lines,
         help: "Print at most N lines, and then `...` if there are more; 0 for the status alone",
@@ -203,6 +213,11 @@ const MERGE: [Row; 6] = [
         id: "quiet",
         takes: Takes::Letter('q'),
         help: "Print nothing; the status tells the result",
+    },
+    Row {
+        id: "color",
+        takes: Takes::Color,
+        help: "Print lines in colour; `auto` does so on a terminal",
     },
 ];
 
