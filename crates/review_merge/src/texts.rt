@@ -2,7 +2,7 @@
 ghost use Rattle.yaml_rank.specs.RanksView.{RanksAre};
 
 use review_text::Both;
-use review_text::text::{CUT, WHOLE, front, node_text, put_all};
+use review_text::text::{CUT, WHOLE, front, node_text};
 use std::alloc::Global;
 use yaml_graph::node::NodeId;
 use yaml_text::fault::Fault;
@@ -110,10 +110,9 @@ fn part_of(alloc: Global, text: &str, place: usize) -> Result<String, Fault> {
     }
     let rest = text.get(start..).unwrap_or(text);
     let mut part = String::new(alloc);
-    put_all(
-        &mut part,
-        &[dots(start > 0), front(rest, CUT), dots(rest.len() > CUT)],
-    )?;
+    part.push_str(dots(start > 0))?;
+    part.push_str(front(rest, CUT))?;
+    part.push_str(dots(rest.len() > CUT))?;
     Ok(part)
 }
 
