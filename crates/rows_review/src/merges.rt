@@ -312,7 +312,7 @@ static NONE: [Row; 5] = [
         files: ["a: [1,\n2\n", "a: 1\n", "- *x\n", ""],
         status: 2,
         out: "",
-        err: "base:2:1: 4 Syntax at byte 7: what stands in brackets or braces is indented more than its key\n2\n^\ntheirs:1:3: 12 UndefinedAlias at byte 2: 0[0]: no node before this one in its document has an anchor of this name\n- *x\n  ^\n",
+        err: "base:2:1: 4 Syntax at byte 7: a line of a flow collection stands deeper than its parent\n2\n^\ntheirs:1:3: 12 UndefinedAlias at byte 2: 0[0]: no node before this one in its document has an anchor of this name\n- *x\n  ^\n",
     },
     Row {
         name: "a file is not there",
@@ -336,7 +336,7 @@ static NONE: [Row; 5] = [
         files: ["", "", "", ""],
         status: 3,
         out: "",
-        err: "?",
+        err: "error: the following required arguments were not provided:\n  <THEIRS>\n\nUsage: yamlreview merge3 <BASE> <OURS> <THEIRS> [RESULT]\n\nFor more information, try '--help'.\n",
     },
     Row {
         name: "a file too many",
@@ -344,7 +344,7 @@ static NONE: [Row; 5] = [
         files: ["", "", "", ""],
         status: 3,
         out: "",
-        err: "?",
+        err: "error: unexpected argument 'more' found\n\nUsage: yamlreview merge3 [OPTIONS] <BASE> <OURS> <THEIRS> [RESULT]\n\nFor more information, try '--help'.\n",
     },
 ];
 
