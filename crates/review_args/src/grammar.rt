@@ -173,7 +173,7 @@ const SUM: [Row; 3] = [
     },
 ];
 
-const MERGE: [Row; 6] = [
+const MERGE: [Row; 9] = [
     Row {
         id: "BASE",
         takes: Takes::File,
@@ -192,7 +192,17 @@ const MERGE: [Row; 6] = [
     Row {
         id: "RESULT",
         takes: Takes::LastFile,
-        help: "What was made of both, to be judged",
+        help: "What was made of both, to be checked",
+    },
+    Row {
+        id: "no-places",
+        takes: Takes::Flag,
+        help: "Leave the lines and columns out",
+    },
+    Row {
+        id: "whole",
+        takes: Takes::Flag,
+        help: "Show texts of more than 60 bytes whole",
     },
     Row {
         id: "lines",
@@ -203,6 +213,11 @@ const MERGE: [Row; 6] = [
         id: "quiet",
         takes: Takes::Letter('q'),
         help: "Print nothing; the status tells the result",
+    },
+    Row {
+        id: "color",
+        takes: Takes::Color,
+        help: "Print lines in colour; `auto` does so on a terminal",
     },
 ];
 
@@ -327,8 +342,11 @@ const SUM_STATUSES: &str = "Exit status (of several files the greatest):
   3  the words, a file, LIST or a stream cannot be used";
 
 const MERGE_STATUSES: &str =
-    "Where one side is as BASE, the merge has what the other side has. Values of mappings are merged by their keys, and items of lists
-that have equally many items by their places. A list that one side made longer or shorter is one value. So is a stream of documents.
+    "Each conflict has a line: `!`, the path, what BASE, OURS and THEIRS have there, and where. With RESULT there is a line `~` for each path
+at which it is not the merge.
+
+Where one side is as BASE, the merge has what the other side has. Where both sides are the same, it has that. Otherwise mappings are
+merged by their keys, and lists (and streams) of one length by their places. All else is one value: if both sides changed it, they conflict.
 
 Exit status:
   0  both changes can be merged; with RESULT: it is the merge

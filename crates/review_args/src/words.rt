@@ -123,6 +123,12 @@ pub struct Merge<'a> {
     pub result: Option<&'a str>,
     /// The greatest number of lines.
     pub lines: usize,
+    /// Whether the places of nodes are printed.
+    pub places: bool,
+    /// Whether texts of more than 60 bytes are printed whole.
+    pub whole: bool,
+    /// Whether lines are in colour.
+    pub color: bool,
 }
 
 /// A command.
@@ -277,13 +283,16 @@ fn merge_lines_of(matches: &ArgMatches<'_>) -> usize {
     }
 }
 
-fn merge_of<'a>(matches: &ArgMatches<'a>) -> Merge<'a> {
+fn merge_of<'a>(matches: &ArgMatches<'a>, is_terminal: bool) -> Merge<'a> {
     Merge {
         base: matches.get_str("BASE").unwrap_or("-"),
         ours: matches.get_str("OURS").unwrap_or("-"),
         theirs: matches.get_str("THEIRS").unwrap_or("-"),
         result: matches.get_str("RESULT"),
         lines: merge_lines_of(matches),
+        places: !matches.get_flag("no-places"),
+        whole: matches.get_flag("whole"),
+        color: color_of(matches, is_terminal),
     }
 }
 
@@ -362,7 +371,7 @@ fn asked_of<'a>(
             files_from: inner.get_str("files-from"),
             check: inner.get_str("check"),
         })),
-        "merge3" => Ok(Asked::Merge(merge_of(inner))),
+        "merge3" => Ok(Asked::Merge(merge_of(inner, is_terminal))),
         "git" => Ok(Asked::Git(names(alloc, inner, "WORD")?)),
         _ => diff_asked(alloc, inner, by, is_terminal),
     }

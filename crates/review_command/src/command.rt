@@ -13,7 +13,7 @@ use review_args::{Asked, Merge, Sum, in_order, read_keys, read_words};
 use review_files::telling::{UNUSABLE, put_line, tell_bare, tell_unread, tell_usage};
 use review_files::unread::Unread;
 use review_git::{git_asked, git_text, put_page};
-use review_merge::{Names, NoMerge, merge3};
+use review_merge::{Names, NoMerge, Print, merge3};
 use review_reports::pages::pages;
 use review_reports::reports::{Kind, reports};
 use review_show::show_files;
@@ -86,6 +86,16 @@ fn merge_names<'a>(asked: &Merge<'a>) -> Names<'a>
     }
 }
 
+/// What is printed of a merge.
+fn merge_print(asked: &Merge<'_>) -> Print {
+    Print {
+        lines: asked.lines,
+        places: asked.places,
+        whole: asked.whole,
+        color: asked.color,
+    }
+}
+
 /// The status of a merge, of which it is told why nothing is said.
 fn merge_status<E: Write>(answer: Result<u8, NoMerge>, err: &mut E) -> u8
     ensures ok { IfOk answer (λ status. result ≡ status) }
@@ -151,7 +161,8 @@ fn run<S: Shelf, R: Read + Drop, W: Write + Drop, E: Write + Drop>(
         Asked::Merge(asked) => {
             let names = merge_names(&asked);
             let mut out = Counted::new(out);
-            let answer = merge3(shelf, alloc, &names, asked.lines, &mut input, &mut out);
+            let print = merge_print(&asked);
+            let answer = merge3(shelf, alloc, &names, print, &mut input, &mut out);
             merge_status(answer, &mut err)
         }
     }

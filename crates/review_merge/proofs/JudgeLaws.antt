@@ -1,18 +1,16 @@
 -- From the paths that are found to what is said of a merge.
-use Rattle.std.proofs.Common.{◌≡◌, ℕ, zero, suc, ◌<◌, ◌==◌, Bool, true, false, cond, List, [], ◌∷◌, ◌++◌, map, length, refl, sym, ◌∙◌, ap, subst, arith}
+use Rattle.std.proofs.Common.{◌≡◌, ℕ, ◌==◌, Bool, true, false, cond, List, [], ◌∷◌, map, length, refl, sym, ◌∙◌, ap, subst, arith}
 use Rattle.std.specs.Prelude.{Option, Some, None, Result, Ok, Err, IfOk}
 use Rattle.std.proofs.lemmas.Bool.{eqb-true}
 use Rattle.yaml_text.specs.declared.fault.Fault.{Fault}
 use Rattle.yaml_merge.proofs.RuleLaws.{not-true}
 use Rattle.std.specs.List.{slice_get}
 use Rattle.yaml_definitions.specs.model.Tree.{Tree}
-use Rattle.yaml_graph.specs.GraphView.{nodes_of, roots_of, tree, forest}
 use Rattle.yaml_graph.specs.declared.node.NodeId.{NodeId}
 use Rattle.yaml_graph.specs.declared.graph.Graph.{Graph}
-use Rattle.yaml_path.specs.Path.{Path}
 use Rattle.yaml_diff.specs.Lines.{tree_of}
 use Rattle.yaml_diff.specs.Found.{AllWithin}
-use Rattle.yaml_merge.specs.Merge.{Breaks, IsKeyed}
+use Rattle.yaml_merge.specs.Merge.{IsKeyed}
 use Rattle.yaml_merge.proofs.ExistLaws.{merge-exists}
 use Rattle.yaml_conflicts.specs.Found.{line_of, path_of, Lists}
 use Rattle.yaml_conflicts.specs.Streams.{stream, RootsWithin, FindsStreams}

@@ -1,5 +1,5 @@
 -- What is found of streams that are merged.
-use Rattle.std.specs.Prelude.{◌≡◌, ◌==◌, ℕ, Bool, true, false, cond, List, [], ◌∷◌, ◌++◌, length, Option, Some, None}
+use Rattle.std.specs.Prelude.{◌≡◌, ◌==◌, Bool, true, false, cond, List, [], ◌++◌, length, Option, Some, None}
 use Rattle.yaml_definitions.specs.model.Tree.{Tree, sequence}
 use Rattle.yaml_graph.specs.TreeLists.{trees}
 use Rattle.yaml_graph.specs.GraphView.{roots_of}

@@ -5,5 +5,9 @@ mod four;
 mod judge;
 mod lines;
 pub mod merge;
+pub mod print;
+mod seats;
+mod texts;
 
 pub use merge::{Names, NoMerge, merge3};
+pub use print::Print;

@@ -8,7 +8,8 @@ ghost use Rattle.review_merge.specs.Merges.{no_merge_status, ReadsResult, HaveBy
 
 use crate::four::graph_of;
 use crate::judge::{judge, roots_of, verdict_of};
-use crate::lines::text_of;
+use crate::lines::{Sources, text_of};
+use crate::print::Print;
 use review_args::Form;
 use review_files::files::read_named;
 use review_files::rejected::{Named, put_no_bytes, put_rejection};
@@ -248,19 +249,37 @@ fn forests_of<'l>(
     }
 }
 
+/// The bytes whose nodes have places.
+fn sources_of(bytes: &Bytes, given: bool) -> Sources<'_> {
+    Sources {
+        base: &bytes.base,
+        ours: &bytes.ours,
+        theirs: &bytes.theirs,
+        result: if given { Some(&bytes.result) } else { None },
+    }
+}
+
 /// What is found of the files' bytes, and its lines.
-fn told_of(alloc: Global, bytes: &Bytes, given: bool, lines: usize) -> Result<Told, Fault>
+fn told_of(alloc: Global, bytes: &Bytes, given: bool, print: Print) -> Result<Told, Fault>
     ensures { IfOk result (λ told. TellsMerge given bytes.now.base.items bytes.now.ours.items bytes.now.theirs.items bytes.now.result.items told.answer) }
 {
     let first = forests_of(alloc, &bytes.base, &bytes.ours)?;
     let second = forests_of(alloc, &bytes.theirs, &bytes.result)?;
     let four = graph_of(alloc, &first, &second)?;
-    let outcome = judge(alloc, &four, given, room_of(lines))?;
+    let outcome = judge(alloc, &four, given, room_of(print.lines))?;
     let answer = verdict_of(&outcome);
-    let text = if lines == 0 {
+    let text = if print.lines == 0 {
         String::new(alloc)
     } else {
-        text_of(alloc, &four, &roots_of(&four, given), &outcome, given)?
+        let sources = sources_of(bytes, given);
+        text_of(
+            alloc,
+            &four,
+            &roots_of(&four, given),
+            &outcome,
+            sources,
+            print,
+        )?
     };
     Ok(Told { answer, text })
 }
@@ -278,7 +297,7 @@ pub fn merge3<S: Shelf, R: Read, W: Write>(
     shelf: &S,
     alloc: Global,
     names: &Names<'_>,
-    lines: usize,
+    print: Print,
     input: &mut R,
     out: &mut Counted<W>,
 ) -> Result<u8, NoMerge>
@@ -288,7 +307,7 @@ pub fn merge3<S: Shelf, R: Read, W: Write>(
 {
     let bytes = read_files(shelf, alloc, names, input)?;
     let given = names.result.is_some();
-    let told = match told_of(alloc, &bytes, given, lines) {
+    let told = match told_of(alloc, &bytes, given, print) {
         Ok(told) => told,
         Err(fault) => return Err(rejected(alloc, names, bytes, fault)),
     };

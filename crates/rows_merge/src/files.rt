@@ -1,5 +1,5 @@
 //! Files that are merged: what is printed, and the status.
-use review_merge::{Names, NoMerge, merge3};
+use review_merge::{Names, NoMerge, Print, merge3};
 use std::alloc::Global;
 use std::io;
 use std::process::Abort;
@@ -233,7 +233,13 @@ fn ran(alloc: Global, row: &Row, names: &Names<'_>, input: &[u8]) -> Result<(Str
     let mut held = Vec::new(alloc);
     let mut rest = input;
     let mut out = Counted::new(&mut held);
-    let answer = merge3(&Files { row }, alloc, names, row.lines, &mut rest, &mut out);
+    let print = Print {
+        lines: row.lines,
+        places: false,
+        whole: false,
+        color: false,
+    };
+    let answer = merge3(&Files { row }, alloc, names, print, &mut rest, &mut out);
     match answer {
         Ok(status) => Ok((String::from_utf8(held)?, status)),
         Err(none) => refusal(alloc, none),

@@ -20,6 +20,8 @@ mod hints;
 #[cfg(test)]
 mod ignored;
 #[cfg(test)]
+mod merges;
+#[cfg(test)]
 mod moves;
 #[cfg(test)]
 mod names;

@@ -6,7 +6,7 @@ use Rattle.std.specs.Cow.{cow_str_bytes}
 use Rattle.std.proofs.lemmas.Option.{slice_get_within}
 use Rattle.yaml_definitions.specs.model.Tree.{Tree}
 use Rattle.yaml_graph.specs.TreeLists.{trees}
-use Rattle.yaml_graph.specs.GraphModel.{Entries, entries_of, items_of, node_tree, kind_tree}
+use Rattle.yaml_graph.specs.GraphModel.{entries_of, node_tree, kind_tree}
 use Rattle.yaml_graph.specs.GraphView.{nodes_of, graph_trees, tree}
 use Rattle.yaml_graph.proofs.GraphLaws.{node-tree}
 use Rattle.yaml_graph.specs.declared.node.NodeId.{NodeId}

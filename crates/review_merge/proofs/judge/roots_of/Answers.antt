@@ -1,4 +1,4 @@
-use Rattle.std.proofs.Common.{◌≡◌, ◌++◌, length, ap, sym, ◌∙◌, arith}
+use Rattle.std.proofs.Common.{◌++◌, length, ap, sym, ◌∙◌, arith}
 use Rattle.review_merge.proofs.FourLaws.{roots-count}
 use Rattle.review_merge.proofs.judge.roots_of.Goals as goal
 
