@@ -10,8 +10,7 @@ use yaml_diff::Difference;
 use yaml_graph::node::NodeId;
 use yaml_text::fault::Fault;
 
-/// The number of the left node itself and that of the right one: an alias has that of the node for which it stands. A side without a
-/// node has 0.
+/// What is changed, as a number of either side: differences of one cause are one change, which aliases show at several paths.
 pub type Cause = (usize, usize);
 
 /// Whether both are the same node, or none.

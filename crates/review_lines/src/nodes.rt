@@ -1,13 +1,13 @@
 //! Where the nodes of differences stand, and which of them have one cause.
 use review_folds::Cause;
-use review_places::finder::{Finder, Hand, Stream};
+use review_places::finder::{Finder, Hand, Seat, Stream};
 use review_places::layout::lay_out_from;
 use review_places::places::{places, unmarked};
 use review_places::trace::Traced;
 use review_text::both::Both;
 use std::alloc::Global;
+use std::collections::BTreeSet;
 use yaml_diff::Difference;
-use yaml_graph::node::NodeId;
 use yaml_place::Place;
 use yaml_text::fault::Fault;
 
@@ -47,11 +47,56 @@ fn has_node(difference: &Difference, hand: Hand) -> bool {
     }
 }
 
-/// The places of one side's nodes, each with the number of its line, which rise; and the numbers of all these nodes.
+/// What one side has of a difference.
+#[derive(Clone, Copy)]
+struct Mark {
+    /// The number of the node; where the other side has none, that of the event, and where this side has none, that of the node whose
+    /// part it would be.
+    number: usize,
+    /// Whether the path leads through no alias, and to none.
+    is_own: bool,
+}
+
+/// What a seat has of a difference. The three kinds of numbers differ, so that a pair of them tells which side has a node.
+fn mark_of(difference: &Difference, hand: Hand, seat: Seat) -> Option<Mark> {
+    let (here, there) = match hand {
+        Hand::Left => (difference.left, difference.right),
+        Hand::Right => (difference.right, difference.left),
+    };
+    let (number, kind) = match (here.is_some(), there.is_some()) {
+        (true, true) => (seat.node?, 0),
+        (true, false) => (seat.event, 1),
+        (false, true) => (seat.node?, 2),
+        (false, false) => return None,
+    };
+    Some(Mark {
+        number: number.saturating_mul(3).saturating_add(kind),
+        is_own: seat.is_own,
+    })
+}
+
+/// The places of one side's nodes, each with the number of its line, which rise; and what this side has of each difference, if it has
+/// an alias.
 #[derive(Drop)]
 struct SidePlaces {
     places: Vec<(usize, Place)>,
-    nodes: Vec<Option<usize>>,
+    marks: Vec<Option<Mark>>,
+}
+
+/// The seat of the node to which a path leads on one side, or else of that whose part it would be.
+fn seat_at(
+    alloc: Global,
+    finder: &mut Finder<'_>,
+    difference: &Difference,
+    hand: Hand,
+) -> Result<Option<Seat>, Fault> {
+    if has_node(difference, hand) {
+        return finder.seat(alloc, &difference.path);
+    }
+    if !finder.has_aliases() {
+        return Ok(None);
+    }
+    finder.seat(alloc, difference.path.get(1..).unwrap_or(&[]))
 }
 
 /// Where the nodes of one side stand.
@@ -65,47 +110,69 @@ fn side_places(
     let layout = lay_out_from(alloc, side.trace, side.first, side.end)?;
     let mut finder = Finder::new(alloc, both, stream_of(both, hand), layout);
     let mut offsets = Vec::new(alloc);
-    let mut nodes = vec![in alloc; None; list.len()]?;
+    let mut marks = Vec::new(alloc);
     for (number, difference) in list.iter().enumerate() {
-        if !has_node(difference, hand) {
-            continue;
-        }
-        if let Some(seat) = finder.seat(alloc, &difference.path)? {
-            offsets.push((seat.offset, number))?;
-            if let Some(slot) = nodes.get_mut(number) {
-                *slot = seat.node;
+        let seat = seat_at(alloc, &mut finder, difference, hand)?;
+        if let Some(seat) = seat {
+            if has_node(difference, hand) {
+                offsets.push((seat.offset, number))?;
             }
+        }
+        if finder.has_aliases() {
+            marks.push(seat.and_then(|seat| mark_of(difference, hand, seat)))?;
         }
     }
     Ok(SidePlaces {
         places: places(alloc, unmarked(side.bytes), offsets)?,
-        nodes,
+        marks,
     })
 }
 
-/// The number of the node itself that a difference has on one side, from 1; 0 where it has none there. None where it is not known.
-fn node_number(node: Option<NodeId>, nodes: &[Option<usize>], number: usize) -> Option<usize> {
-    match (node, nodes.get(number)) {
-        (None, _) => Some(0),
-        (Some(_), Some(Some(own))) => Some(own.saturating_add(1)),
+/// What both sides have of the difference of this number.
+fn marks_at(
+    lefts: &[Option<Mark>],
+    rights: &[Option<Mark>],
+    number: usize,
+) -> Option<(Mark, Mark)> {
+    match (lefts.get(number), rights.get(number)) {
+        (Some(Some(left)), Some(Some(right))) => Some((*left, *right)),
         _ => None,
     }
 }
 
-/// What each difference has as its cause, where that is known; what moved has none.
+/// The causes of the differences to which a path leads without an alias on either side.
+fn own_causes(
+    alloc: Global,
+    lefts: &[Option<Mark>],
+    rights: &[Option<Mark>],
+) -> Result<BTreeSet<Cause>, Fault> {
+    let mut own = BTreeSet::new(alloc);
+    for number in 0..lefts.len() {
+        if let Some((left, right)) = marks_at(lefts, rights, number) {
+            if left.is_own && right.is_own {
+                own.insert((left.number, right.number))?;
+            }
+        }
+    }
+    Ok(own)
+}
+
+/// What each difference has as its cause, where that is known. Differences of one cause are one change, which is in the list at its own
+/// place, and which aliases show at the others.
 fn causes_of(
     alloc: Global,
-    list: &[Difference],
-    lefts: &[Option<usize>],
-    rights: &[Option<usize>],
+    lefts: &[Option<Mark>],
+    rights: &[Option<Mark>],
 ) -> Result<Vec<Option<Cause>>, Fault> {
-    let mut causes = Vec::with_capacity(alloc, list.len())?;
-    for (number, difference) in list.iter().enumerate() {
-        let left = node_number(difference.left, lefts, number);
-        let right = node_number(difference.right, rights, number);
-        causes.push(match (left, right) {
-            (Some(0), Some(0)) => None,
-            (Some(left), Some(right)) => Some((left, right)),
+    let own = own_causes(alloc, lefts, rights)?;
+    let mut causes = Vec::new(alloc);
+    for number in 0..lefts.len() {
+        let cause = match marks_at(lefts, rights, number) {
+            Some((left, right)) => Some((left.number, right.number)),
+            None => None,
+        };
+        causes.push(match cause {
+            Some(cause) if own.contains(&cause) => Some(cause),
             _ => None,
         })?;
     }
@@ -141,7 +208,7 @@ pub(crate) fn find_places(
             Ok(Places {
                 left: spread(alloc, &lefts.places, list.len())?,
                 right: spread(alloc, &rights.places, list.len())?,
-                causes: causes_of(alloc, list, &lefts.nodes, &rights.nodes)?,
+                causes: causes_of(alloc, &lefts.marks, &rights.marks)?,
             })
         }
         None => Ok(Places {

@@ -125,15 +125,21 @@ pub struct Stream<'g> {
 pub struct Seat {
     /// The offset of its text or, of an alias, of the alias.
     pub offset: usize,
+    /// The event that begins it, or the alias.
+    pub event: usize,
     /// The number of the node itself among those of its stream, if it has one.
     pub node: Option<usize>,
+    /// Whether the path leads through no alias, and to none.
+    pub is_own: bool,
 }
 
 /// The seat of the node that an event begins, or that it stands for.
-fn seat_of(layout: &Layout, event: usize) -> Option<Seat> {
+fn seat_of(layout: &Layout, event: usize, is_own: bool) -> Option<Seat> {
     Some(Seat {
         offset: layout.offset(event)?,
+        event,
         node: layout.node(event),
+        is_own,
     })
 }
 
@@ -211,13 +217,18 @@ impl<'g> Finder<'g> {
         Some((node, self.layout.root(document)?))
     }
 
-    /// The offset of the node to which a path leads, of an alias its own; and the number of the node itself, which is that of the node
-    /// for which an alias stands.
+    /// Whether the stream has an alias.
+    pub fn has_aliases(&self) -> bool {
+        self.layout.has_aliases()
+    }
+
+    /// Where the node stands to which a path leads.
     pub fn seat(&mut self, alloc: Global, path: &[Step]) -> Result<Option<Seat>, Fault> {
         let mut steps = path.iter().rev();
         let Some((mut node, mut event)) = steps.next().and_then(|step| self.root(*step)) else {
             return Ok(None);
         };
+        let mut is_own = true;
         for step in steps {
             let Some((part, place)) = self.step_down(alloc, node, *step)? else {
                 return Ok(None);
@@ -227,8 +238,9 @@ impl<'g> Finder<'g> {
             };
             node = part;
             event = next;
+            is_own = is_own && !self.layout.is_alias(event);
         }
-        Ok(seat_of(&self.layout, event))
+        Ok(seat_of(&self.layout, event, is_own))
     }
 }
 

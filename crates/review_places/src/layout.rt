@@ -20,6 +20,8 @@ pub struct Layout {
     firsts: Vec<usize>,
     /// The events of all nodes' parts, one node's behind another's: keys and values in turn for a mapping.
     parts: Vec<usize>,
+    /// The events that are aliases, which rise.
+    aliases: Vec<usize>,
 }
 
 impl Layout {
@@ -48,6 +50,16 @@ impl Layout {
         }
     }
 
+    /// Whether an event is an alias.
+    pub fn is_alias(&self, event: usize) -> bool {
+        self.aliases.binary_search(&event).is_ok()
+    }
+
+    /// Whether the stream has an alias.
+    pub fn has_aliases(&self) -> bool {
+        !self.aliases.is_empty()
+    }
+
     /// The offset of an event's own text.
     pub fn offset(&self, event: usize) -> Option<usize> {
         let offset = self.offsets.get(event)?;
@@ -72,7 +84,10 @@ impl Layout {
                 self.whole(at)?;
                 open.nodes.push(at)?;
             }
-            Shape::Alias => open.nodes.push(at)?,
+            Shape::Alias => {
+                self.aliases.push(at)?;
+                open.nodes.push(at)?;
+            }
             Shape::Opens => open.outer.push((at, open.nodes.len()))?,
             Shape::Closes => self.close(open)?,
             Shape::Other => {}
@@ -186,6 +201,7 @@ pub fn lay_out_from(
         roots: Vec::new(alloc),
         firsts: Vec::new(alloc),
         parts: Vec::new(alloc),
+        aliases: Vec::new(alloc),
     };
     let mut open = Open {
         outer: Vec::new(alloc),

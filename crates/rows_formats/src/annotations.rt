@@ -2,7 +2,7 @@
 use crate::runs::{Row, are_told};
 use std::test::Fail;
 
-static ROWS: [Row; 7] = [
+static ROWS: [Row; 8] = [
     Row {
         name: "a difference",
         words: &["diff", "--format=github", "left", "right"],
@@ -18,6 +18,14 @@ static ROWS: [Row; 7] = [
         right: b"a: x\n",
         status: 1,
         out: "::notice file=left,line=2,col=4,title=yamlreview left::.b: only on the left: !!int \"1\"\n",
+    },
+    Row {
+        name: "each place at which an alias shows a change",
+        words: &["diff", "--format=github", "left", "right"],
+        left: b"a: &x 1\nb: *x\n",
+        right: b"a: &x 2\nb: *x\n",
+        status: 1,
+        out: "::notice file=right,line=1,col=7,title=yamlreview changed::.a: changed: !!int \"1\" -> !!int \"2\"\n::notice file=right,line=2,col=4,title=yamlreview changed::.b: changed: !!int \"1\" -> !!int \"2\"\n",
     },
     Row {
         name: "no difference",

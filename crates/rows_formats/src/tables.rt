@@ -2,7 +2,7 @@
 use crate::runs::{Row, are_told};
 use std::test::Fail;
 
-static ROWS: [Row; 4] = [
+static ROWS: [Row; 5] = [
     Row {
         name: "a difference",
         words: &["diff", "--format=markdown", "left", "right"],
@@ -10,6 +10,14 @@ static ROWS: [Row; 4] = [
         right: b"a: y\n",
         status: 1,
         out: "**yamlreview diff** <code>left</code> <code>right</code>\n\n| | path | left | right | left at | right at |\n|---|---|---|---|---|---|\n| changed | <code>&#x2E;a</code> | <code>&#x22;x&#x22;</code> | <code>&#x22;y&#x22;</code> | 1:4 | 1:4 |\n",
+    },
+    Row {
+        name: "each place at which an alias shows a change",
+        words: &["diff", "--format=markdown", "left", "right"],
+        left: b"a: &x p\nb: *x\n",
+        right: b"a: &x q\nb: *x\n",
+        status: 1,
+        out: "**yamlreview diff** <code>left</code> <code>right</code>\n\n| | path | left | right | left at | right at |\n|---|---|---|---|---|---|\n| changed | <code>&#x2E;a</code> | <code>&#x22;p&#x22;</code> | <code>&#x22;q&#x22;</code> | 1:7 | 1:7 |\n| changed | <code>&#x2E;b</code> | <code>&#x22;p&#x22;</code> | <code>&#x22;q&#x22;</code> | 2:4 | 2:4 |\n",
     },
     Row {
         name: "nothing",
