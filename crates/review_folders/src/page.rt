@@ -10,11 +10,13 @@ use review_files::files::read_file;
 use review_files::rejected::{Named, put_not_compared, put_rejection, put_rejections};
 use review_files::telling::{put_line, tell_bare};
 use review_files::unread::{Unread, greater};
-use review_formats::{Finding, Level, Part};
+use review_formats::{Finding, Level, Part, Sides, Sign};
 use review_patterns::Pattern;
 use review_reports::findings::fault_found;
+use review_text::put_visible;
 use std::alloc::Global;
 use std::io::Write;
+use std::str;
 use yaml_command::shelf::Shelf;
 use yaml_command::streams::write_out;
 use yaml_text::counted::Counted;
@@ -23,6 +25,9 @@ use yaml_text::fault::Fault;
 const SAME: u8 = 0;
 
 const DIFFERENT: u8 = 1;
+
+/// How many lines are shown of a file that one folder alone has.
+const FEW: usize = 400;
 
 /// What a page has of a file, what goes to standard error, and the status.
 #[derive(Drop)]
@@ -42,22 +47,70 @@ fn part_with(list: Vec<Finding>) -> Part {
     }
 }
 
-/// A file that one folder alone has.
-fn alone(alloc: Global, path: &str, is_new: bool) -> Result<Finding, Fault> {
-    let message = if is_new {
-        "only on the right"
-    } else {
-        "only on the left"
+/// The lines of a file, with escapes for the characters that would not be seen: of a long file the first ones.
+fn content_of(alloc: Global, bytes: &[u8]) -> Result<String, Fault> {
+    let mut out = String::new(alloc);
+    let text = str::from_utf8(bytes).unwrap_or("");
+    for (number, line) in text
+        .strip_suffix('\n')
+        .unwrap_or(text)
+        .split('\n')
+        .enumerate()
+    {
+        if number == FEW {
+            out.push_str("...\n")?;
+            break;
+        }
+        put_visible(&mut out, line)?;
+        out.push('\n')?;
+    }
+    Ok(out)
+}
+
+/// What a page shows of a file that one folder alone has, if it was read: its lines.
+fn sides_of(
+    alloc: Global,
+    page: Page,
+    sign: Sign,
+    answer: &Result<Vec<u8>, Unread>,
+) -> Result<Option<Sides>, Fault> {
+    if page != Page::Html {
+        return Ok(None);
+    }
+    let Ok(bytes) = answer else {
+        return Ok(None);
     };
+    let content = Some(content_of(alloc, bytes)?);
+    let (left, right) = if sign == Sign::Left {
+        (content, None)
+    } else {
+        (None, content)
+    };
+    Ok(Some(Sides {
+        sign,
+        left,
+        right,
+        left_place: None,
+        right_place: None,
+        changes: None,
+    }))
+}
+
+/// A file that one folder alone has.
+fn alone(alloc: Global, path: &str, sign: Sign, sides: Option<Sides>) -> Result<Finding, Fault> {
     Ok(Finding {
-        rule: if is_new { "new-file" } else { "deleted-file" },
+        rule: if sign == Sign::Left {
+            "deleted-file"
+        } else {
+            "new-file"
+        },
         level: Level::Note,
         file: path.to_string(alloc)?,
         place: None,
         path: None,
-        message: message.to_string(alloc)?,
+        message: sign.says().to_string(alloc)?,
         line: None,
-        sides: None,
+        sides,
     })
 }
 
@@ -78,12 +131,20 @@ fn add_fault(alloc: Global, list: &mut Vec<Finding>, file: Named<'_>) -> Result<
 }
 
 /// What is found of a file that the left folder alone has.
-fn deleted_found(alloc: Global, asked: &Diff<'_>, name: &str) -> Result<Found, Fault>
+fn deleted_found<S: Shelf>(
+    shelf: &S,
+    alloc: Global,
+    asked: &Diff<'_>,
+    page: Page,
+    name: &str,
+) -> Result<Found, Fault>
     ensures { IfOk result (λ found. found.status ≡ 1) }
 {
     let path = path_in(alloc, asked.left, name)?;
+    let answer = read_file(shelf, alloc, path.as_str());
+    let sides = sides_of(alloc, page, Sign::Left, &answer)?;
     let mut list = Vec::new(alloc);
-    list.push(alone(alloc, path.as_str(), false)?)?;
+    list.push(alone(alloc, path.as_str(), Sign::Left, sides)?)?;
     Ok(Found {
         part: part_with(list),
         err: String::new(alloc),
@@ -96,20 +157,22 @@ fn new_found<S: Shelf>(
     shelf: &S,
     alloc: Global,
     asked: &Diff<'_>,
+    page: Page,
     name: &str,
 ) -> Result<Found, Fault>
     ensures { IfOk result (λ found. NewStatus (S.holds shelf.now) asked.now name.now found.status) }
 {
     let path = path_in(alloc, asked.right, name)?;
-    let mut list = Vec::new(alloc);
-    let mut err = String::new(alloc);
-    list.push(alone(alloc, path.as_str(), true)?)?;
     let answer = read_file(shelf, alloc, path.as_str());
     let file = Named {
         name: path.as_str(),
         answer: &answer,
     };
+    let mut err = String::new(alloc);
     let status = put_rejection(alloc, &mut err, file, asked.form)?;
+    let sides = sides_of(alloc, page, Sign::Right, &answer)?;
+    let mut list = Vec::new(alloc);
+    list.push(alone(alloc, path.as_str(), Sign::Right, sides)?)?;
     add_fault(alloc, &mut list, file)?;
     Ok(Found {
         part: part_with(list),
@@ -205,9 +268,9 @@ fn found_of<S: Shelf>(
     ensures { IfOk result (λ found. HasStatus (S.holds shelf.now) entry.entry.has asked.now ignored.now entry.entry.name.now found.status) }
 {
     match entry.has {
-        Has::Left => deleted_found(alloc, asked, entry.name),
+        Has::Left => deleted_found(shelf, alloc, asked, page, entry.name),
         Has::Both => both_found(shelf, alloc, asked, page, ignored, entry.name),
-        Has::Right => new_found(shelf, alloc, asked, entry.name),
+        Has::Right => new_found(shelf, alloc, asked, page, entry.name),
     }
 }
 
