@@ -3,7 +3,7 @@ use review_args::{Diff, Form, Page};
 use review_folders::{Entry, Has, folder_lines, folder_page};
 use std::alloc::Global;
 use std::io;
-use std::process::Abort;
+use std::rt::HostRuntime;
 use std::test::Fail;
 use yaml_command::shelf::Shelf;
 
@@ -169,7 +169,7 @@ const ROWS: [Row; 8] = [
         lines: 9,
         status: 3,
         out: "",
-        err: "yamlreview: old/none: cannot open: no such file\nyamlreview: new/none: cannot open: no such file\n",
+        err: "yamlreview: old/none: cannot open: not found\nyamlreview: new/none: cannot open: not found\n",
     },
     Row {
         name: "a table for each file",
@@ -196,7 +196,7 @@ const ROWS: [Row; 8] = [
 ];
 
 #[test]
-fn folders_are_compared<T: Abort + AllocGlobal>(rt: &T) -> Result<(), Fail> {
+fn folders_are_compared(rt: HostRuntime) -> Result<(), Fail> {
     for row in &ROWS {
         let (status, out, err) = compared(rt.alloc(), row)?;
         let (name, out, err) = (row.name, out.as_str(), err.as_str());
@@ -222,7 +222,7 @@ const SHOWN: [&str; 9] = [
 ];
 
 #[test]
-fn a_page_shows_new_and_deleted_files<T: Abort + AllocGlobal>(rt: &T) -> Result<(), Fail> {
+fn a_page_shows_new_and_deleted_files(rt: HostRuntime) -> Result<(), Fail> {
     let row = Row {
         name: "",
         entries: &[
