@@ -150,7 +150,7 @@ const ROWS: [Row; 8] = [
         page: Some(Page::Markdown),
         lines: 9,
         status: 0,
-        out: "**yamlreview diff** <code>old</code> <code>new&#x2f;</code>\n\nNothing is found.\n",
+        out: "**yamlreview diff** <code>old</code> <code>new&#x2F;</code>\n\nNothing is found.\n",
         err: "",
     },
     Row {
@@ -177,19 +177,19 @@ const ROWS: [Row; 8] = [
         page: Some(Page::Markdown),
         lines: 9,
         status: 1,
-        out: "**yamlreview diff** <code>old</code> <code>new&#x2f;</code>
+        out: "**yamlreview diff** <code>old</code> <code>new&#x2F;</code>
 
 <code>more</code>
 
 | file | at | | path | |
 |---|---|---|---|---|
-| <code>new&#x2f;more</code> | | new&#x2d;file | | <code>only on the right</code> |
+| <code>new&#x2F;more</code> | | new&#x2D;file | | <code>only on the right</code> |
 
 <code>one</code>
 
 | | path | left | right | left at | right at |
 |---|---|---|---|---|---|
-| changed | <code>&#x2e;a</code> | <code>&#x21;&#x21;int &#x22;1&#x22;</code> | <code>&#x21;&#x21;int &#x22;2&#x22;</code> | 1:4 | 1:11 |
+| changed | <code>&#x2E;a</code> | <code>&#x21;&#x21;int &#x22;1&#x22;</code> | <code>&#x21;&#x21;int &#x22;2&#x22;</code> | 1:4 | 1:11 |
 ",
         err: "",
     },
@@ -217,7 +217,7 @@ const SHOWN: [&str; 9] = [
     "<code>old/gone</code>",
     "<pre>a: 1\n</pre>",
     "<code>new/more</code>",
-    "<pre>&#x3c;i&#x3e;: &#x27;&#x26;amp;&#x27;\n</pre>",
+    "<pre>&#x3C;i&#x3E;: &#x27;&#x26;amp;&#x27;\n</pre>",
     "<h2 class=\"file\"><code>one</code></h2>",
 ];
 
