@@ -221,22 +221,23 @@ const SHOWN: [&str; 9] = [
     "<h2 class=\"file\"><code>one</code></h2>",
 ];
 
+const PAGE: Row = Row {
+    name: "",
+    entries: &[
+        ("gone", Has::Left),
+        ("more", Has::Right),
+        ("one", Has::Both),
+    ],
+    page: Some(Page::Html),
+    lines: 9,
+    status: 1,
+    out: "",
+    err: "",
+};
+
 #[test]
 fn a_page_shows_new_and_deleted_files(rt: HostRuntime) -> Result<(), Fail> {
-    let row = Row {
-        name: "",
-        entries: &[
-            ("gone", Has::Left),
-            ("more", Has::Right),
-            ("one", Has::Both),
-        ],
-        page: Some(Page::Html),
-        lines: 9,
-        status: 1,
-        out: "",
-        err: "",
-    };
-    let (status, out, err) = compared(rt.alloc(), &row)?;
+    let (status, out, err) = compared(rt.alloc(), &PAGE)?;
     assert!(rt; status == 1 && err.is_empty());
     let mut rest = out.as_str();
     for text in &SHOWN {
