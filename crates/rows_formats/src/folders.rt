@@ -210,15 +210,15 @@ fn folders_are_compared(rt: HostRuntime) -> Result<(), Fail> {
 
 /// Texts that a page of the folders has, each behind the one before.
 const SHOWN: [&str; 9] = [
-    "<p>3 places are found.</p>",
-    "<h2 class=\"file\"><code>gone</code></h2>",
-    "<h2 class=\"file\"><code>more</code></h2>",
+    "<p>3 places are found",
+    "<code>gone</code>",
+    "<code>more</code>",
     "<main>",
     "<code>old/gone</code>",
     "<pre>a: 1\n</pre>",
     "<code>new/more</code>",
     "<pre>&#x3C;i&#x3E;: &#x27;&#x26;amp;&#x27;\n</pre>",
-    "<h2 class=\"file\"><code>one</code></h2>",
+    "<code>one</code>",
 ];
 
 const PAGE: Row = Row {
