@@ -12,7 +12,8 @@ use review_compare::{compare_sides, list_sides};
 use review_files::files::{NotBoth, read_both};
 use review_files::rejected::{Named, put_not_compared, put_rejections};
 use review_files::unread::Unread;
-use review_folders::{part_of, parts_text};
+use review_folders::{lines_shown, list_found, parts_text};
+use review_formats::Part;
 use review_lines::Listed;
 use review_patterns::Pattern;
 use std::alloc::Global;
@@ -134,7 +135,12 @@ fn listed_text(
         return Ok(String::new(alloc));
     }
     let mut parts = Vec::new(alloc);
-    parts.push(part_of(alloc, asked, page, listed, left, right)?)?;
+    parts.push(Part {
+        name: None,
+        list: list_found(alloc, asked, listed, asked.left, asked.right)?,
+        shown: lines_shown(alloc, page, asked.left, left, asked.right, right)?,
+        whole: listed.whole,
+    })?;
     parts_text(alloc, asked, page, parts)
 }
 

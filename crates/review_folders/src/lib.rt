@@ -13,4 +13,4 @@ pub use host::Host;
 pub use lines::folder_lines;
 pub use names::{are_folders, names_of};
 pub use page::folder_page;
-pub use parts::{part_of, parts_text};
+pub use parts::{lines_shown, list_found, parts_text};

@@ -3,7 +3,7 @@ ghost use Rattle.std.specs.Prelude.{◌≡◌, ◌⊎◌, ◌≤◌, IfOk};
 ghost use Rattle.review_folders.specs.Folders.{BothStatus, NewStatus, HasStatus, FolderStatus, FolderEnds};
 
 use crate::entry::{Entry, Has, path_in, status_of};
-use crate::parts::{part_of, parts_text};
+use crate::parts::{lines_shown, list_found, parts_text};
 use review_args::{Diff, Page};
 use review_compare::{fault_of, list_sides};
 use review_files::files::read_file;
@@ -229,26 +229,21 @@ fn both_found<S: Shelf>(
         let status = put_rejections(alloc, &mut err, first, second, asked.form)?;
         return refused_found(alloc, first, second, err, status);
     };
-    let of_paths = Diff {
-        left: left_path.as_str(),
-        right: right_path.as_str(),
-        places: asked.places,
-        whole: asked.whole,
-        lines: asked.lines,
-        form: asked.form,
-        context: asked.context,
-        color: asked.color,
-        stat: asked.stat,
-        by_position: asked.by_position,
-        by: asked.by,
-        folds: asked.folds,
-    };
-    match list_sides(alloc, &of_paths, ignored, one, other) {
-        Ok(listed) => Ok(Found {
-            part: part_of(alloc, &of_paths, page, &listed, one, other)?,
-            err,
-            status: status_of(listed.same),
-        }),
+    match list_sides(alloc, asked, ignored, one, other) {
+        Ok(listed) => {
+            let (left, right) = (left_path.as_str(), right_path.as_str());
+            let part = Part {
+                name: None,
+                list: list_found(alloc, asked, &listed, left, right)?,
+                shown: lines_shown(alloc, page, left, one, right, other)?,
+                whole: listed.whole,
+            };
+            Ok(Found {
+                part,
+                err,
+                status: status_of(listed.same),
+            })
+        }
         Err((side, _)) => {
             let status = put_not_compared(alloc, &mut err, first, second, side, asked.form)?;
             refused_found(alloc, first, second, err, status)

@@ -1,6 +1,6 @@
 //! Parts of a page: what two files have differently.
 use review_args::{Diff, Page};
-use review_formats::{Finding, Findings, Part, Shown};
+use review_formats::{Finding, Findings, Part, Shown, Sign};
 use review_lines::Listed;
 use review_reports::findings::difference_found;
 use review_reports::pages::page_text;
@@ -9,14 +9,40 @@ use std::alloc::Global;
 use std::str;
 use yaml_text::fault::Fault;
 
-/// What two files have differently, of a list.
-fn findings_of(alloc: Global, asked: &Diff<'_>, listed: &Listed) -> Result<Vec<Finding>, Fault> {
+/// A difference of two files of these names, at the right one unless that has nothing there.
+fn found_in(alloc: Global, found: Finding, left: &str, right: &str) -> Result<Finding, Fault> {
+    let name = match &found.sides {
+        Some(sides) if sides.sign == Sign::Left => left,
+        _ => right,
+    };
+    Ok(Finding {
+        rule: found.rule,
+        level: found.level,
+        file: name.to_string(alloc)?,
+        place: found.place,
+        path: found.path,
+        message: found.message,
+        line: found.line,
+        sides: found.sides,
+    })
+}
+
+/// What two files of these names have differently, of a list.
+pub fn list_found(
+    alloc: Global,
+    asked: &Diff<'_>,
+    listed: &Listed,
+    left: &str,
+    right: &str,
+) -> Result<Vec<Finding>, Fault> {
     let mut list = Vec::new(alloc);
     for line in &listed.lines {
-        list.push(difference_found(alloc, asked, line)?)?;
+        let found = difference_found(alloc, asked, line)?;
+        list.push(found_in(alloc, found, left, right)?)?;
     }
     for line in &listed.moves {
-        list.push(difference_found(alloc, asked, line)?)?;
+        let found = difference_found(alloc, asked, line)?;
+        list.push(found_in(alloc, found, left, right)?)?;
     }
     Ok(list)
 }
@@ -31,27 +57,21 @@ fn shown_of(alloc: Global, name: &str, bytes: &[u8]) -> Result<Shown, Fault> {
     })
 }
 
-/// What two files have differently, and the lines of both if the page shows them.
-pub fn part_of(
+/// The lines of two files of these names, if the page shows them.
+pub fn lines_shown(
     alloc: Global,
-    asked: &Diff<'_>,
     page: Page,
-    listed: &Listed,
+    left_name: &str,
     left: &[u8],
+    right_name: &str,
     right: &[u8],
-) -> Result<Part, Fault> {
-    let shown = if page == Page::Html {
-        let first = shown_of(alloc, asked.left, left)?;
-        Some((first, shown_of(alloc, asked.right, right)?))
-    } else {
-        None
-    };
-    Ok(Part {
-        name: None,
-        list: findings_of(alloc, asked, listed)?,
-        shown,
-        whole: listed.whole,
-    })
+) -> Result<Option<(Shown, Shown)>, Fault> {
+    if page != Page::Html {
+        return Ok(None);
+    }
+    let first = shown_of(alloc, left_name, left)?;
+    let second = shown_of(alloc, right_name, right)?;
+    Ok(Some((first, second)))
 }
 
 /// What two files or folders have differently as a page.

@@ -150,7 +150,7 @@ const ROWS: [Row; 8] = [
         page: Some(Page::Markdown),
         lines: 9,
         status: 0,
-        out: "**yamlreview diff** <code>old</code> <code>new&#x2f;</code>\n\nNothing is found.\n",
+        out: "**yamlreview diff** <code>old</code> <code>new&#x2F;</code>\n\nNothing is found.\n",
         err: "",
     },
     Row {
@@ -177,19 +177,19 @@ const ROWS: [Row; 8] = [
         page: Some(Page::Markdown),
         lines: 9,
         status: 1,
-        out: "**yamlreview diff** <code>old</code> <code>new&#x2f;</code>
+        out: "**yamlreview diff** <code>old</code> <code>new&#x2F;</code>
 
 <code>more</code>
 
 | file | at | | path | |
 |---|---|---|---|---|
-| <code>new&#x2f;more</code> | | new&#x2d;file | | <code>only on the right</code> |
+| <code>new&#x2F;more</code> | | new&#x2D;file | | <code>only on the right</code> |
 
 <code>one</code>
 
 | | path | left | right | left at | right at |
 |---|---|---|---|---|---|
-| changed | <code>&#x2e;a</code> | <code>&#x21;&#x21;int &#x22;1&#x22;</code> | <code>&#x21;&#x21;int &#x22;2&#x22;</code> | 1:4 | 1:11 |
+| changed | <code>&#x2E;a</code> | <code>&#x21;&#x21;int &#x22;1&#x22;</code> | <code>&#x21;&#x21;int &#x22;2&#x22;</code> | 1:4 | 1:11 |
 ",
         err: "",
     },
@@ -210,33 +210,34 @@ fn folders_are_compared(rt: HostRuntime) -> Result<(), Fail> {
 
 /// Texts that a page of the folders has, each behind the one before.
 const SHOWN: [&str; 9] = [
-    "<p>3 places are found.</p>",
-    "<h2 class=\"file\"><code>gone</code></h2>",
-    "<h2 class=\"file\"><code>more</code></h2>",
+    "<p>3 places are found",
+    "<code>gone</code>",
+    "<code>more</code>",
     "<main>",
     "<code>old/gone</code>",
     "<pre>a: 1\n</pre>",
     "<code>new/more</code>",
-    "<pre>&#x3c;i&#x3e;: &#x27;&#x26;amp;&#x27;\n</pre>",
-    "<h2 class=\"file\"><code>one</code></h2>",
+    "<pre>&#x3C;i&#x3E;: &#x27;&#x26;amp;&#x27;\n</pre>",
+    "<code>one</code>",
 ];
+
+const PAGE: Row = Row {
+    name: "",
+    entries: &[
+        ("gone", Has::Left),
+        ("more", Has::Right),
+        ("one", Has::Both),
+    ],
+    page: Some(Page::Html),
+    lines: 9,
+    status: 1,
+    out: "",
+    err: "",
+};
 
 #[test]
 fn a_page_shows_new_and_deleted_files(rt: HostRuntime) -> Result<(), Fail> {
-    let row = Row {
-        name: "",
-        entries: &[
-            ("gone", Has::Left),
-            ("more", Has::Right),
-            ("one", Has::Both),
-        ],
-        page: Some(Page::Html),
-        lines: 9,
-        status: 1,
-        out: "",
-        err: "",
-    };
-    let (status, out, err) = compared(rt.alloc(), &row)?;
+    let (status, out, err) = compared(rt.alloc(), &PAGE)?;
     assert!(rt; status == 1 && err.is_empty());
     let mut rest = out.as_str();
     for text in &SHOWN {
