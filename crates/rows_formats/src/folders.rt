@@ -179,6 +179,7 @@ const ROWS: [Row; 8] = [
         status: 1,
         out: "**yamlreview diff** <code>old</code> <code>new&#x2F;</code>
 
+
 <code>more</code>
 
 | file | at | | path | |
