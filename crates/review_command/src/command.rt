@@ -5,15 +5,14 @@ ghost use Rattle.review_command.specs.Runs.{AsksSum, SumRuns, AsksMerge, Does};
 ghost use Rattle.review_merge.specs.Merges.{no_merge_status};
 
 use crate::diff::{NoDiff, diff, diff_page};
-use crate::folders::folders;
-use crate::host::Host;
-use crate::names::are_folders;
 use clap::Error;
-use review_args::{Asked, Merge, Sum, in_order, read_keys, read_words};
+use review_args::{Asked, Diff, Merge, Page, Sum, in_order, read_keys, read_words};
 use review_files::telling::{UNUSABLE, put_line, tell_bare, tell_unread, tell_usage};
 use review_files::unread::Unread;
+use review_folders::{Host, are_folders, folder_lines, folder_page, names_of};
 use review_git::{git_asked, git_text, put_page};
 use review_merge::{Names, NoMerge, Print, merge3};
+use review_patterns::Pattern;
 use review_reports::pages::pages;
 use review_reports::reports::{Kind, reports};
 use review_show::show_files;
@@ -228,6 +227,31 @@ fn told<W: Write, E: Write>(alloc: Global, error: Error, out: &mut W, err: &mut 
     }
 }
 
+/// Compares the files of two folders, as lines or as a page, and answers the status.
+fn folders<T: Files + AllocGlobal + Clone + Drop, W: Write, E: Write>(
+    rt: &T,
+    alloc: Global,
+    asked: &Diff<'_>,
+    page: Option<Page>,
+    ignored: &[Pattern<'_>],
+    out: &mut W,
+    err: &mut E,
+) -> u8 {
+    let names = match names_of(rt, alloc, asked, err) {
+        Ok(names) => names,
+        Err(status) => return status,
+    };
+    let entries = match names.entries(alloc) {
+        Ok(entries) => entries,
+        Err(fault) => return tell_bare(fault, err),
+    };
+    let shelf = Host::new(rt);
+    match page {
+        None => folder_lines(&shelf, alloc, asked, ignored, &entries, out, err),
+        Some(page) => folder_page(&shelf, alloc, (asked, page), ignored, &entries, out, err),
+    }
+}
+
 /// Runs the command that the words give, without the program's own name, over the files of a shelf, and answers the exit status: 0,
 /// 1 where two files differ or a file has another sum than its list tells, 2 where an input is refused, 3 where the words, a file or
 /// a stream can't be used. The output is no terminal.
@@ -285,9 +309,16 @@ pub fn command<
         }
         Ok(Asked::Diff(asked, ignored)) => {
             if are_folders(rt, &asked) {
-                return folders(rt, alloc, &asked, &ignored, &mut out, &mut err);
+                return folders(rt, alloc, &asked, None, &ignored, &mut out, &mut err);
             }
             let asked = Asked::Diff(asked, ignored);
+            run(&Host::new(rt), alloc, asked, input, out, err)
+        }
+        Ok(Asked::DiffPage(page, asked, ignored)) => {
+            if are_folders(rt, &asked) {
+                return folders(rt, alloc, &asked, Some(page), &ignored, &mut out, &mut err);
+            }
+            let asked = Asked::DiffPage(page, asked, ignored);
             run(&Host::new(rt), alloc, asked, input, out, err)
         }
         Ok(asked) => run(&Host::new(rt), alloc, asked, input, out, err),

@@ -12,15 +12,12 @@ use review_compare::{compare_sides, list_sides};
 use review_files::files::{NotBoth, read_both};
 use review_files::rejected::{Named, put_not_compared, put_rejections};
 use review_files::unread::Unread;
-use review_formats::{Finding, Findings, Part, Shown};
+use review_folders::{lines_shown, list_found, parts_text};
+use review_formats::Part;
 use review_lines::Listed;
 use review_patterns::Pattern;
-use review_reports::findings::difference_found;
-use review_reports::pages::page_text;
-use review_text::put_visible;
 use std::alloc::Global;
 use std::io::{Read, Write};
-use std::str;
 use yaml_canon::Side;
 use yaml_command::shelf::Shelf;
 use yaml_command::streams::write_out;
@@ -125,66 +122,6 @@ pub fn diff<S: Shelf, R: Read, W: Write>(
     }
 }
 
-/// What two files have differently, of a list.
-fn findings_of(alloc: Global, asked: &Diff<'_>, listed: &Listed) -> Result<Vec<Finding>, Fault> {
-    let mut list = Vec::new(alloc);
-    for line in &listed.lines {
-        list.push(difference_found(alloc, asked, line)?)?;
-    }
-    for line in &listed.moves {
-        list.push(difference_found(alloc, asked, line)?)?;
-    }
-    Ok(list)
-}
-
-/// A file of which lines are shown, with escapes for the characters that would not be seen.
-fn shown_of(alloc: Global, name: &str, bytes: &[u8]) -> Result<Shown, Fault> {
-    let mut text = String::new(alloc);
-    put_visible(&mut text, str::from_utf8(bytes).unwrap_or(""))?;
-    Ok(Shown {
-        name: name.to_string(alloc)?,
-        text,
-    })
-}
-
-/// What two files have differently, and the lines of both if the page shows them.
-pub(crate) fn part_of(
-    alloc: Global,
-    told: (&Diff<'_>, Page),
-    listed: &Listed,
-    left: &[u8],
-    right: &[u8],
-) -> Result<Part, Fault> {
-    let (asked, page) = told;
-    let shown = if page == Page::Html {
-        let first = shown_of(alloc, asked.left, left)?;
-        Some((first, shown_of(alloc, asked.right, right)?))
-    } else {
-        None
-    };
-    Ok(Part {
-        name: None,
-        list: findings_of(alloc, asked, listed)?,
-        shown,
-        whole: listed.whole,
-    })
-}
-
-/// What two files or folders have differently as a page.
-pub(crate) fn parts_text(
-    alloc: Global,
-    told: (&Diff<'_>, Page),
-    parts: Vec<Part>,
-) -> Result<String, Fault> {
-    let (asked, page) = told;
-    let found = Findings {
-        command: "diff",
-        names: Some((asked.left.to_string(alloc)?, asked.right.to_string(alloc)?)),
-        parts,
-    };
-    page_text(alloc, page, &found)
-}
-
 /// What two files have differently as a page; nothing where no line is asked for.
 fn listed_text(
     alloc: Global,
@@ -198,8 +135,13 @@ fn listed_text(
         return Ok(String::new(alloc));
     }
     let mut parts = Vec::new(alloc);
-    parts.push(part_of(alloc, (asked, page), listed, left, right)?)?;
-    parts_text(alloc, (asked, page), parts)
+    parts.push(Part {
+        name: None,
+        list: list_found(alloc, asked, listed, asked.left, asked.right)?,
+        shown: lines_shown(alloc, page, asked.left, left, asked.right, right)?,
+        whole: listed.whole,
+    })?;
+    parts_text(alloc, asked, page, parts)
 }
 
 /// The same as `diff`, of which the list of differences is written as a page.

@@ -4,6 +4,3 @@
 pub mod arguments;
 pub mod command;
 pub mod diff;
-mod folders;
-mod host;
-mod names;

@@ -1,4 +1,5 @@
 //! The names of the files in two folders.
+use crate::entry::{Entry, Has, path_in};
 use review_args::Diff;
 use review_files::telling::tell_unread;
 use review_files::unread::Unread;
@@ -19,18 +20,8 @@ fn is_folder<T: Files>(rt: &T, name: &str) -> bool {
 }
 
 /// Whether two folders are compared.
-pub(crate) fn are_folders<T: Files>(rt: &T, asked: &Diff<'_>) -> bool {
+pub fn are_folders<T: Files>(rt: &T, asked: &Diff<'_>) -> bool {
     is_folder(rt, asked.left) && is_folder(rt, asked.right)
-}
-
-/// The path of what has this name in a folder.
-pub(crate) fn path_in(alloc: Global, folder: &str, name: &str) -> Result<String, Fault> {
-    let mut path = folder.to_string(alloc)?;
-    if !folder.ends_with('/') {
-        path.push('/')?;
-    }
-    path.push_str(name)?;
-    Ok(path)
 }
 
 /// Why a folder is not read.
@@ -118,21 +109,22 @@ fn names_in<T: Files + AllocGlobal + Clone + Drop>(
 }
 
 /// The next name of two lists in order: of the left one, of both, or of the right one.
-fn next_of<'n>(left: &'n [String], right: &'n [String]) -> Option<(&'n str, Ordering)> {
+fn next_of<'n>(left: &'n [String], right: &'n [String]) -> Option<Entry<'n>> {
     match (left.first(), right.first()) {
-        (Some(one), Some(other)) => {
-            let order = one.as_str().cmp(other.as_str());
-            let name = if order == Ordering::Greater {
-                other.as_str()
-            } else {
-                one.as_str()
-            };
-            Some((name, order))
-        }
-        (Some(one), None) => Some((one.as_str(), Ordering::Less)),
-        (None, Some(other)) => Some((other.as_str(), Ordering::Greater)),
+        (Some(one), Some(other)) => Some(match one.as_str().cmp(other.as_str()) {
+            Ordering::Less => entry(one.as_str(), Has::Left),
+            Ordering::Equal => entry(one.as_str(), Has::Both),
+            Ordering::Greater => entry(other.as_str(), Has::Right),
+        }),
+        (Some(one), None) => Some(entry(one.as_str(), Has::Left)),
+        (None, Some(other)) => Some(entry(other.as_str(), Has::Right)),
         (None, None) => None,
     }
+}
+
+/// A name that these folders have.
+fn entry<'n>(name: &'n str, has: Has) -> Entry<'n> {
+    Entry { name, has }
 }
 
 /// A list without its first name.
@@ -145,23 +137,36 @@ fn behind<'n>(names: &'n [String]) -> &'n [String] {
 
 /// The names of the files in two folders, each list in order.
 #[derive(Drop)]
-pub(crate) struct BothNames {
+pub struct BothNames {
     left: Vec<String>,
     right: Vec<String>,
 }
 
 impl BothNames {
-    /// The names, of which none is taken yet.
-    pub(crate) fn merged(&self) -> Merged<'_> {
-        Merged {
-            left: self.left.as_slice(),
-            right: self.right.as_slice(),
+    /// The names in order, each once. An error is want of memory.
+    pub fn entries(&self, alloc: Global) -> Result<Vec<Entry<'_>>, Fault> {
+        let mut left = self.left.as_slice();
+        let mut right = self.right.as_slice();
+        let mut entries = Vec::new(alloc);
+        // Each round takes a name away, and the last one finds none.
+        for _ in 0..usize::MAX {
+            let Some(next) = next_of(left, right) else {
+                break;
+            };
+            if next.has != Has::Right {
+                left = behind(left);
+            }
+            if next.has != Has::Left {
+                right = behind(right);
+            }
+            entries.push(next)?;
         }
+        Ok(entries)
     }
 }
 
 /// The names of the files in both folders. Why a folder is not read goes to standard error; the status is given.
-pub(crate) fn names_of<T: Files + AllocGlobal + Clone + Drop, E: Write>(
+pub fn names_of<T: Files + AllocGlobal + Clone + Drop, E: Write>(
     rt: &T,
     alloc: Global,
     asked: &Diff<'_>,
@@ -176,25 +181,4 @@ pub(crate) fn names_of<T: Files + AllocGlobal + Clone + Drop, E: Write>(
         Err(unread) => return Err(tell_unread(alloc, asked.right, unread, err)),
     };
     Ok(BothNames { left, right })
-}
-
-/// What is left of two lists of names, which are taken in order.
-#[derive(Clone, Copy)]
-pub(crate) struct Merged<'n> {
-    left: &'n [String],
-    right: &'n [String],
-}
-
-impl<'n> Merged<'n> {
-    /// Takes the next name: of the left folder alone (`Less`), of both, or of the right one alone (`Greater`).
-    pub(crate) fn take(&mut self) -> Option<(&'n str, Ordering)> {
-        let (name, order) = next_of(self.left, self.right)?;
-        if order != Ordering::Greater {
-            self.left = behind(self.left);
-        }
-        if order != Ordering::Less {
-            self.right = behind(self.right);
-        }
-        Some((name, order))
-    }
 }

@@ -1,0 +1,40 @@
+//! A name of a file in two folders.
+ghost use Rattle.std.specs.Prelude.{◌≡◌, ◌++◌, ◌⊎◌, codes, IfOk, string_bytes, cond};
+ghost use Rattle.review_folders.specs.Folders.{IsPath};
+
+use std::alloc::Global;
+use yaml_text::fault::Fault;
+
+/// Which of two folders have a file of a name.
+#[derive(Clone, Copy, Debug, PartialEq, Eq)]
+pub enum Has {
+    Left,
+    Both,
+    Right,
+}
+
+/// The name of a file, as its path from the folder, and which folders have it.
+#[derive(Clone, Copy)]
+pub struct Entry<'n> {
+    pub name: &'n str,
+    pub has: Has,
+}
+
+/// The path of what has this name in a folder.
+pub(crate) fn path_in(alloc: Global, folder: &str, name: &str) -> Result<String, Fault>
+    ensures { IfOk result (λ path. IsPath folder.now name.now (string_bytes path)) }
+{
+    let mut path = folder.to_string(alloc)?;
+    if !folder.ends_with('/') {
+        path.push('/')?;
+    }
+    path.push_str(name)?;
+    Ok(path)
+}
+
+/// The status of two files that are the same, or differ.
+pub(crate) fn status_of(same: bool) -> u8
+    ensures { result ≡ cond same 0 1 }
+{
+    if same { 0 } else { 1 }
+}
