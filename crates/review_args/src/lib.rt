@@ -6,4 +6,4 @@ pub mod order;
 pub mod words;
 
 pub use order::in_order;
-pub use words::{Asked, Diff, Form, Format, Page, Report, Show, Sum, Warn, read_words};
+pub use words::{Asked, Diff, Form, Format, Page, Paths, Report, Show, Sum, Warn, read_words};

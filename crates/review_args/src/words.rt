@@ -38,6 +38,17 @@ pub enum Page {
     Github,
 }
 
+/// How paths are written.
+#[derive(Clone, Copy, Debug, PartialEq, Eq)]
+pub enum Paths {
+    /// As the pages show them, with both places of an item that moved.
+    Plain,
+    /// As filters of jq.
+    Jq,
+    /// As JSON pointers.
+    JsonPointer,
+}
+
 /// Where two files differ.
 #[derive(Clone, Copy)]
 pub struct Diff<'a> {
@@ -60,6 +71,7 @@ pub struct Diff<'a> {
     pub by_position: bool,
     /// Keys whose values name items, before other names: `spec.id,host`. Empty where none is given.
     pub by: &'a str,
+    pub paths: Paths,
     pub ghost few: { context ≤ 1000 },
 }
 
@@ -173,6 +185,15 @@ fn context_of(matches: &ArgMatches<'_>) -> usize
         .min(CONTEXT)
 }
 
+/// How paths are written.
+fn paths_of(matches: &ArgMatches<'_>) -> Paths {
+    match matches.get_str("paths") {
+        Some("jq") => Paths::Jq,
+        Some("jsonpointer") => Paths::JsonPointer,
+        _ => Paths::Plain,
+    }
+}
+
 /// Whether lines are in colour.
 fn color_of(matches: &ArgMatches<'_>, is_terminal: bool) -> bool {
     match matches.get_str("color") {
@@ -233,6 +254,7 @@ fn diff_of<'a>(matches: &ArgMatches<'a>, is_terminal: bool) -> Diff<'a> {
         stat: matches.get_flag("stat"),
         by_position: matches.get_flag("by-position"),
         by: matches.get_str("by").unwrap_or(""),
+        paths: paths_of(matches),
     }
 }
 

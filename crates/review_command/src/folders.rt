@@ -122,6 +122,7 @@ pub(crate) fn with_names<'n, 'a: 'n>(asked: &Diff<'a>, left: &'n str, right: &'n
         stat: asked.stat,
         by_position: asked.by_position,
         by: asked.by,
+        paths: asked.paths,
     }
 }
 
