@@ -107,9 +107,12 @@ abbrev pub kept_steps : Bool → Way → Way
 kept_steps numbered [] = []
 kept_steps numbered (s ∷ w) = cond numbered (s ∷ w) w
 
+abbrev pub has_dot : List ℕ → Bool
+has_dot [] = false
+has_dot (c ∷ x) = c == 46
+
 abbrev pub dotted : List ℕ → List ℕ
-dotted [] = codes "."
-dotted (c ∷ x) = cond (c == 46) (c ∷ x) (codes "." ++ (c ∷ x))
+dotted text = cond (has_dot text) text (codes "." ++ text)
 
 -- a filter begins with a dot
 abbrev pub begun : Bool → List ℕ → List ℕ

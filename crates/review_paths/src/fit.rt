@@ -104,10 +104,10 @@ fn fits_step(alloc: Global, both: &Both<'_>, step: Step) -> Result<bool, Fault>
 pub(crate) fn fits(alloc: Global, both: &Both<'_>, steps: &[Step]) -> Result<bool, Fault>
     ensures { IfOk result (λ fits. fits ≡ list_all (λ step. fits_step (step_of both.now.graph step)) (reverse steps.now)) }
 {
-    let mut fits = true;
+    let mut all = true;
     'steps: for step in steps.iter().rev() {
         let fit = fits_step(alloc, both, *step)?;
-        fits = fits && fit;
+        all = all && fit;
     }
-    Ok(fits)
+    Ok(all)
 }

@@ -4,7 +4,7 @@ ghost use Rattle.std.specs.List.{list_all, flat_map};
 ghost use Rattle.yaml_graph.specs.declared.graph.Graph.{Graph};
 ghost use Rattle.yaml_rank.specs.RanksView.{RanksAre};
 ghost use Rattle.yaml_diff.specs.Lines.{step_of, way_of};
-ghost use Rattle.review_paths.specs.Pasted.{pasted_step, begun, kept_steps, pasted};
+ghost use Rattle.review_paths.specs.Pasted.{pasted_step, has_dot, dotted, begun, kept_steps, pasted};
 
 use crate::fit::fits;
 use crate::step::put_steps;
@@ -28,17 +28,38 @@ fn kept<'p>(path: &'p [Step], numbered: bool) -> &'p [Step]
     }
 }
 
-/// A filter begins with a dot.
-fn begun(alloc: Global, text: String, is_filter: bool) -> Result<String, Fault>
-    ensures { IfOk result (λ s. string_bytes s ≡ begun is_filter (string_bytes text)) }
+/// Whether a text begins with a dot.
+fn has_dot(text: &str) -> bool
+    ensures { result ≡ has_dot text.now }
 {
-    if !is_filter || text.as_bytes().first() == Some(&b'.') {
+    match text.as_bytes().split_first() {
+        Some((first, _)) => *first == b'.',
+        None => false,
+    }
+}
+
+/// A text with a dot before it, unless it has one.
+fn dotted(alloc: Global, text: String) -> Result<String, Fault>
+    ensures { IfOk result (λ s. string_bytes s ≡ dotted (string_bytes text)) }
+{
+    if has_dot(&text) {
         return Ok(text);
     }
     let mut out = String::new(alloc);
     out.push('.')?;
     out.push_str(&text)?;
     Ok(out)
+}
+
+/// A filter begins with a dot.
+fn begun(alloc: Global, text: String, is_filter: bool) -> Result<String, Fault>
+    ensures { IfOk result (λ s. string_bytes s ≡ begun is_filter (string_bytes text)) }
+{
+    if is_filter {
+        dotted(alloc, text)
+    } else {
+        Ok(text)
+    }
 }
 
 /// A path of differences of two streams as a filter of jq or as a JSON pointer, with the places of items on the left side or on the

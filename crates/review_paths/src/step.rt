@@ -8,7 +8,6 @@ ghost use Rattle.review_paths.specs.Pasted.{side_place, filter_char, pointer_cha
 
 use crate::fit::content_of;
 use review_text::both::Both;
-use review_text::text::put_all;
 use yaml_diff::Step;
 use yaml_graph::node::NodeId;
 use yaml_path::places::Places;
@@ -95,7 +94,9 @@ fn put_filter_key(out: &mut String, content: &str) -> Result<(), Fault>
     ensures { OnOk result (string_bytes out.new ≡ string_bytes out.old ++ filter_key content.now) }
 {
     if is_filter_name(content) {
-        return put_all(out, &[".", content]);
+        out.push('.')?;
+        out.push_str(content)?;
+        return Ok(());
     }
     out.push_str("[\"")?;
     put_escaped(out, content, true)?;
@@ -156,7 +157,11 @@ fn put_step(
 {
     match step {
         Step::Item(places) => put_item(out, side_place(is_left, places), is_filter),
-        Step::Value(key) => put_key(out, content_of(both, key).unwrap_or(""), is_filter),
+        Step::Value(key) => match content_of(both, key) {
+            Some(content) => put_key(out, content, is_filter),
+            // No path with such a key is pasted.
+            None => put_key(out, "", is_filter),
+        },
     }
 }
 
