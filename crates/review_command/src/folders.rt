@@ -123,6 +123,7 @@ pub(crate) fn with_names<'n>(asked: &Diff<'n>, left: &'n str, right: &'n str) ->
         by_position: asked.by_position,
         by: asked.by,
         folds: asked.folds,
+        paths: asked.paths,
     }
 }
 

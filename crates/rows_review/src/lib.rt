@@ -24,6 +24,8 @@ mod moves;
 #[cfg(test)]
 mod names;
 #[cfg(test)]
+mod pasted;
+#[cfg(test)]
 mod places;
 #[cfg(test)]
 mod rejected;

@@ -1,7 +1,7 @@
 //! Every table of runs over two files. A test is proved and paid for, a row is not, so one goes over all tables.
 use crate::runs::{ALL, Given, run};
 use crate::{
-    differences, empty_nodes, faults, folds, git, git_shown, ignored, moves, places, rejected,
+    differences, empty_nodes, faults, folds, git, git_shown, ignored, moves, pasted, places, rejected,
     shown, strings, tag_places, warnings,
 };
 use std::process::Abort;
@@ -39,6 +39,7 @@ fn runs_over_two_files_are_told(rt: HostRuntime) -> Result<(), Fail> {
         &strings::ROWS,
         &moves::ROWS,
         &folds::ROWS,
+        &pasted::ROWS,
         &empty_nodes::ROWS,
         &faults::SYNTAX,
         &faults::MEANINGS,

@@ -1,0 +1,4 @@
+mod KeyLaws
+mod PasteLaws
+mod ReadLaws
+mod SideLaws

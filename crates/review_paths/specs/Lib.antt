@@ -1,0 +1,2 @@
+pub mod Pasted
+pub mod Laws
