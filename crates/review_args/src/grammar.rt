@@ -309,9 +309,10 @@ const DIFF_STATUSES: &str =
   name, id, key, alert, uid, containerPort, path (not of documents)
 Then by what they have in common, and then in turn. A pair that moved has a line `>`.
 
-With --paths=jq and --paths=jsonpointer a path leads to the node in B, and in A where only A has it. Of several documents
-the first step is the number of the document, as `jq --slurp` has it. A path is written as by --paths=plain if it has a key
-that is not a string, has more than 65536 bytes, or has a character that a terminal does not show.
+With --paths=jq and --paths=jsonpointer there are two columns of paths, the path in A and that in B. A side that has no such
+node has `-`. Of several documents the first step is the number of the document, as `jq --slurp` has it. Where a path has a
+key that is not a string, has more than 65536 bytes, or has a character that a terminal does not show, both columns have `!`
+and the path of --paths=plain. JSON and pages have plain paths.
 
 Exit status:
   0  the streams are the same, or differ only at or below paths that are ignored

@@ -200,11 +200,11 @@ fn context_of(matches: &ArgMatches<'_>) -> usize
         .min(CONTEXT)
 }
 
-/// How paths are written.
+/// How paths are written: in columns as it is asked for, and else plain.
 fn paths_of(matches: &ArgMatches<'_>) -> Paths {
-    match matches.get_str("paths") {
-        Some("jq") => Paths::Jq,
-        Some("jsonpointer") => Paths::JsonPointer,
+    match (matches.get_str("format"), matches.get_str("paths")) {
+        (Some("line"), Some("jq")) => Paths::Jq,
+        (Some("line"), Some("jsonpointer")) => Paths::JsonPointer,
         _ => Paths::Plain,
     }
 }

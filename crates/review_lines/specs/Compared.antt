@@ -111,20 +111,24 @@ ShowsChanges g context color d (Some c) = ShowsScript g context color d (string_
 
 -- ---- lines
 
--- only the left side has a node
-abbrev pub is_left : Option NodeId → Option NodeId → Bool
-is_left (Some i) None = true
-is_left _ _ = false
+-- a side has a node: unless only the other one has; where a pair of items moved, both have
+abbrev pub has_left : Option NodeId → Option NodeId → Bool
+has_left None (Some j) = false
+has_left _ _ = true
 
--- a path in the form that is asked for
-abbrev pub path_as : Paths → Bool → Bool → Way → List ℕ
-path_as Plain numbered left w = path_text numbered w
-path_as Jq numbered left w = pasted true numbered left w
-path_as JsonPointer numbered left w = pasted false numbered left w
+abbrev pub has_right : Option NodeId → Option NodeId → Bool
+has_right (Some i) None = false
+has_right _ _ = true
+
+-- a path in the form that is asked for: one text for both sides, or one for each
+abbrev pub path_as : Paths → Bool → Option NodeId → Option NodeId → Way → List ℕ
+path_as Plain numbered left right w = path_text numbered w
+path_as Jq numbered left right w = pasted true numbered (has_left left right) (has_right left right) w
+path_as JsonPointer numbered left right w = pasted false numbered (has_left left right) (has_right left right) w
 
 -- the line has the difference's path, and what is shown of its nodes
 pub record TellsOne (both : Both) (asked : Diff) (d : Difference) (l : Line) : Type 0 where
-  pub path : string_bytes l.path ≡ path_as asked.paths (is_numbered both) (is_left d.left d.right) (way_of both.graph d.path.items)
+  pub path : string_bytes l.path ≡ path_as asked.paths (is_numbered both) d.left d.right (way_of both.graph d.path.items)
   pub nodes : ShowsBoth both.graph (room_of asked.whole) d l.left l.right
   pub changes : ShowsChanges both.graph asked.context asked.color d l.changes
 

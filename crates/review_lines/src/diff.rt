@@ -7,7 +7,7 @@ ghost use Rattle.yaml_diff.specs.Lines.{way_of};
 ghost use Rattle.yaml_diff.specs.Found.{FindsItems};
 ghost use Rattle.review_folds.specs.Folds.{Folds};
 ghost use Rattle.review_lines.specs.Lines.{lines_text};
-ghost use Rattle.review_lines.specs.Compared.{room_of, room_for, search_room, is_numbered, is_left, path_as, ShowsNode, ShowsBoth, TellsOne, TellsEach, TellsMoves, TellsFound, TellsAsked, TellsStreams};
+ghost use Rattle.review_lines.specs.Compared.{room_of, room_for, search_room, is_numbered, has_left, has_right, path_as, ShowsNode, ShowsBoth, TellsOne, TellsEach, TellsMoves, TellsFound, TellsAsked, TellsStreams};
 
 use crate::lines::{Line, put_more};
 use crate::nodes::{Places, find_places, place_at};
@@ -151,13 +151,23 @@ fn is_numbered(both: &Both<'_>) -> bool
     !(both.documents == 1 && both.graph.roots().len() == 2)
 }
 
-/// Whether only the left side has a node, to which a path then leads.
-fn is_left(difference: &Difference) -> bool
-    ensures { result ≡ is_left difference.now.left difference.now.right }
+/// Whether the left side has a node: unless only the right one has. Where a pair of items moved, both have.
+fn has_left(difference: &Difference) -> bool
+    ensures { result ≡ has_left difference.now.left difference.now.right }
 {
     match (difference.left, difference.right) {
-        (Some(_), None) => true,
-        _ => false,
+        (None, Some(_)) => false,
+        _ => true,
+    }
+}
+
+/// The same of the right side.
+fn has_right(difference: &Difference) -> bool
+    ensures { result ≡ has_right difference.now.left difference.now.right }
+{
+    match (difference.left, difference.right) {
+        (Some(_), None) => false,
+        _ => true,
     }
 }
 
@@ -169,15 +179,15 @@ fn path_of(
     paths: Paths,
 ) -> Result<String, Fault>
     requires ranked { RanksAre both.now.graph both.now.ranks }
-    ensures { IfOk result (λ s. string_bytes s ≡ path_as paths (is_numbered both.now) (is_left difference.now.left difference.now.right) (way_of both.now.graph difference.now.path.items)) }
+    ensures { IfOk result (λ s. string_bytes s ≡ path_as paths (is_numbered both.now) difference.now.left difference.now.right (way_of both.now.graph difference.now.path.items)) }
 {
     let numbered = is_numbered(both);
     let path = &difference.path;
-    let left = is_left(difference);
+    let (left, right) = (has_left(difference), has_right(difference));
     match paths {
         Paths::Plain => path_text(alloc, both, path, numbered),
-        Paths::Jq => pasted(alloc, both, path, numbered, true, left),
-        Paths::JsonPointer => pasted(alloc, both, path, numbered, false, left),
+        Paths::Jq => pasted(alloc, both, path, numbered, true, left, right),
+        Paths::JsonPointer => pasted(alloc, both, path, numbered, false, left, right),
     }
 }
 

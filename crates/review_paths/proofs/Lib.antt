@@ -1,4 +1,5 @@
 mod KeyLaws
+mod HighLaws
 mod PasteLaws
-mod ReadLaws
 mod SideLaws
+mod LeadLaws

@@ -2,17 +2,17 @@
 use Rattle.std.proofs.Common.{◌≡◌, ◌&&◌, ℕ, Bool, true, false, List, [], ◌∷◌, ◌++◌, cond, map, reverse, refl, sym, ◌∙◌, ap}
 use Rattle.std.specs.List.{list_all, flat_map}
 use Rattle.std.specs.Char.{encode_utf8}
-use Rattle.std.specs.Str.{IsUtf8, chars, encode_utf8_all}
+use Rattle.std.specs.Str.{encode_utf8_all}
 use Rattle.std.proofs.lemmas.List.{append-nil, append_assoc, map-append, reverse-append}
 use Rattle.std.proofs.lemmas.List.Concat.{flat_map-append}
 use Rattle.std.proofs.lemmas.List.Folds.{list_all-append}
-use Rattle.std.proofs.lemmas.Str.{chars_past_char, chars-nil, encodes-append}
 use Rattle.yaml_graph.specs.declared.graph.Graph.{Graph}
 use Rattle.yaml_diff.specs.Lines.{step_of, way_of}
 use Rattle.yaml_diff.specs.declared.difference.Step as code
 use Rattle.yaml_path.specs.Ways.{Way}
 use Rattle.review_text.proofs.Pieces.{then_more}
 use Rattle.review_paths.specs.Pasted.{escaped_char, escaped, kept_steps}
+use Rattle.review_paths.proofs.HighLaws.{char_same}
 
 -- ---- steps
 
@@ -63,12 +63,12 @@ flat_by_map q f (x ∷ xs) = ap (λ z. q (f x) ++ z) (flat_by_map q f xs)
 -- ---- a text that is written character by character
 
 module _ (b : Bool) where
-  past : (bs rest : List ℕ) (c : ℕ) → IsUtf8 bs → bs ≡ encode_utf8 c ++ rest → escaped b bs ≡ encode_utf8_all (escaped_char b c) ++ escaped b rest
-  past bs rest c u e = ap (λ z. encode_utf8_all (flat_map (escaped_char b) z)) (chars_past_char bs rest c u e) ∙ encodes-append (escaped_char b c) (flat_map (escaped_char b) (chars rest))
+  past : (bs rest : List ℕ) (c : ℕ) → bs ≡ encode_utf8 c ++ rest → escaped b bs ≡ encode_utf8_all (escaped_char b c) ++ escaped b rest
+  past bs rest c e = ap (flat_map (escaped_char b)) e ∙ flat_map-append (escaped_char b) (encode_utf8 c) rest ∙ ap (λ z. z ++ flat_map (escaped_char b) rest) (char_same b c)
 
-  pub escaped_next : (bs rest : List ℕ) (c : ℕ) (o a whole : List ℕ) → IsUtf8 bs → bs ≡ encode_utf8 c ++ rest → o ++ escaped b bs ≡ whole → a ≡ o ++ encode_utf8_all (escaped_char b c) → a ++ escaped b rest ≡ whole
-  escaped_next bs rest c o a whole u e h k =
-      ap (λ z. z ++ escaped b rest) k ∙ append_assoc o (encode_utf8_all (escaped_char b c)) (escaped b rest) ∙ ap (λ z. o ++ z) (sym (past bs rest c u e)) ∙ h
+  pub escaped_next : (bs rest : List ℕ) (c : ℕ) (o a whole : List ℕ) → bs ≡ encode_utf8 c ++ rest → o ++ escaped b bs ≡ whole → a ≡ o ++ encode_utf8_all (escaped_char b c) → a ++ escaped b rest ≡ whole
+  escaped_next bs rest c o a whole e h k =
+      ap (λ z. z ++ escaped b rest) k ∙ append_assoc o (encode_utf8_all (escaped_char b c)) (escaped b rest) ∙ ap (λ z. o ++ z) (sym (past bs rest c e)) ∙ h
 
   pub escaped_all : (bs o whole : List ℕ) → bs ≡ [] → o ++ escaped b bs ≡ whole → o ≡ whole
-  escaped_all bs o whole e h = sym (append-nil o) ∙ ap (λ z. o ++ encode_utf8_all (flat_map (escaped_char b) z)) (sym (ap chars e ∙ chars-nil)) ∙ h
+  escaped_all bs o whole e h = sym (append-nil o) ∙ ap (λ z. o ++ escaped b z) (sym e) ∙ h

@@ -1,7 +1,6 @@
 -- Paths that can be pasted: filters of jq, and JSON pointers (RFC 6901).
 use Rattle.std.specs.Prelude.{ℕ, Bool, true, false, not, ◌&&◌, ◌||◌, ◌==◌, nat_le, cond, List, [], ◌∷◌, ◌++◌, length, codes, bytes_eq, Option, Some, None, unwrap_or}
 use Rattle.std.specs.List.{list_all, flat_map}
-use Rattle.std.specs.Str.{encode_utf8_all, chars}
 use Rattle.std.specs.Fmt.{decimal}
 use Rattle.yaml_definitions.specs.model.Tree.{Tree, scalar, sequence, mapping}
 use Rattle.yaml_definitions.specs.model.Tag.{str_tag}
@@ -57,8 +56,9 @@ pointer_char c = cond (c == 126) (126 ∷ 48 ∷ []) (cond (c == 47) (126 ∷ 49
 abbrev pub escaped_char : Bool → ℕ → List ℕ
 escaped_char is_filter c = cond is_filter (filter_char c) (pointer_char c)
 
+-- of UTF-8: a byte of ASCII is no part of another character
 abbrev pub escaped : Bool → List ℕ → List ℕ
-escaped is_filter x = encode_utf8_all (flat_map (escaped_char is_filter) (chars x))
+escaped is_filter x = flat_map (escaped_char is_filter) x
 
 -- ---- steps
 
@@ -118,7 +118,19 @@ dotted text = cond (has_dot text) text (codes "." ++ text)
 abbrev pub begun : Bool → List ℕ → List ℕ
 begun is_filter text = cond is_filter (dotted text) text
 
--- one step after another, if each fits; else the path as it is written where no other form is asked for
-abbrev pub pasted : Bool → Bool → Bool → Way → List ℕ
-pasted is_filter numbered is_left w =
-    cond (list_all fits_step (kept_steps numbered w)) (begun is_filter (flat_map (pasted_step is_filter is_left) (kept_steps numbered w))) (path_text numbered w)
+-- what is written where a step does not fit: `!`, with which no filter and no pointer begins, and the path as it is written where no other form is asked for
+abbrev pub unfit : Bool → Way → List ℕ
+unfit numbered w = codes "!" ++ path_text numbered w
+
+-- the path on one side: one step after another, if each fits
+abbrev pub side_text : Bool → Bool → Bool → Way → List ℕ
+side_text is_filter numbered is_left w =
+    cond (list_all fits_step (kept_steps numbered w)) (begun is_filter (flat_map (pasted_step is_filter is_left) (kept_steps numbered w))) (unfit numbered w)
+
+-- the same, or `-` if this side has no node there
+abbrev pub column_text : Bool → Bool → Bool → Bool → Way → List ℕ
+column_text is_there is_filter numbered is_left w = cond is_there (side_text is_filter numbered is_left w) (codes "-")
+
+-- both sides, with a tab between them
+abbrev pub pasted : Bool → Bool → Bool → Bool → Way → List ℕ
+pasted is_filter numbered has_left has_right w = column_text has_left is_filter numbered true w ++ (codes "\t" ++ column_text has_right is_filter numbered false w)

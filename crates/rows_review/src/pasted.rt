@@ -23,21 +23,21 @@ const PLAIN: &[u8] = b"{1: 1, \"a\\tb\": 1, \"a\\u202Eb\": 1, [a]: 1}\n";
 
 pub static ROWS: [Row; 12] = [
     Row {
-        name: "a filter leads to the node on the right",
+        name: "a filter for each side",
         words: JQ,
         left: CONTAINERS,
         right: OTHERS,
         status: 1,
-        out: "~\t.spec.containers[0].image\t\"y\"\t\"z\"\n>\t.spec.containers[0]\t\t\n",
+        out: "~\t.spec.containers[1].image\t.spec.containers[0].image\t\"y\"\t\"z\"\n>\t.spec.containers[1]\t.spec.containers[0]\t\t\n",
         err: "",
     },
     Row {
-        name: "a pointer leads to the node on the right",
+        name: "a pointer for each side",
         words: POINTER,
         left: CONTAINERS,
         right: OTHERS,
         status: 1,
-        out: "~\t/spec/containers/0/image\t\"y\"\t\"z\"\n>\t/spec/containers/0\t\t\n",
+        out: "~\t/spec/containers/1/image\t/spec/containers/0/image\t\"y\"\t\"z\"\n>\t/spec/containers/1\t/spec/containers/0\t\t\n",
         err: "",
     },
     Row {
@@ -46,7 +46,7 @@ pub static ROWS: [Row; 12] = [
         left: b"[{name: a, v: 1}, {name: b, v: 2, w: 3}]\n",
         right: b"[{name: b, v: 2}, {name: a, v: 1}]\n",
         status: 1,
-        out: "-\t.[1].w\t!!int \"3\"\t\n>\t.[0]\t\t\n",
+        out: "-\t.[1].w\t-\t!!int \"3\"\t\n>\t.[1]\t.[0]\t\t\n",
         err: "",
     },
     Row {
@@ -91,7 +91,7 @@ pub static ROWS: [Row; 12] = [
         left: b"--- {a: 1}\n--- {b: 1}\n",
         right: b"--- {a: 1}\n--- {b: 2}\n",
         status: 1,
-        out: "~\t.[1].b\t!!int \"1\"\t!!int \"2\"\n",
+        out: "~\t.[1].b\t.[1].b\t!!int \"1\"\t!!int \"2\"\n",
         err: "",
     },
     Row {
@@ -100,7 +100,7 @@ pub static ROWS: [Row; 12] = [
         left: b"--- {a: 1}\n--- {b: 1}\n",
         right: b"--- {a: 1}\n--- {b: 2}\n--- c\n",
         status: 1,
-        out: "~\t/1/b\t!!int \"1\"\t!!int \"2\"\n+\t/2\t\t\"c\"\n",
+        out: "~\t/1/b\t/1/b\t!!int \"1\"\t!!int \"2\"\n+\t-\t/2\t\t\"c\"\n",
         err: "",
     },
     Row {
@@ -109,7 +109,7 @@ pub static ROWS: [Row; 12] = [
         left: b"a\n",
         right: b"b\n",
         status: 1,
-        out: "~\t.\t\"a\"\t\"b\"\n",
+        out: "~\t.\t.\t\"a\"\t\"b\"\n",
         err: "",
     },
     Row {
@@ -118,11 +118,11 @@ pub static ROWS: [Row; 12] = [
         left: b"a\n",
         right: b"b\n",
         status: 1,
-        out: "~\t\t\"a\"\t\"b\"\n",
+        out: "~\t\t\t\"a\"\t\"b\"\n",
         err: "",
     },
     Row {
-        name: "a pointer in JSON",
+        name: "a path in JSON is plain",
         words: &[
             "diff",
             "--no-places",
@@ -134,7 +134,7 @@ pub static ROWS: [Row; 12] = [
         left: b"a/b: 1\n",
         right: b"a/b: 2\n",
         status: 1,
-        out: "{\"kind\":\"changed\",\"left\":\"!!int \\\"1\\\"\",\"left_place\":null,\"path\":\"/a~1b\",\"right\":\"!!int \\\"2\\\"\",\"right_place\":null}\n",
+        out: "{\"kind\":\"changed\",\"left\":\"!!int \\\"1\\\"\",\"left_place\":null,\"path\":\"[\\\"a/b\\\"]\",\"right\":\"!!int \\\"2\\\"\",\"right_place\":null}\n",
         err: "",
     },
 ];

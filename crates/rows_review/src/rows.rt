@@ -1,8 +1,8 @@
 //! Every table of runs over two files. A test is proved and paid for, a row is not, so one goes over all tables.
 use crate::runs::{ALL, Given, run};
 use crate::{
-    differences, empty_nodes, faults, folds, git, git_shown, ignored, moves, pasted, places, rejected,
-    shown, strings, tag_places, warnings,
+    differences, empty_nodes, faults, folds, git, git_shown, ignored, moves, pasted, places,
+    rejected, shown, strings, tag_places, warnings,
 };
 use std::process::Abort;
 use std::test::Fail;
