@@ -51,7 +51,7 @@ struct Row {
     help: &'static str,
 }
 
-const DIFF: [Row; 14] = [
+const DIFF: [Row; 15] = [
     Row {
         id: "A",
         takes: Takes::File,

@@ -19,21 +19,21 @@ use Rattle.review_paths.proofs.SideLaws.{side_step, not_some, leads}
 
 token : (x : List ℕ) → Token (escaped false x) x
 token [] = token_end
-token (c ∷ x) = by (c == 126) (c == 47) refl refl
+token (c ∷ x) = by (token x) (c == 126) (c == 47) refl refl
   where
-    by : (a b : Bool) → (c == 126) ≡ a → (c == 47) ≡ b → Token (cond a (126 ∷ 48 ∷ []) (cond b (126 ∷ 49 ∷ []) (c ∷ [])) ++ escaped false x) (c ∷ x)
-    by true b e f = subst (λ z. Token (126 ∷ 48 ∷ escaped false x) (z ∷ x)) (sym (eqb-true c 126 e)) (tilde (token x))
-    by false true e f = subst (λ z. Token (126 ∷ 49 ∷ escaped false x) (z ∷ x)) (sym (eqb-true c 47 f)) (slash (token x))
-    by false false e f = token_char e f (token x)
+    by : Token (escaped false x) x → (a b : Bool) → (c == 126) ≡ a → (c == 47) ≡ b → Token (cond a (126 ∷ 48 ∷ []) (cond b (126 ∷ 49 ∷ []) (c ∷ [])) ++ escaped false x) (c ∷ x)
+    by r true b e f = subst (λ z. Token (126 ∷ 48 ∷ escaped false x) (z ∷ x)) (sym (eqb-true c 126 e)) (tilde r)
+    by r false true e f = subst (λ z. Token (126 ∷ 49 ∷ escaped false x) (z ∷ x)) (sym (eqb-true c 47 f)) (slash r)
+    by r false false e f = token_char e f r
 
 chars : (x : List ℕ) → Chars (escaped true x) x
 chars [] = string_end
-chars (c ∷ x) = by (c == 34) (c == 92) refl refl
+chars (c ∷ x) = by (chars x) (c == 34) (c == 92) refl refl
   where
-    by : (a b : Bool) → (c == 34) ≡ a → (c == 92) ≡ b → Chars (cond a (92 ∷ 34 ∷ []) (cond b (92 ∷ 92 ∷ []) (c ∷ [])) ++ escaped true x) (c ∷ x)
-    by true b e f = subst (λ z. Chars (92 ∷ 34 ∷ escaped true x) (z ∷ x)) (sym (eqb-true c 34 e)) (quote (chars x))
-    by false true e f = subst (λ z. Chars (92 ∷ 92 ∷ escaped true x) (z ∷ x)) (sym (eqb-true c 92 f)) (backslash (chars x))
-    by false false e f = string_char e f (chars x)
+    by : Chars (escaped true x) x → (a b : Bool) → (c == 34) ≡ a → (c == 92) ≡ b → Chars (cond a (92 ∷ 34 ∷ []) (cond b (92 ∷ 92 ∷ []) (c ∷ [])) ++ escaped true x) (c ∷ x)
+    by r true b e f = subst (λ z. Chars (92 ∷ 34 ∷ escaped true x) (z ∷ x)) (sym (eqb-true c 34 e)) (quote r)
+    by r false true e f = subst (λ z. Chars (92 ∷ 92 ∷ escaped true x) (z ∷ x)) (sym (eqb-true c 92 f)) (backslash r)
+    by r false false e f = string_char e f r
 
 false_not : false ≡ true → ⊥
 false_not e = absurd cc
@@ -43,7 +43,7 @@ key_of : (y : Tree) → fits_step (at_key y) ≡ true → (key : List ℕ) × (y
 key_of (scalar g z) f = by (bytes_eq g str_tag) refl
   where
     by : (b : Bool) → bytes_eq g str_tag ≡ b → (key : List ℕ) × (scalar g z ≡ scalar str_tag key) × (unwrap_or (cond b (Some z) None) [] ≡ key)
-    by true e = (z, (ap (λ h. scalar h z) ((bytes_eq-Decides g str_tag).0 e), refl))
+    by true e = (z, ap (λ h. scalar h z) ((bytes_eq-Decides g str_tag).0 e), refl)
     by false e = absurd (false_not (ap (λ b. fits_content (cond b (Some z) None)) (sym e) ∙ f))
 key_of (sequence g ts) f = absurd cc
 key_of (mapping g ps) f = absurd cc
@@ -58,7 +58,7 @@ first t s p x e = by (part t s) refl e
   where
     by : (o : Option Tree) → part t s ≡ o → reach o p ≡ Some x → (u : Tree) × (part t s ≡ Some u) × (reach (Some u) p ≡ Some x)
     by None h e = absurd (not_some x (sym (nothing p) ∙ e))
-    by (Some u) h e = (u, (h, e))
+    by (Some u) h e = (u, h, e)
 
 some_is : (t x : Tree) → Some t ≡ Some x → t ≡ x
 some_is t x e = cc
@@ -69,13 +69,13 @@ pointer : (l : Bool) (w : Way) (t x : Tree) → list_all fits_step w ≡ true �
 pointer l [] t x f e = subst (λ z. Pointer x [] z) (sym (some_is t x e)) whole
 pointer l (at_places p ∷ w) t x f e =
     let h = first t (at_item (side_place l p)) (map (side_step l) w) x e in
-    item (side_place l p) h.1.0 (pointer l w h.0 x f h.1.1)
+    item (side_place l p) h.1 (pointer l w h.0 x f h.2)
 pointer l (at_key y ∷ w) t x f e =
     let k = key_of y (and_parts (fits_step (at_key y)) (list_all fits_step w) f).0 in
     let h = first t (plain.at_key y) (map (side_step l) w) x e in
-    let there : member t k.0 ≡ Some h.0 = ap (λ z. part t (plain.at_key z)) (sym k.1.0) ∙ h.1.0 in
-    let rest = pointer l w h.0 x (and_parts (fits_step (at_key y)) (list_all fits_step w) f).1 h.1.1 in
-    subst (λ z. Pointer x ((pointer_key z) ++ flat_map (pasted_step false l) w) t) (sym k.1.1) (value (token k.0) there rest)
+    let there : member t k.0 ≡ Some h.0 = ap (λ z. part t (plain.at_key z)) (sym k.1) ∙ h.1 in
+    let rest = pointer l w h.0 x (and_parts (fits_step (at_key y)) (list_all fits_step w) f).1 h.2 in
+    subst (λ z. Pointer x ((pointer_key z) ++ flat_map (pasted_step false l) w) t) (sym k.2) (value (token k.0) there rest)
 
 pub pointers_lead : PointersLead
 pointers_lead l n t w x f e =
@@ -87,7 +87,7 @@ key_suffix : (key r : List ℕ) (t u x : Tree) → member t key ≡ Some u → S
 key_suffix key r t u x e s = by (is_filter_name key) refl
   where
     by : (b : Bool) → is_filter_name key ≡ b → Suffixes x (cond b (codes "." ++ key) (codes "[\"" ++ (escaped true key ++ codes "\"]")) ++ r) t
-    by true h = field h e s
+    by true h = field key h e s
     by false h = subst (λ z. Suffixes x (codes "[\"" ++ z) t) (sym (append_assoc (escaped true key) (codes "\"]") r)) (quoted (chars key) e s)
 
 suffixes : (l : Bool) (w : Way) (t x : Tree) → list_all fits_step w ≡ true → reach (Some t) (map (side_step l) w) ≡ Some x → Suffixes x (flat_map (pasted_step true l) w) t
@@ -95,13 +95,13 @@ suffixes l [] t x f e = subst (λ z. Suffixes x [] z) (sym (some_is t x e)) no_s
 suffixes l (at_places p ∷ w) t x f e =
     let h = first t (at_item (side_place l p)) (map (side_step l) w) x e in
     let r = flat_map (pasted_step true l) w in
-    subst (λ z. Suffixes x (codes "[" ++ z) t) (sym (append_assoc (decimal (side_place l p)) (codes "]") r)) (index (side_place l p) h.1.0 (suffixes l w h.0 x f h.1.1))
+    subst (λ z. Suffixes x (codes "[" ++ z) t) (sym (append_assoc (decimal (side_place l p)) (codes "]") r)) (index (side_place l p) h.1 (suffixes l w h.0 x f h.2))
 suffixes l (at_key y ∷ w) t x f e =
     let k = key_of y (and_parts (fits_step (at_key y)) (list_all fits_step w) f).0 in
     let h = first t (plain.at_key y) (map (side_step l) w) x e in
-    let there : member t k.0 ≡ Some h.0 = ap (λ z. part t (plain.at_key z)) (sym k.1.0) ∙ h.1.0 in
-    let rest = suffixes l w h.0 x (and_parts (fits_step (at_key y)) (list_all fits_step w) f).1 h.1.1 in
-    subst (λ z. Suffixes x ((filter_key z) ++ flat_map (pasted_step true l) w) t) (sym k.1.1) (key_suffix k.0 (flat_map (pasted_step true l) w) t h.0 x there rest)
+    let there : member t k.0 ≡ Some h.0 = ap (λ z. part t (plain.at_key z)) (sym k.1) ∙ h.1 in
+    let rest = suffixes l w h.0 x (and_parts (fits_step (at_key y)) (list_all fits_step w) f).1 h.2 in
+    subst (λ z. Suffixes x ((filter_key z) ++ flat_map (pasted_step true l) w) t) (sym k.2) (key_suffix k.0 (flat_map (pasted_step true l) w) t h.0 x there rest)
 
 filter : (s : List ℕ) (t x : Tree) → Suffixes x s t → Filter x (dotted s) t
 filter s t x h = by (has_dot s) refl

@@ -38,7 +38,7 @@ pub data Chars : List ℕ → List ℕ → Type 0 where
 pub data Suffixes (x : Tree) : List ℕ → Tree → Type 0 where
   no_suffix : Suffixes x [] x
   index : (k : ℕ) {r : List ℕ} {t u : Tree} → part t (at_item k) ≡ Some u → Suffixes x r u → Suffixes x (codes "[" ++ (decimal k ++ (codes "]" ++ r))) t
-  field : {name r : List ℕ} {t u : Tree} → is_filter_name name ≡ true → member t name ≡ Some u → Suffixes x r u → Suffixes x (codes "." ++ (name ++ r)) t
+  field : (name : List ℕ) {r : List ℕ} {t u : Tree} → is_filter_name name ≡ true → member t name ≡ Some u → Suffixes x r u → Suffixes x (codes "." ++ (name ++ r)) t
   quoted : {s key r : List ℕ} {t u : Tree} → Chars s key → member t key ≡ Some u → Suffixes x r u → Suffixes x (codes "[\"" ++ (s ++ (codes "\"]" ++ r))) t
 
 -- a path: `.` before the first suffix, unless that begins with it

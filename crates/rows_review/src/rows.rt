@@ -33,7 +33,7 @@ fn is_told<T: Abort + AllocGlobal>(rt: &T, row: &Row) -> Result<(), Fail> {
 
 #[test]
 fn runs_over_two_files_are_told(rt: HostRuntime) -> Result<(), Fail> {
-    let tables: [&[Row]; 22] = [
+    let tables: [&[Row]; 23] = [
         &differences::ROWS,
         &ignored::ROWS,
         &strings::ROWS,
