@@ -1,5 +1,5 @@
 -- What is written for a side is read as its steps.
-use Rattle.std.proofs.Common.{◌≡◌, ◌==◌, ◌&&◌, ℕ, Bool, true, false, List, [], ◌∷◌, ◌++◌, cond, map, refl, sym, ◌∙◌, ap, subst, append_assoc}
+use Rattle.std.proofs.Common.{◌≡◌, ◌==◌, ℕ, Bool, true, false, List, [], ◌∷◌, ◌++◌, cond, map, refl, sym, ◌∙◌, ap, subst, append_assoc}
 use Rattle.std.specs.Prelude.{Option, Some, None, codes, bytes_eq, unwrap_or}
 use Rattle.std.specs.List.{list_all, flat_map}
 use Rattle.std.specs.Fmt.{decimal}
@@ -10,7 +10,7 @@ use Rattle.yaml_definitions.specs.model.Tag.{str_tag}
 use Rattle.yaml_path.specs.Path.{part, reach, at_item}
 use Rattle.yaml_path.specs.Path as plain
 use Rattle.yaml_path.specs.Ways.{Way, at_places, at_key}
-use Rattle.review_paths.specs.Pasted.{str_content, fits_step, fits_content, escaped, escaped_char, side_place, pasted_step, filter_key, pointer_key, is_filter_name, kept_steps, begun, dotted, has_dot, unfit, side_text}
+use Rattle.review_paths.specs.Pasted.{str_content, fits_step, fits_content, escaped, side_place, pasted_step, filter_key, pointer_key, is_filter_name, kept_steps, dotted, has_dot, unfit}
 use Rattle.review_paths.specs.Reading.{member, Token, token_end, tilde, slash, token_char, Pointer, whole, item, value, Chars, string_end, quote, backslash, string_char, Suffixes, no_suffix, index, field, quoted, Filter, by_field, by_dot}
 use Rattle.review_paths.specs.Laws.{PointersLead, FiltersLead}
 use Rattle.review_paths.proofs.SideLaws.{side_step, not_some, leads}

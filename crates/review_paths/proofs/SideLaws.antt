@@ -1,5 +1,5 @@
 -- The steps of a way on one side lead to the tree to which the way leads there.
-use Rattle.std.proofs.Common.{◌≡◌, Bool, true, false, List, [], ◌∷◌, map, refl, sym, ◌∙◌}
+use Rattle.std.proofs.Common.{◌≡◌, Bool, true, false, [], ◌∷◌, map, refl, sym, ◌∙◌}
 use Rattle.std.specs.Prelude.{Option, Some, None}
 use Rattle.yaml_definitions.specs.model.Tree.{Tree}
 use Rattle.yaml_path.specs.Path as plain
