@@ -22,6 +22,8 @@ enum Takes {
     Color,
     /// Patterns of paths.
     Paths,
+    /// How paths are written.
+    Spelling,
     /// A number of lines.
     Lines,
     /// One of two words, of which the first one is taken if none is given.
@@ -49,7 +51,7 @@ struct Row {
     help: &'static str,
 }
 
-const DIFF: [Row; 14] = [
+const DIFF: [Row; 15] = [
     Row {
         id: "A",
         takes: Takes::File,
@@ -114,6 +116,11 @@ const DIFF: [Row; 14] = [
         id: "ignore",
         takes: Takes::Paths,
         help: "Leave out what is at or below PATH: steps as they are printed, `*` for any step; repeatable",
+    },
+    Row {
+        id: "paths",
+        takes: Takes::Spelling,
+        help: "How paths are written: as filters of jq, as JSON pointers (RFC 6901), or `plain`",
     },
     FORM,
 ];
@@ -245,6 +252,8 @@ const FORMATS: [&str; 2] = ["yaml", "json"];
 
 const COLORS: [&str; 3] = ["auto", "always", "never"];
 
+const SPELLINGS: [&str; 3] = ["plain", "jq", "jsonpointer"];
+
 /// A number of lines, at most so many.
 fn number<'a>(arg: Arg<'a>, row: &Row, most: u64) -> Arg<'a> {
     arg.long(row.id)
@@ -276,6 +285,9 @@ fn arg_of<'a>(alloc: Global, row: &Row) -> Result<Arg<'a>, AllocError> {
         Takes::Around(letter) => Ok(number(arg, row, 1_000).short(letter).default_value("0")),
         Takes::Color => Ok(one_of(arg, row, "WHEN", COLORS.as_slice()).default_value("auto")),
         Takes::Paths => Ok(texts(arg, row, "PATH")),
+        Takes::Spelling => {
+            Ok(one_of(arg, row, "HOW", SPELLINGS.as_slice()).default_value(SPELLINGS[0]))
+        }
         Takes::Spelled => Ok(texts(arg, row, "WORD")),
         Takes::Form => Ok(one_of(arg, row, "FORM", FORMS.as_slice()).default_value(FORMS[0])),
         Takes::OneOf(name, words) => {
@@ -311,6 +323,11 @@ const DIFF_STATUSES: &str =
   apiVersion (without its version), kind, metadata.namespace, metadata.name
   name, id, key, alert, uid, containerPort, path (not of documents)
 Then by what they have in common, and then in turn. A pair that moved has a line `>`.
+
+With --paths=jq and --paths=jsonpointer there are two columns of paths, the path in A and that in B. A side that has no such
+node has `-`. Of several documents the first step is the number of the document, as `jq --slurp` has it. Where a path has a
+key that is not a string, has more than 65536 bytes, or has a character that a terminal does not show, both columns have `!`
+and the path of --paths=plain. JSON and pages have plain paths.
 
 Exit status:
   0  the streams are the same, or differ only at or below paths that are ignored

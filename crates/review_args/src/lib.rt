@@ -7,5 +7,5 @@ pub mod words;
 
 pub use order::in_order;
 pub use words::{
-    Asked, Diff, Form, Format, Merge, Page, Report, Show, Sum, Warn, read_keys, read_words,
+    Asked, Diff, Form, Format, Merge, Page, Paths, Report, Show, Sum, Warn, read_keys, read_words,
 };

@@ -38,6 +38,17 @@ pub enum Page {
     Github,
 }
 
+/// How paths are written.
+#[derive(Clone, Copy, Debug, PartialEq, Eq)]
+pub enum Paths {
+    /// As the pages show them, with both places of an item that moved.
+    Plain,
+    /// As filters of jq.
+    Jq,
+    /// As JSON pointers.
+    JsonPointer,
+}
+
 /// Where two files differ.
 #[derive(Clone, Copy)]
 pub struct Diff<'a> {
@@ -62,6 +73,8 @@ pub struct Diff<'a> {
     pub by: &'a [&'a str],
     /// Whether one line tells all differences of one node for which aliases stand.
     pub folds: bool,
+    /// How paths are written in columns. In JSON and on pages they are plain.
+    pub paths: Paths,
     pub ghost few: { context ≤ 1000 },
 }
 
@@ -193,6 +206,15 @@ fn context_of(matches: &ArgMatches<'_>) -> usize
         .min(CONTEXT)
 }
 
+/// How paths are written: in columns as it is asked for, and else plain.
+fn paths_of(matches: &ArgMatches<'_>) -> Paths {
+    match (matches.get_str("format"), matches.get_str("paths")) {
+        (Some("line"), Some("jq")) => Paths::Jq,
+        (Some("line"), Some("jsonpointer")) => Paths::JsonPointer,
+        _ => Paths::Plain,
+    }
+}
+
 /// Whether lines are in colour.
 fn color_of(matches: &ArgMatches<'_>, is_terminal: bool) -> bool {
     match matches.get_str("color") {
@@ -259,6 +281,7 @@ fn diff_of<'a>(matches: &ArgMatches<'a>, by: &'a [&'a str], is_terminal: bool) -
         by_position: matches.get_flag("by-position"),
         by,
         folds: folds_of(matches),
+        paths: paths_of(matches),
     }
 }
 

@@ -1,6 +1,7 @@
 -- The lines of differences as JSON.
 use Rattle.std.specs.Prelude.{◌≡◌, ℕ, Bool, true, false, List, []}
 use Rattle.review_args.specs.declared.words.Form.TheVariants.{Json}
+use Rattle.review_args.specs.declared.words.Paths.TheVariants.{Plain}
 use Rattle.review_args.specs.declared.words.Diff.{Diff}
 use Rattle.review_compare.specs.Compared.{DiffLines}
 
@@ -16,6 +17,7 @@ pub record AsksJson (lines : ℕ) (asked : Diff) : Type 0 where
   pub by_rules : asked.by_position ≡ false
   pub no_keys : asked.by.now ≡ []
   pub unfolded : asked.folds ≡ false
+  pub plain_paths : asked.paths ≡ Plain
 
 -- The text is the lines of JSON of the differences of two streams of these bytes, of at most so many; and whether there are none.
 pub record JsonLines (left right : List ℕ) (lines : ℕ) (none : Bool) (text : List ℕ) : Type 0 where

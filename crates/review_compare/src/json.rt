@@ -10,7 +10,7 @@ ghost use Rattle.yaml_canon.specs.FaultPlaces.{TellsSidesPlace};
 ghost use Rattle.review_compare.specs.Json.{AsksJson, JsonLines};
 
 use crate::both::compare_sides;
-use review_args::{Diff, Form};
+use review_args::{Diff, Form, Paths};
 use review_lines::Compared;
 use std::alloc::Global;
 use yaml_canon::{Side, same};
@@ -33,6 +33,7 @@ fn asked_json(lines: usize) -> Diff<'static>
         by_position: false,
         by: &[],
         folds: false,
+        paths: Paths::Plain,
     }
 }
 

@@ -147,6 +147,7 @@ fn with_names<'n>(asked: &Diff<'n>, left: &'n str, right: &'n str) -> Diff<'n>
         by_position: asked.by_position,
         by: asked.by,
         folds: asked.folds,
+        paths: asked.paths,
     }
 }
 

@@ -1,6 +1,6 @@
 //! What git passes to an external diff.
 use crate::git_show::put_shown_lines;
-use review_args::{Diff, Form};
+use review_args::{Diff, Form, Paths};
 use review_compare::compare_sides;
 use review_files::files::read_file;
 use review_files::rejected::{Named, put_not_compared, put_rejection, put_rejections};
@@ -253,6 +253,7 @@ fn lines_of<'n>(left: &'n str, right: &'n str) -> Diff<'n> {
         by_position: false,
         by: &[],
         folds: true,
+        paths: Paths::Plain,
     }
 }
 

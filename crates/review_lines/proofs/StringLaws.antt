@@ -16,14 +16,13 @@ use Rattle.yaml_graph.specs.declared.graph.Graph.{Graph}
 use Rattle.yaml_diff.specs.declared.difference.Difference.{Difference}
 use Rattle.review_text.specs.Shown.{front}
 use Rattle.review_lines.specs.Lines.{Text}
-use Rattle.review_lines.specs.Compared.{room_of, is_numbered, IsScalar, SameTexts, SameFronts, ShowsNode, ShowsBoth, ShowsParts, ShowsScript, ShowsChanges, TellsOne, part_text}
+use Rattle.review_lines.specs.Compared.{room_of, is_numbered, path_as, IsScalar, SameTexts, SameFronts, ShowsNode, ShowsBoth, ShowsParts, ShowsScript, ShowsChanges, TellsOne, part_text}
 use Rattle.review_lines.specs.declared.lines.Line.{Line}
 use Rattle.yaml_script.specs.Script.{IsScript}
 use Rattle.yaml_script.specs.Printed.{script_text}
 use Rattle.yaml_script.specs.declared.script.Edit.{Edit}
 use Rattle.yaml_diff.specs.Lines.{way_of}
 use Rattle.review_args.specs.declared.words.Diff.{Diff}
-use Rattle.review_text.specs.PathText.{path_text}
 use Rattle.review_text.specs.declared.both.Both.{Both}
 
 -- the node of this number is this scalar
@@ -78,10 +77,10 @@ script_told g context color d tag one other edits slice text l r s e h = record 
   is = h ∙ ap (script_text context color) e;
 }
 
-pub one_told : (both : Both) (asked : Diff) (d : Difference) (l : Line) (numbered : Bool) (room : ℕ) → numbered ≡ is_numbered both → room ≡ room_of asked.whole → string_bytes l.path ≡ path_text numbered (way_of both.graph d.path.items) → ShowsBoth both.graph room d l.left l.right
+pub one_told : (both : Both) (asked : Diff) (d : Difference) (l : Line) (room : ℕ) → room ≡ room_of asked.whole → string_bytes l.path ≡ path_as asked.paths (is_numbered both) d.left d.right (way_of both.graph d.path.items) → ShowsBoth both.graph room d l.left l.right
     → ShowsChanges both.graph asked.context asked.color d l.changes → TellsOne both asked d l
-one_told both asked d l numbered room n m p b c = record {
-  path = p ∙ ap (λ z. path_text z (way_of both.graph d.path.items)) n;
+one_told both asked d l room m p b c = record {
+  path = p;
   nodes = subst (λ z. ShowsBoth both.graph z d l.left l.right) m b;
   changes = c;
 }

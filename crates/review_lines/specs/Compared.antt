@@ -1,10 +1,11 @@
 -- What is told of two streams as text.
-use Rattle.std.specs.Prelude.{◌≡◌, ◌⊎◌, ◌==◌, ◌&&◌, ◌||◌, ℕ, zero, suc, Bool, false, not, cond, nat_le, nat_lt, take, drop, map, length, List, [], ◌∷◌, ◌++◌, Option, Some, None, codes, string_bytes}
+use Rattle.std.specs.Prelude.{◌≡◌, ◌⊎◌, ◌==◌, ◌&&◌, ◌||◌, ℕ, zero, suc, Bool, true, false, not, cond, nat_le, nat_lt, take, drop, map, length, List, [], ◌∷◌, ◌++◌, Option, Some, None, codes, string_bytes}
 use Rattle.yaml_definitions.specs.model.Tree.{scalar}
 use Rattle.yaml_scalar.specs.Spelling.{quoted_bytes}
 use Rattle.yaml_graph.specs.GraphView.{roots_of, tree}
 use Rattle.yaml_graph.specs.declared.node.NodeId.{NodeId}
 use Rattle.yaml_graph.specs.declared.graph.Graph.{Graph}
+use Rattle.yaml_path.specs.Ways.{Way}
 use Rattle.yaml_diff.specs.Lines.{way_of, line_of}
 use Rattle.yaml_diff.specs.Moves.{moved_line}
 use Rattle.yaml_diff.specs.Found.{FindsItems, moves_of}
@@ -20,6 +21,9 @@ use Rattle.review_folds.specs.Folds.{Folds}
 use Rattle.review_text.specs.Shown.{front, shown}
 use Rattle.review_text.specs.NodeText.{text_of}
 use Rattle.review_text.specs.PathText.{path_text}
+use Rattle.review_paths.specs.Pasted.{pasted}
+use Rattle.review_args.specs.declared.words.Paths.{Paths}
+use Rattle.review_args.specs.declared.words.Paths.TheVariants.{Plain, Jq, JsonPointer}
 use Rattle.review_text.specs.declared.both.Both.{Both}
 use Rattle.review_lines.specs.Lines.{Text, lines_text, more_text}
 use Rattle.review_lines.specs.declared.lines.Changes.{Changes}
@@ -107,9 +111,24 @@ ShowsChanges g context color d (Some c) = ShowsScript g context color d (string_
 
 -- ---- lines
 
+-- a side has a node: unless only the other one has; where a pair of items moved, both have
+abbrev pub has_left : Option NodeId → Option NodeId → Bool
+has_left None (Some j) = false
+has_left _ _ = true
+
+abbrev pub has_right : Option NodeId → Option NodeId → Bool
+has_right (Some i) None = false
+has_right _ _ = true
+
+-- a path in the form that is asked for: one text for both sides, or one for each
+abbrev pub path_as : Paths → Bool → Option NodeId → Option NodeId → Way → List ℕ
+path_as Plain numbered left right w = path_text numbered w
+path_as Jq numbered left right w = pasted true numbered (has_left left right) (has_right left right) w
+path_as JsonPointer numbered left right w = pasted false numbered (has_left left right) (has_right left right) w
+
 -- the line has the difference's path, and what is shown of its nodes
 pub record TellsOne (both : Both) (asked : Diff) (d : Difference) (l : Line) : Type 0 where
-  pub path : string_bytes l.path ≡ path_text (is_numbered both) (way_of both.graph d.path.items)
+  pub path : string_bytes l.path ≡ path_as asked.paths (is_numbered both) d.left d.right (way_of both.graph d.path.items)
   pub nodes : ShowsBoth both.graph (room_of asked.whole) d l.left l.right
   pub changes : ShowsChanges both.graph asked.context asked.color d l.changes
 

@@ -3,18 +3,20 @@ ghost use Rattle.std.specs.Prelude.{◌≡◌, ◌↔◌, ◌<◌, ◌≤◌, �
 ghost use Rattle.yaml_definitions.specs.model.Same.{Alike};
 ghost use Rattle.yaml_graph.specs.GraphView.{roots_of, tree};
 ghost use Rattle.yaml_rank.specs.RanksView.{RanksAre};
+ghost use Rattle.yaml_diff.specs.Lines.{way_of};
 ghost use Rattle.yaml_diff.specs.Found.{FindsItems};
 ghost use Rattle.review_folds.specs.Folds.{Folds};
 ghost use Rattle.review_lines.specs.Lines.{lines_text};
-ghost use Rattle.review_lines.specs.Compared.{room_of, room_for, search_room, is_numbered, ShowsNode, ShowsBoth, TellsOne, TellsEach, TellsMoves, TellsFound, TellsAsked, TellsStreams};
+ghost use Rattle.review_lines.specs.Compared.{room_of, room_for, search_room, is_numbered, has_left, has_right, path_as, ShowsNode, ShowsBoth, TellsOne, TellsEach, TellsMoves, TellsFound, TellsAsked, TellsStreams};
 
 use crate::lines::{Line, put_more};
 use crate::nodes::{Places, find_places, place_at};
 use crate::stat::stat_text;
 use crate::strings::{Budget, changed_lines, differing_parts};
-use review_args::Diff;
+use review_args::{Diff, Paths};
 use review_folds::counts;
 use review_ignore::kept;
+use review_paths::pasted;
 use review_patterns::Pattern;
 use review_places::trace::Traced;
 use review_text::both::Both;
@@ -149,6 +151,46 @@ fn is_numbered(both: &Both<'_>) -> bool
     !(both.documents == 1 && both.graph.roots().len() == 2)
 }
 
+/// Whether the left side has a node: unless only the right one has. Where a pair of items moved, both have.
+fn has_left(difference: &Difference) -> bool
+    ensures { result ≡ has_left difference.now.left difference.now.right }
+{
+    match (difference.left, difference.right) {
+        (None, Some(_)) => false,
+        _ => true,
+    }
+}
+
+/// The same of the right side.
+fn has_right(difference: &Difference) -> bool
+    ensures { result ≡ has_right difference.now.left difference.now.right }
+{
+    match (difference.left, difference.right) {
+        (Some(_), None) => false,
+        _ => true,
+    }
+}
+
+/// The path of a difference in the form that is asked for.
+fn path_of(
+    alloc: Global,
+    both: &Both<'_>,
+    difference: &Difference,
+    paths: Paths,
+) -> Result<String, Fault>
+    requires ranked { RanksAre both.now.graph both.now.ranks }
+    ensures { IfOk result (λ s. string_bytes s ≡ path_as paths (is_numbered both.now) difference.now.left difference.now.right (way_of both.now.graph difference.now.path.items)) }
+{
+    let numbered = is_numbered(both);
+    let path = &difference.path;
+    let (left, right) = (has_left(difference), has_right(difference));
+    match paths {
+        Paths::Plain => path_text(alloc, both, path, numbered),
+        Paths::Jq => pasted(alloc, both, path, numbered, true, left, right),
+        Paths::JsonPointer => pasted(alloc, both, path, numbered, false, left, right),
+    }
+}
+
 /// The line of a difference, with these places of its nodes, which tells so many differences.
 #[tactic(auto, using(crate::proofs::StringLaws::one_told))]
 fn line_of(
@@ -164,7 +206,7 @@ fn line_of(
     ensures one { IfOk result (TellsOne both.now asked.now difference.now) }
     ensures count { IfOk result (λ line. line.count ≡ count) }
 {
-    let path = path_text(alloc, both, &difference.path, is_numbered(both))?;
+    let path = path_of(alloc, both, difference, asked.paths)?;
     let nodes = shown_both(alloc, both, difference, room_of(asked.whole), budget)?;
     let lines = changed_lines(alloc, both, difference, asked, budget)?;
     Ok(Line {

@@ -1,5 +1,5 @@
 //! Two folders in memory, as lines and as a page, by the names of their files.
-use review_args::{Diff, Form, Page};
+use review_args::{Diff, Form, Page, Paths};
 use review_folders::{Entry, Has, folder_lines, folder_page};
 use std::alloc::Global;
 use std::io;
@@ -64,6 +64,7 @@ fn compared(alloc: Global, row: &Row) -> Result<(u8, String, String), Fail> {
         by_position: false,
         by: &[],
         folds: true,
+        paths: Paths::Plain,
     };
     let (mut out, mut err) = (Vec::new(alloc), Vec::new(alloc));
     let status = match row.page {

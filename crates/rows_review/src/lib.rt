@@ -26,6 +26,8 @@ mod moves;
 #[cfg(test)]
 mod names;
 #[cfg(test)]
+mod pasted;
+#[cfg(test)]
 mod places;
 #[cfg(test)]
 mod rejected;

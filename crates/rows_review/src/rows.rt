@@ -1,8 +1,8 @@
 //! Every table of runs over two files. A test is proved and paid for, a row is not, so one goes over all tables.
 use crate::runs::{ALL, Given, run};
 use crate::{
-    differences, empty_nodes, faults, folds, git, git_shown, ignored, moves, places, rejected,
-    shown, strings, tag_places, warnings,
+    differences, empty_nodes, faults, folds, git, git_shown, ignored, moves, pasted, places,
+    rejected, shown, strings, tag_places, warnings,
 };
 use std::process::Abort;
 use std::test::Fail;
@@ -33,12 +33,13 @@ fn is_told<T: Abort + AllocGlobal>(rt: &T, row: &Row) -> Result<(), Fail> {
 
 #[test]
 fn runs_over_two_files_are_told(rt: HostRuntime) -> Result<(), Fail> {
-    let tables: [&[Row]; 22] = [
+    let tables: [&[Row]; 23] = [
         &differences::ROWS,
         &ignored::ROWS,
         &strings::ROWS,
         &moves::ROWS,
         &folds::ROWS,
+        &pasted::ROWS,
         &empty_nodes::ROWS,
         &faults::SYNTAX,
         &faults::MEANINGS,

@@ -1,0 +1,5 @@
+mod KeyLaws
+mod HighLaws
+mod PasteLaws
+mod SideLaws
+mod LeadLaws

@@ -1,0 +1,3 @@
+pub mod Pasted
+pub mod Reading
+pub mod Laws
