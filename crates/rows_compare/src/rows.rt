@@ -48,20 +48,20 @@ static ROWS: [Row; 12] = [
         left: "a: 1\nb: [x]\n",
         right: "a: 2\nc: ~\nb: []\n",
         lines: 1000,
-        told: "false\n{\"kind\":\"changed\",\"left\":\"!!int \\\"1\\\"\",\"left_place\":{\"column\":4,\"line\":1},\"path\":\".a\",\"right\":\"!!int \\\"2\\\"\",\"right_place\":{\"column\":4,\"line\":1}}\n{\"kind\":\"left\",\"left\":\"\\\"x\\\"\",\"left_place\":{\"column\":5,\"line\":2},\"path\":\".b[0]\",\"right\":null,\"right_place\":null}\n{\"kind\":\"right\",\"left\":null,\"left_place\":null,\"path\":\".c\",\"right\":\"!!null \\\"null\\\"\",\"right_place\":{\"column\":4,\"line\":2}}\n",
+        told: "false\n{\"kind\":\"changed\",\"left\":\"!!int \\\"1\\\"\",\"left_place\":{\"column\":4,\"line\":1},\"left_value\":1,\"path\":\".a\",\"right\":\"!!int \\\"2\\\"\",\"right_place\":{\"column\":4,\"line\":1},\"right_value\":2,\"steps\":[{\"left\":0,\"right\":0},\"a\"]}\n{\"kind\":\"left\",\"left\":\"\\\"x\\\"\",\"left_place\":{\"column\":5,\"line\":2},\"left_value\":\"x\",\"path\":\".b[0]\",\"right\":null,\"right_place\":null,\"steps\":[{\"left\":0,\"right\":0},\"b\",{\"left\":0}]}\n{\"kind\":\"right\",\"left\":null,\"left_place\":null,\"path\":\".c\",\"right\":\"!!null \\\"null\\\"\",\"right_place\":{\"column\":4,\"line\":2},\"right_value\":null,\"steps\":[{\"left\":0,\"right\":0},\"c\"]}\n",
     },
     // fewer lines than there are differences, as many, and none
     Row {
         left: "a: 1\nb: [x]\n",
         right: "a: 2\nc: ~\nb: []\n",
         lines: 1,
-        told: "false\n{\"kind\":\"changed\",\"left\":\"!!int \\\"1\\\"\",\"left_place\":{\"column\":4,\"line\":1},\"path\":\".a\",\"right\":\"!!int \\\"2\\\"\",\"right_place\":{\"column\":4,\"line\":1}}\n{\"kind\":\"more\"}\n",
+        told: "false\n{\"kind\":\"changed\",\"left\":\"!!int \\\"1\\\"\",\"left_place\":{\"column\":4,\"line\":1},\"left_value\":1,\"path\":\".a\",\"right\":\"!!int \\\"2\\\"\",\"right_place\":{\"column\":4,\"line\":1},\"right_value\":2,\"steps\":[{\"left\":0,\"right\":0},\"a\"]}\n{\"kind\":\"more\"}\n",
     },
     Row {
         left: "a: 1",
         right: "a: 2",
         lines: 1,
-        told: "false\n{\"kind\":\"changed\",\"left\":\"!!int \\\"1\\\"\",\"left_place\":{\"column\":4,\"line\":1},\"path\":\".a\",\"right\":\"!!int \\\"2\\\"\",\"right_place\":{\"column\":4,\"line\":1}}\n",
+        told: "false\n{\"kind\":\"changed\",\"left\":\"!!int \\\"1\\\"\",\"left_place\":{\"column\":4,\"line\":1},\"left_value\":1,\"path\":\".a\",\"right\":\"!!int \\\"2\\\"\",\"right_place\":{\"column\":4,\"line\":1},\"right_value\":2,\"steps\":[{\"left\":0,\"right\":0},\"a\"]}\n",
     },
     Row {
         left: "a: 1",
@@ -74,7 +74,7 @@ static ROWS: [Row; 12] = [
         left: "a:\nb: 1\n",
         right: "a: 2\nb: 1\n",
         lines: 1000,
-        told: "false\n{\"kind\":\"changed\",\"left\":\"!!null \\\"null\\\"\",\"left_place\":{\"column\":3,\"line\":1},\"path\":\".a\",\"right\":\"!!int \\\"2\\\"\",\"right_place\":{\"column\":4,\"line\":1}}\n",
+        told: "false\n{\"kind\":\"changed\",\"left\":\"!!null \\\"null\\\"\",\"left_place\":{\"column\":3,\"line\":1},\"left_value\":null,\"path\":\".a\",\"right\":\"!!int \\\"2\\\"\",\"right_place\":{\"column\":4,\"line\":1},\"right_value\":2,\"steps\":[{\"left\":0,\"right\":0},\"a\"]}\n",
     },
     // rejections: the left side is judged first, and equal keys behind all others
     Row {
