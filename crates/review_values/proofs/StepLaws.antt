@@ -1,11 +1,11 @@
 -- Steps and paths as JSON.
 use Rattle.std.proofs.Common.{◌≡◌, ◌&&◌, ℕ, true, false, cond, nat_le, length, List, [], ◌∷◌, ◌++◌, map, reverse, refl, sym, ◌∙◌, ap, subst}
-use Rattle.std.specs.Prelude.{Some, None, bytes_eq, codes}
+use Rattle.std.specs.Prelude.{Some, None, bytes_eq}
 use Rattle.std.specs.List.{slice_get, flat_map}
 use Rattle.std.specs.Cow.{cow_str_bytes}
 use Rattle.std.proofs.lemmas.List.{append_assoc, append-nil, map-append, reverse-append}
 use Rattle.std.proofs.lemmas.List.Concat.{flat_map-append}
-use Rattle.yaml_definitions.specs.model.Tree.{Tree, scalar}
+use Rattle.yaml_definitions.specs.model.Tree.{scalar}
 use Rattle.yaml_definitions.specs.model.Tag.{str_tag, core_tag}
 use Rattle.yaml_graph.specs.GraphModel.{kind_tree}
 use Rattle.yaml_graph.specs.GraphView.{nodes_of, graph_trees, tree}
@@ -29,7 +29,7 @@ untold : (g x : List ℕ) → (bytes_eq g str_tag && nat_le (length x) whole_lim
 unfolding key_json
 untold g x h = ap (λ b. cond b (string_json x) (unnamed_json (scalar g x))) h
 
-empty_untold : (bytes_eq [] str_tag && nat_le (length []) whole_limit) ≡ false
+empty_untold : (bytes_eq [] str_tag && nat_le 0 whole_limit) ≡ false
 unfolding core_tag
 empty_untold = refl
 

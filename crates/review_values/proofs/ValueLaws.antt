@@ -1,5 +1,5 @@
 -- Values of JSON that are written piece by piece.
-use Rattle.std.proofs.Common.{◌≡◌, ◌&&◌, ℕ, ◌+◌, ◌<◌, ◌≤◌, true, List, [], ◌∷◌, ◌++◌, length, map, drop, get_or, refl, sym, ◌∙◌, ap, ap₂, subst, add-one}
+use Rattle.std.proofs.Common.{◌≡◌, ◌&&◌, ℕ, ◌+◌, ◌<◌, ◌≤◌, true, List, ◌++◌, length, map, drop, get_or, refl, sym, ◌∙◌, ap, ap₂, subst, add-one}
 use Rattle.std.specs.Prelude.{bytes_eq, codes}
 use Rattle.std.proofs.Math.ListN.{drop_of_length-le}
 use Rattle.std.proofs.lemmas.List.{append_assoc}
@@ -9,7 +9,7 @@ use Rattle.yaml_graph.specs.TreeLists.{trees, pairs}
 use Rattle.yaml_show_scalar.specs.Escapes.{quoted}
 use Rattle.yaml_show_scalar.specs.declared.escapes.Language.TheVariants.{Json}
 use Rattle.review_text.proofs.Pieces.{drop_next}
-use Rattle.review_values.specs.Values.{comma, name_json, value_json, items_json, entries_json, is_string, has_json, items_have_json, entries_have_json, IsName, Says, SaysKey, SaysItems, SaysEntries}
+use Rattle.review_values.specs.Values.{comma, name_json, value_json, items_json, entries_json, items_have_json, entries_have_json, IsName, Says, SaysKey, SaysItems, SaysEntries}
 
 -- ---- items, from a place on
 

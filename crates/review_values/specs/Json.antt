@@ -1,5 +1,5 @@
 -- Paths and places as JSON (RFC 8259).
-use Rattle.std.specs.Prelude.{ℕ, Bool, ◌&&◌, nat_le, cond, List, [], ◌∷◌, ◌++◌, Option, Some, None, length, codes, bytes_eq}
+use Rattle.std.specs.Prelude.{ℕ, ◌&&◌, nat_le, cond, List, [], ◌∷◌, ◌++◌, Option, Some, None, length, codes, bytes_eq}
 use Rattle.std.specs.List.{flat_map}
 use Rattle.std.specs.Fmt.{decimal}
 use Rattle.serde_json.specs.Data.{string}

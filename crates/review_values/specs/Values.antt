@@ -1,5 +1,5 @@
 -- Nodes as values of JSON (RFC 8259). A tree has its pairs in the order of their keys.
-use Rattle.std.specs.Prelude.{◌≡◌, ℕ, zero, suc, Bool, true, false, not, ◌&&◌, ◌||◌, cond, List, [], ◌∷◌, ◌++◌, bytes_eq, codes}
+use Rattle.std.specs.Prelude.{◌≡◌, ℕ, zero, suc, Bool, true, false, not, ◌&&◌, ◌||◌, cond, List, [], ◌++◌, bytes_eq, codes}
 use Rattle.yaml_definitions.specs.model.Tree.{Tree, Trees, Pairs, scalar, sequence, mapping, end, item, done, entry}
 use Rattle.yaml_definitions.specs.model.Tag.{str_tag, float_tag, seq_tag, map_tag}
 use Rattle.yaml_definitions.specs.model.Order.{arranged}

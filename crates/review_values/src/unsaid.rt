@@ -6,7 +6,7 @@ use yaml_show_scalar::Stop;
 pub enum Unsaid {
     /// The text would be too long, or memory does not suffice.
     Stopped(Stop),
-    /// JSON has no such value, or too many arrays and objects would be inside one another.
+    /// JSON has no such value, or too many nodes are inside one another.
     NoValue,
 }
 

@@ -23,7 +23,7 @@ use yaml_show_scalar::{Out, Stop};
 use yaml_text::core_tag;
 use yaml_text::fault::Fault;
 
-/// How many arrays and objects may be inside one another: some readers of JSON take no more than 127, and the line is one.
+/// How many nodes may be inside one another: some readers of JSON take no more than 127 arrays and objects, and the line is one.
 const LEVELS: u16 = 100;
 
 /// Whether JSON has a scalar of this tag and content.
