@@ -45,11 +45,25 @@ class Moves(unittest.TestCase):
         line = {"kind": "changed", "path": ".a[0:1]", "left": '"x"', "right": '["y"]', "left_value": "x", "right_value": ["y"]}
         line["steps"] = [{"left": 0, "right": 0}, "a", {"left": 0, "right": 1}]
         self.assertEqual(moves.read(line), ("changed", [(0, 0), "a", (0, 1)], "x", ["y"]))
-        one_side = {"kind": "left", "path": "[1]", "left": '"x"', "right": None, "left_value": "x", "steps": [{"left": 0, "right": 0}, {"left": 1}]}
+        one_side = {
+            "kind": "left",
+            "path": "[1]",
+            "left": '"x"',
+            "right": None,
+            "left_value": "x",
+            "steps": [{"left": 0, "right": 0}, {"left": 1}],
+        }
         self.assertEqual(moves.read(one_side), ("left", [(0, 0), (1, None)], "x", None))
 
     def test_line_that_says_two_things(self):
-        line = {"kind": "left", "path": "[1]", "left": '"x"', "right": None, "left_value": "x", "steps": [{"left": 0, "right": 0}, {"left": 1}]}
+        line = {
+            "kind": "left",
+            "path": "[1]",
+            "left": '"x"',
+            "right": None,
+            "left_value": "x",
+            "steps": [{"left": 0, "right": 0}, {"left": 1}],
+        }
         wrong = [{"steps": [{"left": 0, "right": 0}, {"right": 1}]}, {"steps": [{"left": 1}]}, {"left_value": "y"}, {"right_value": None}]
         for part in wrong:
             with self.subTest(part):
