@@ -5,6 +5,7 @@ import unittest
 from scripts import load  # noqa: F401  (puts tools on the path)
 from lib.formats.others import github_faults, markdown_faults, sarif_faults
 from lib.formats.page import page_faults
+from lib.formats.values import is_same
 
 PAGE = '<!DOCTYPE html>\n<html lang="en"><body><a href="#d1">x</a><p id="d1">&#x3C;b&#x3E;</p></body></html>'
 ROW = "| changed | <code>&#x2E;a</code> | <code>x&#x40;</code> | <code>y</code> | 1:4 | 1:4 |\n"
@@ -26,6 +27,12 @@ def log(**changes):
 
 
 class Formats(unittest.TestCase):
+    def test_values(self):
+        self.assertTrue(is_same({"a": [1, 1.0, True, None], "b": "x"}, {"b": "x", "a": [1, 1.0, True, None]}))
+        for told, read in ((1, 1.0), (1, True), (None, "null"), ([1], [1, 2]), ({"b": 1, "a": 2}, {"a": 2, "b": 1}), ({"a": 1}, {"b": 1})):
+            with self.subTest((told, read)):
+                self.assertFalse(is_same(told, read))
+
     def test_a_page(self):
         self.assertEqual(page_faults(PAGE, ["<b>"]), [])
         self.assertEqual(page_faults(PAGE, ["<i>"]), ["'<i>' is not shown"])

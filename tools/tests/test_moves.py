@@ -43,6 +43,35 @@ class Moves(unittest.TestCase):
         self.assertEqual(moves.steps_of(".", "changed"), [(0, 0)])
         self.assertEqual(moves.steps_of("2", "right"), [(None, 2)])
 
+    def test_line(self):
+        line = {"kind": "changed", "path": ".a[0:1]", "left": '"x"', "right": '["y"]', "left_value": "x", "right_value": ["y"]}
+        line["steps"] = [{"left": 0, "right": 0}, "a", {"left": 0, "right": 1}]
+        self.assertEqual(moves.read(line), ("changed", [(0, 0), "a", (0, 1)], "x", ["y"]))
+        one_side = {
+            "kind": "left",
+            "path": "[1]",
+            "left": '"x"',
+            "right": None,
+            "left_value": "x",
+            "steps": [{"left": 0, "right": 0}, {"left": 1}],
+        }
+        self.assertEqual(moves.read(one_side), ("left", [(0, 0), (1, None)], "x", None))
+
+    def test_line_that_says_two_things(self):
+        line = {
+            "kind": "left",
+            "path": "[1]",
+            "left": '"x"',
+            "right": None,
+            "left_value": "x",
+            "steps": [{"left": 0, "right": 0}, {"left": 1}],
+        }
+        wrong = [{"steps": [{"left": 0, "right": 0}, {"right": 1}]}, {"steps": [{"left": 1}]}, {"left_value": "y"}, {"right_value": None}]
+        for part in wrong:
+            with self.subTest(part):
+                with self.assertRaises(moves.Bad):
+                    moves.read({**line, **part})
+
 
 def stream(value, **more):
     """A stream of one document, in which `value` is an anchor's node and stands at two other places, and some entries more."""

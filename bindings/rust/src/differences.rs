@@ -53,8 +53,9 @@ impl Limits {
 /// assert_eq!(
 ///     String::from_utf8(told).unwrap(),
 ///     concat!(
-///         r#"{"kind":"changed","left":"!!int \"3\"","left_place":{"column":11,"line":1},"path":".replicas","#,
-///         r#""right":"!!int \"5\"","right_place":{"column":12,"line":1}}"#,
+///         r#"{"kind":"changed","left":"!!int \"3\"","left_place":{"column":11,"line":1},"left_value":3,"path":".replicas","#,
+///         r#""right":"!!int \"5\"","right_place":{"column":12,"line":1},"right_value":5,"#,
+///         r#""steps":[{"left":0,"right":0},"replicas"]}"#,
 ///         "\n"
 ///     )
 /// );

@@ -16,7 +16,7 @@ use Rattle.yaml_graph.specs.declared.graph.Graph.{Graph}
 use Rattle.yaml_diff.specs.declared.difference.Difference.{Difference}
 use Rattle.review_text.specs.Shown.{front}
 use Rattle.review_lines.specs.Lines.{Text}
-use Rattle.review_lines.specs.Compared.{room_of, is_numbered, path_as, IsScalar, SameTexts, SameFronts, ShowsNode, ShowsBoth, ShowsParts, ShowsScript, ShowsChanges, TellsOne, part_text}
+use Rattle.review_lines.specs.Compared.{TellsMembers, room_of, is_numbered, path_as, IsScalar, SameTexts, SameFronts, ShowsNode, ShowsBoth, ShowsParts, ShowsScript, ShowsChanges, TellsOne, part_text}
 use Rattle.review_lines.specs.declared.lines.Line.{Line}
 use Rattle.yaml_script.specs.Script.{IsScript}
 use Rattle.yaml_script.specs.Printed.{script_text}
@@ -78,11 +78,12 @@ script_told g context color d tag one other edits slice text l r s e h = record 
 }
 
 pub one_told : (both : Both) (asked : Diff) (d : Difference) (l : Line) (room : ℕ) → room ≡ room_of asked.whole → string_bytes l.path ≡ path_as asked.paths (is_numbered both) d.left d.right (way_of both.graph d.path.items) → ShowsBoth both.graph room d l.left l.right
-    → ShowsChanges both.graph asked.context asked.color d l.changes → TellsOne both asked d l
-one_told both asked d l room m p b c = record {
+    → ShowsChanges both.graph asked.context asked.color d l.changes → TellsMembers asked.form both.graph d l.members → TellsOne both asked d l
+one_told both asked d l room m p b c v = record {
   path = p;
   nodes = subst (λ z. ShowsBoth both.graph z d l.left l.right) m b;
   changes = c;
+  members = v;
 }
 
 -- a scalar of the tag of another

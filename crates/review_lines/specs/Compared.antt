@@ -15,6 +15,8 @@ use Rattle.yaml_script.specs.Script.{IsScript}
 use Rattle.yaml_script.specs.Printed.{script_text}
 use Rattle.yaml_script.specs.declared.script.Edit.{Edit}
 use Rattle.review_args.specs.declared.words.Diff.{Diff}
+use Rattle.review_args.specs.declared.words.Form.{Form}
+use Rattle.review_args.specs.declared.words.Form.TheVariants as form
 use Rattle.review_patterns.specs.declared.pattern.Pattern.{Pattern}
 use Rattle.review_ignore.specs.Ignored.{Keeps}
 use Rattle.review_folds.specs.Folds.{Folds}
@@ -25,6 +27,8 @@ use Rattle.review_paths.specs.Pasted.{pasted}
 use Rattle.review_args.specs.declared.words.Paths.{Paths}
 use Rattle.review_args.specs.declared.words.Paths.TheVariants.{Plain, Jq, JsonPointer}
 use Rattle.review_text.specs.declared.both.Both.{Both}
+use Rattle.review_values.specs.Members.{SaysMembers}
+use Rattle.review_values.specs.declared.members.Members.{Members}
 use Rattle.review_lines.specs.Lines.{Text, lines_text, more_text}
 use Rattle.review_lines.specs.declared.lines.Changes.{Changes}
 use Rattle.review_lines.specs.declared.lines.Line.{Line}
@@ -109,6 +113,14 @@ abbrev pub ShowsChanges : Graph → ℕ → Bool → Difference → Option Chang
 ShowsChanges g context color d None = Unit {0}
 ShowsChanges g context color d (Some c) = ShowsScript g context color d (string_bytes c.text)
 
+-- ---- what a program reads beside the texts
+
+-- Where JSON is written, the path and the values of the nodes.
+abbrev pub TellsMembers : Form → Graph → Difference → Option Members → Type 0
+TellsMembers form.Line g d m = m ≡ None
+TellsMembers form.Json g d None = ⊥
+TellsMembers form.Json g d (Some m) = SaysMembers g d m
+
 -- ---- lines
 
 -- a side has a node: unless only the other one has; where a pair of items moved, both have
@@ -126,11 +138,12 @@ path_as Plain numbered left right w = path_text numbered w
 path_as Jq numbered left right w = pasted true numbered (has_left left right) (has_right left right) w
 path_as JsonPointer numbered left right w = pasted false numbered (has_left left right) (has_right left right) w
 
--- the line has the difference's path, and what is shown of its nodes
+-- the line has the difference's path, what is shown of its nodes, and what a program reads of them
 pub record TellsOne (both : Both) (asked : Diff) (d : Difference) (l : Line) : Type 0 where
   pub path : string_bytes l.path ≡ path_as asked.paths (is_numbered both) d.left d.right (way_of both.graph d.path.items)
   pub nodes : ShowsBoth both.graph (room_of asked.whole) d l.left l.right
   pub changes : ShowsChanges both.graph asked.context asked.color d l.changes
+  pub members : TellsMembers asked.form both.graph d l.members
 
 -- a line for each difference, in order
 abbrev pub TellsEach : Both → Diff → List Difference → List Line → Type 0

@@ -2,14 +2,13 @@
 use Rattle.std.specs.Prelude.{ℕ, zero, suc, Bool, cond, List, [], ◌∷◌, ◌++◌, Option, Some, None, option_map, unwrap_or, String, codes, string_bytes}
 use Rattle.std.specs.declared.alloc.Global.{Global}
 use Rattle.std.specs.Fmt.{decimal}
-use Rattle.serde_json.specs.Data.{Data, string, object, member, no_members}
-use Rattle.serde_json.specs.Written.{compact_text}
 use Rattle.yaml_place.specs.declared.place.Place.{Place}
 use Rattle.review_args.specs.declared.words.Form.{Form}
 use Rattle.review_args.specs.declared.words.Form.TheVariants as form
 use Rattle.review_args.specs.declared.words.Diff.{Diff}
 use Rattle.review_text.specs.Hidden.{visible}
-use Rattle.review_text.specs.Objects.{text_data, place_data}
+use Rattle.review_values.specs.Json.{text_json, place_json, raw_text}
+use Rattle.review_values.specs.declared.members.Members.{Members}
 use Rattle.review_lines.specs.declared.lines.Changes.{Changes}
 use Rattle.review_lines.specs.declared.lines.Line.{Line}
 
@@ -79,17 +78,31 @@ told_text (suc n) text = text ++ others_text n
 abbrev pub kind : Line → List ℕ
 kind l = by_sides (codes "changed") (codes "left") (codes "right") (codes "moved") l.left l.right
 
--- an object with the members in the order of their names
-abbrev pub line_data : Line → Data
-line_data l =
-    object (member (codes "kind") (string (kind l)) (member (codes "left") (text_data (option_map string_bytes l.left)) (member (codes "left_place") (place_data l.left_place)
-    (member (codes "path") (string (string_bytes l.path)) (member (codes "right") (text_data (option_map string_bytes l.right)) (member (codes "right_place") (place_data l.right_place) no_members))))))
+-- what a program reads beside the texts, where it is told
+abbrev pub left_value : Option Members → Option (List ℕ)
+left_value None = None
+left_value (Some m) = option_map string_bytes m.left
+
+abbrev pub right_value : Option Members → Option (List ℕ)
+right_value None = None
+right_value (Some m) = option_map string_bytes m.right
+
+abbrev pub steps_text : Option Members → Option (List ℕ)
+steps_text None = None
+steps_text (Some m) = Some (string_bytes m.steps)
+
+-- an object with the members in the order of their names, and the end of the line
+abbrev pub line_json : Line → List ℕ
+line_json l =
+    (codes "{\"kind\":" ++ text_json (Some (kind l))) ++ ((codes ",\"left\":" ++ text_json (option_map string_bytes l.left)) ++ ((codes ",\"left_place\":" ++ place_json l.left_place)
+    ++ (raw_text (codes ",\"left_value\":") (left_value l.members) ++ ((codes ",\"path\":" ++ text_json (Some (string_bytes l.path))) ++ ((codes ",\"right\":" ++ text_json (option_map string_bytes l.right))
+    ++ ((codes ",\"right_place\":" ++ place_json l.right_place) ++ (raw_text (codes ",\"right_value\":") (right_value l.members) ++ (raw_text (codes ",\"steps\":") (steps_text l.members) ++ codes "}\n"))))))))
 
 -- ---- a line in each form
 
 abbrev pub form_text : Form → Bool → Bool → Line → List ℕ
 form_text form.Line places color l = told_text l.count (columns places color l)
-form_text form.Json places color l = compact_text (line_data l) ++ codes "\n"
+form_text form.Json places color l = line_json l
 
 abbrev pub line_text : Diff → Line → List ℕ
 line_text asked l = form_text asked.form asked.places asked.color l

@@ -7,13 +7,13 @@ ghost use Rattle.yaml_diff.specs.Lines.{way_of};
 ghost use Rattle.yaml_diff.specs.Found.{FindsItems};
 ghost use Rattle.review_folds.specs.Folds.{Folds};
 ghost use Rattle.review_lines.specs.Lines.{lines_text};
-ghost use Rattle.review_lines.specs.Compared.{room_of, room_for, search_room, is_numbered, has_left, has_right, path_as, ShowsNode, ShowsBoth, TellsOne, TellsEach, TellsMoves, TellsFound, TellsAsked, TellsStreams};
+ghost use Rattle.review_lines.specs.Compared.{room_of, room_for, search_room, is_numbered, has_left, has_right, path_as, ShowsNode, ShowsBoth, TellsMembers, TellsOne, TellsEach, TellsMoves, TellsFound, TellsAsked, TellsStreams};
 
 use crate::lines::{Line, put_more};
 use crate::nodes::{Places, find_places, place_at};
 use crate::stat::stat_text;
 use crate::strings::{Budget, changed_lines, differing_parts};
-use review_args::{Diff, Paths};
+use review_args::{Diff, Form, Paths};
 use review_folds::counts;
 use review_ignore::kept;
 use review_paths::pasted;
@@ -22,6 +22,7 @@ use review_places::trace::Traced;
 use review_text::both::Both;
 use review_text::path::path_text;
 use review_text::text::{CUT, WHOLE, node_text};
+use review_values::{Members, members_of};
 use std::alloc::Global;
 use yaml_diff::{Difference, Found, as_differences, stream_differences};
 use yaml_graph::node::NodeId;
@@ -191,6 +192,23 @@ fn path_of(
     }
 }
 
+/// What a program reads of a difference, where JSON is written.
+fn members_in(
+    alloc: Global,
+    both: &Both<'_>,
+    difference: &Difference,
+    form: Form,
+    budget: &mut Budget,
+) -> Result<Option<Members>, Fault>
+    requires ranked { RanksAre both.now.graph both.now.ranks }
+    ensures { IfOk result (TellsMembers form both.now.graph difference.now) }
+{
+    match form {
+        Form::Line => Ok(None),
+        Form::Json => Ok(Some(members_of(alloc, both, difference, &mut budget.values)?)),
+    }
+}
+
 /// The line of a difference, with these places of its nodes, which tells so many differences.
 #[tactic(auto, using(crate::proofs::StringLaws::one_told))]
 fn line_of(
@@ -209,6 +227,7 @@ fn line_of(
     let path = path_of(alloc, both, difference, asked.paths)?;
     let nodes = shown_both(alloc, both, difference, room_of(asked.whole), budget)?;
     let lines = changed_lines(alloc, both, difference, asked, budget)?;
+    let members = members_in(alloc, both, difference, asked.form, budget)?;
     Ok(Line {
         path,
         left: nodes.left,
@@ -216,6 +235,7 @@ fn line_of(
         left_place: places.0,
         right_place: places.1,
         changes: lines,
+        members,
         count,
     })
 }

@@ -4,8 +4,10 @@ ghost use Rattle.review_text.specs.Hidden.{visible};
 ghost use Rattle.review_lines.specs.Lines.{column, place_text, more_text, others_text};
 
 use review_args::{Diff, Form};
-use review_text::json::{Said, put_object, text_of};
+use review_text::json::text_of;
 use review_text::put_visible;
+use review_values::Members;
+use review_values::writing::{put_place_json, put_raw, put_text};
 use std::alloc::Global;
 use yaml_place::Place;
 use yaml_text::fault::Fault;
@@ -31,6 +33,8 @@ pub struct Line {
     pub right_place: Option<Place>,
     /// The changed lines, where both nodes are strings and one of them has a line feed.
     pub changes: Option<Changes>,
+    /// What a program reads beside the texts, where JSON is written.
+    pub members: Option<Members>,
     /// How many differences the line tells: 0 where another line tells this one.
     pub count: usize,
 }
@@ -42,9 +46,8 @@ const MORE: &str = "...\n";
 const PLAIN: &str = "\u{1b}[0m";
 
 impl Line {
-    ghost use Rattle.std.specs.Prelude.{◌≡◌, ◌++◌, [], cond, codes, string_bytes, OnOk};
-    ghost use Rattle.serde_json.specs.Written.{compact_text};
-    ghost use Rattle.review_lines.specs.Lines.{sign, kind, color_text, plain_text, values, below, places_text, columns, told_text, line_data, line_text};
+    ghost use Rattle.std.specs.Prelude.{◌≡◌, ◌++◌, [], cond, option_map, string_bytes, OnOk};
+    ghost use Rattle.review_lines.specs.Lines.{sign, kind, color_text, plain_text, values, below, places_text, columns, told_text, left_value, right_value, steps_text, line_json, line_text};
 
     /// What the two sides have at the path: other things, or one of them nothing. Where both have no text, a pair of items moved.
     fn sign(&self) -> &'static str
@@ -143,19 +146,51 @@ impl Line {
         Ok(())
     }
 
+    /// The value of the left node as JSON, if it is told.
+    fn left_value(&self) -> Option<&str>
+        ensures { option_map (λ told. told.now) result ≡ left_value self.now.members }
+    {
+        match &self.members {
+            Some(members) => text_of(&members.left),
+            None => None,
+        }
+    }
+
+    /// The same of the right node.
+    fn right_value(&self) -> Option<&str>
+        ensures { option_map (λ told. told.now) result ≡ right_value self.now.members }
+    {
+        match &self.members {
+            Some(members) => text_of(&members.right),
+            None => None,
+        }
+    }
+
+    /// The path as JSON, if it is told.
+    fn steps(&self) -> Option<&str>
+        ensures { option_map (λ told. told.now) result ≡ steps_text self.now.members }
+    {
+        match &self.members {
+            Some(members) => Some(members.steps.as_str()),
+            None => None,
+        }
+    }
+
     /// One JSON object.
     fn put_json(&self, alloc: Global, out: &mut String) -> Result<(), Fault>
-        ensures { OnOk result (string_bytes out.new ≡ string_bytes out.old ++ (compact_text (line_data self.now) ++ codes "\n")) }
+        ensures { OnOk result (string_bytes out.new ≡ string_bytes out.old ++ line_json self.now) }
     {
-        let members = [
-            ("kind", Said::Text(Some(self.kind()))),
-            ("path", Said::Text(Some(self.path.as_str()))),
-            ("left", Said::Text(text_of(&self.left))),
-            ("right", Said::Text(text_of(&self.right))),
-            ("left_place", Said::Place(self.left_place)),
-            ("right_place", Said::Place(self.right_place)),
-        ];
-        put_object(alloc, out, &members)
+        put_text(alloc, out, "{\"kind\":", Some(self.kind()))?;
+        put_text(alloc, out, ",\"left\":", text_of(&self.left))?;
+        put_place_json(out, ",\"left_place\":", self.left_place)?;
+        put_raw(out, ",\"left_value\":", self.left_value())?;
+        put_text(alloc, out, ",\"path\":", Some(self.path.as_str()))?;
+        put_text(alloc, out, ",\"right\":", text_of(&self.right))?;
+        put_place_json(out, ",\"right_place\":", self.right_place)?;
+        put_raw(out, ",\"right_value\":", self.right_value())?;
+        put_raw(out, ",\"steps\":", self.steps())?;
+        out.push_str("}\n")?;
+        Ok(())
     }
 
     /// Writes the line in the form that is asked for.

@@ -11,6 +11,7 @@ use crate::lines::Changes;
 use review_args::Diff;
 use review_text::both::Both;
 use review_text::text::front;
+use review_values::Room;
 use std::alloc::Global;
 use yaml_diff::Difference;
 use yaml_graph::node::{NodeId, NodeKind};
@@ -31,16 +32,20 @@ const NAMED: usize = 3;
 /// How many bytes of strings are looked at: more than two files have without aliases.
 const BYTES: usize = 64 * 1_024 * 1_024;
 
-/// How many bytes of strings may still be looked at, so that a long string with many aliases is not compared with another each time.
+/// How many bytes of strings may still be looked at, and how many of values may be written, so that a long string with many aliases is not compared with another each time.
 #[derive(Drop)]
 pub(crate) struct Budget {
     bytes: usize,
+    pub(crate) values: Room,
 }
 
 impl Budget {
     /// What all lines may take together.
     pub(crate) fn new() -> Budget {
-        Budget { bytes: BYTES }
+        Budget {
+            bytes: BYTES,
+            values: Room::new(),
+        }
     }
 
     /// Takes the bytes of two strings, if there are so many.

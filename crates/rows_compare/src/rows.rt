@@ -29,7 +29,7 @@ fn shown<T: Abort + AllocGlobal>(
     }
 }
 
-static ROWS: [Row; 12] = [
+static ROWS: [Row; 18] = [
     // two streams that mean the same have no line
     Row {
         left: "a: 0x3",
@@ -48,20 +48,20 @@ static ROWS: [Row; 12] = [
         left: "a: 1\nb: [x]\n",
         right: "a: 2\nc: ~\nb: []\n",
         lines: 1000,
-        told: "false\n{\"kind\":\"changed\",\"left\":\"!!int \\\"1\\\"\",\"left_place\":{\"column\":4,\"line\":1},\"path\":\".a\",\"right\":\"!!int \\\"2\\\"\",\"right_place\":{\"column\":4,\"line\":1}}\n{\"kind\":\"left\",\"left\":\"\\\"x\\\"\",\"left_place\":{\"column\":5,\"line\":2},\"path\":\".b[0]\",\"right\":null,\"right_place\":null}\n{\"kind\":\"right\",\"left\":null,\"left_place\":null,\"path\":\".c\",\"right\":\"!!null \\\"null\\\"\",\"right_place\":{\"column\":4,\"line\":2}}\n",
+        told: "false\n{\"kind\":\"changed\",\"left\":\"!!int \\\"1\\\"\",\"left_place\":{\"column\":4,\"line\":1},\"left_value\":1,\"path\":\".a\",\"right\":\"!!int \\\"2\\\"\",\"right_place\":{\"column\":4,\"line\":1},\"right_value\":2,\"steps\":[{\"left\":0,\"right\":0},\"a\"]}\n{\"kind\":\"left\",\"left\":\"\\\"x\\\"\",\"left_place\":{\"column\":5,\"line\":2},\"left_value\":\"x\",\"path\":\".b[0]\",\"right\":null,\"right_place\":null,\"steps\":[{\"left\":0,\"right\":0},\"b\",{\"left\":0}]}\n{\"kind\":\"right\",\"left\":null,\"left_place\":null,\"path\":\".c\",\"right\":\"!!null \\\"null\\\"\",\"right_place\":{\"column\":4,\"line\":2},\"right_value\":null,\"steps\":[{\"left\":0,\"right\":0},\"c\"]}\n",
     },
     // fewer lines than there are differences, as many, and none
     Row {
         left: "a: 1\nb: [x]\n",
         right: "a: 2\nc: ~\nb: []\n",
         lines: 1,
-        told: "false\n{\"kind\":\"changed\",\"left\":\"!!int \\\"1\\\"\",\"left_place\":{\"column\":4,\"line\":1},\"path\":\".a\",\"right\":\"!!int \\\"2\\\"\",\"right_place\":{\"column\":4,\"line\":1}}\n{\"kind\":\"more\"}\n",
+        told: "false\n{\"kind\":\"changed\",\"left\":\"!!int \\\"1\\\"\",\"left_place\":{\"column\":4,\"line\":1},\"left_value\":1,\"path\":\".a\",\"right\":\"!!int \\\"2\\\"\",\"right_place\":{\"column\":4,\"line\":1},\"right_value\":2,\"steps\":[{\"left\":0,\"right\":0},\"a\"]}\n{\"kind\":\"more\"}\n",
     },
     Row {
         left: "a: 1",
         right: "a: 2",
         lines: 1,
-        told: "false\n{\"kind\":\"changed\",\"left\":\"!!int \\\"1\\\"\",\"left_place\":{\"column\":4,\"line\":1},\"path\":\".a\",\"right\":\"!!int \\\"2\\\"\",\"right_place\":{\"column\":4,\"line\":1}}\n",
+        told: "false\n{\"kind\":\"changed\",\"left\":\"!!int \\\"1\\\"\",\"left_place\":{\"column\":4,\"line\":1},\"left_value\":1,\"path\":\".a\",\"right\":\"!!int \\\"2\\\"\",\"right_place\":{\"column\":4,\"line\":1},\"right_value\":2,\"steps\":[{\"left\":0,\"right\":0},\"a\"]}\n",
     },
     Row {
         left: "a: 1",
@@ -74,7 +74,45 @@ static ROWS: [Row; 12] = [
         left: "a:\nb: 1\n",
         right: "a: 2\nb: 1\n",
         lines: 1000,
-        told: "false\n{\"kind\":\"changed\",\"left\":\"!!null \\\"null\\\"\",\"left_place\":{\"column\":3,\"line\":1},\"path\":\".a\",\"right\":\"!!int \\\"2\\\"\",\"right_place\":{\"column\":4,\"line\":1}}\n",
+        told: "false\n{\"kind\":\"changed\",\"left\":\"!!null \\\"null\\\"\",\"left_place\":{\"column\":3,\"line\":1},\"left_value\":null,\"path\":\".a\",\"right\":\"!!int \\\"2\\\"\",\"right_place\":{\"column\":4,\"line\":1},\"right_value\":2,\"steps\":[{\"left\":0,\"right\":0},\"a\"]}\n",
+    },
+    // values of JSON: of nodes that JSON has, and of no others
+    Row {
+        left: "a: {y: [1.5, true], x: ~}\n",
+        right: "{}",
+        lines: 1000,
+        told: "false\n{\"kind\":\"left\",\"left\":\"{\\\"x\\\" : !!null \\\"null\\\", \\\"y\\\" : [!!float \\\"1.5\\\", !!bool \\\"true\\\"]}\",\"left_place\":{\"column\":4,\"line\":1},\"left_value\":{\"x\":null,\"y\":[1.5,true]},\"path\":\".a\",\"right\":null,\"right_place\":null,\"steps\":[{\"left\":0,\"right\":0},\"a\"]}\n",
+    },
+    Row {
+        left: "a: .inf\nb: 1.0\n",
+        right: "a: 1e3\nb: 1\n",
+        lines: 1000,
+        told: "false\n{\"kind\":\"changed\",\"left\":\"!!float \\\".inf\\\"\",\"left_place\":{\"column\":4,\"line\":1},\"path\":\".a\",\"right\":\"!!float \\\"1e+3\\\"\",\"right_place\":{\"column\":4,\"line\":1},\"right_value\":1000.0,\"steps\":[{\"left\":0,\"right\":0},\"a\"]}\n{\"kind\":\"changed\",\"left\":\"!!float \\\"1\\\"\",\"left_place\":{\"column\":4,\"line\":2},\"left_value\":1.0,\"path\":\".b\",\"right\":\"!!int \\\"1\\\"\",\"right_place\":{\"column\":4,\"line\":2},\"right_value\":1,\"steps\":[{\"left\":0,\"right\":0},\"b\"]}\n",
+    },
+    Row {
+        left: "a: [!t b]",
+        right: "{}",
+        lines: 1000,
+        told: "false\n{\"kind\":\"left\",\"left\":\"[!<!t> \\\"b\\\"]\",\"left_place\":{\"column\":4,\"line\":1},\"path\":\".a\",\"right\":null,\"right_place\":null,\"steps\":[{\"left\":0,\"right\":0},\"a\"]}\n",
+    },
+    Row {
+        left: "a: {80: b}",
+        right: "{}",
+        lines: 1000,
+        told: "false\n{\"kind\":\"left\",\"left\":\"{!!int \\\"80\\\" : \\\"b\\\"}\",\"left_place\":{\"column\":4,\"line\":1},\"path\":\".a\",\"right\":null,\"right_place\":null,\"steps\":[{\"left\":0,\"right\":0},\"a\"]}\n",
+    },
+    // steps: to a key that is no string, and to a document of one side alone
+    Row {
+        left: "80: a",
+        right: "80: b",
+        lines: 1000,
+        told: "false\n{\"kind\":\"changed\",\"left\":\"\\\"a\\\"\",\"left_place\":{\"column\":5,\"line\":1},\"left_value\":\"a\",\"path\":\"[!!int \\\"80\\\"]\",\"right\":\"\\\"b\\\"\",\"right_place\":{\"column\":5,\"line\":1},\"right_value\":\"b\",\"steps\":[{\"left\":0,\"right\":0},{\"key\":\"!!int \\\"80\\\"\"}]}\n",
+    },
+    Row {
+        left: "--- a\n--- b\n",
+        right: "--- a\n",
+        lines: 1000,
+        told: "false\n{\"kind\":\"left\",\"left\":\"\\\"b\\\"\",\"left_place\":{\"column\":5,\"line\":2},\"left_value\":\"b\",\"path\":\"1\",\"right\":null,\"right_place\":null,\"steps\":[{\"left\":1}]}\n",
     },
     // rejections: the left side is judged first, and equal keys behind all others
     Row {

@@ -228,7 +228,7 @@ pub static ROWS: [Row; 27] = [
         left: b"a:\nb: 1\n",
         right: b"a: 2\nb: 1\n",
         status: 1,
-        out: "{\"kind\":\"changed\",\"left\":\"!!null \\\"null\\\"\",\"left_place\":{\"column\":3,\"line\":1},\"path\":\".a\",\"right\":\"!!int \\\"2\\\"\",\"right_place\":{\"column\":4,\"line\":1}}\n",
+        out: "{\"kind\":\"changed\",\"left\":\"!!null \\\"null\\\"\",\"left_place\":{\"column\":3,\"line\":1},\"left_value\":null,\"path\":\".a\",\"right\":\"!!int \\\"2\\\"\",\"right_place\":{\"column\":4,\"line\":1},\"right_value\":2,\"steps\":[{\"left\":0,\"right\":0},\"a\"]}\n",
         err: "",
     },
     Row {

@@ -23,7 +23,7 @@ pub static ROWS: [Row; 14] = [
         left: CONTAINERS,
         right: OTHERS,
         status: 1,
-        out: "{\"kind\":\"changed\",\"left\":\"\\\"y\\\"\",\"left_place\":null,\"path\":\"[1:2].image\",\"right\":\"\\\"w\\\"\",\"right_place\":null}\n{\"kind\":\"moved\",\"left\":null,\"left_place\":null,\"path\":\"[2:0]\",\"right\":null,\"right_place\":null}\n",
+        out: "{\"kind\":\"changed\",\"left\":\"\\\"y\\\"\",\"left_place\":null,\"left_value\":\"y\",\"path\":\"[1:2].image\",\"right\":\"\\\"w\\\"\",\"right_place\":null,\"right_value\":\"w\",\"steps\":[{\"left\":0,\"right\":0},{\"left\":1,\"right\":2},\"image\"]}\n{\"kind\":\"moved\",\"left\":null,\"left_place\":null,\"path\":\"[2:0]\",\"right\":null,\"right_place\":null,\"steps\":[{\"left\":0,\"right\":0},{\"left\":2,\"right\":0}]}\n",
         err: "",
     },
     Row {

@@ -81,7 +81,7 @@ pub static ROWS: [Row; 12] = [
         left: b"a: 1\nb: [x]\n",
         right: b"a: 2\nc: ~\nb: []\n",
         status: 1,
-        out: "{\"kind\":\"changed\",\"left\":\"!!int \\\"1\\\"\",\"left_place\":{\"column\":4,\"line\":1},\"path\":\".a\",\"right\":\"!!int \\\"2\\\"\",\"right_place\":{\"column\":4,\"line\":1}}\n{\"kind\":\"left\",\"left\":\"\\\"x\\\"\",\"left_place\":{\"column\":5,\"line\":2},\"path\":\".b[0]\",\"right\":null,\"right_place\":null}\n{\"kind\":\"right\",\"left\":null,\"left_place\":null,\"path\":\".c\",\"right\":\"!!null \\\"null\\\"\",\"right_place\":{\"column\":4,\"line\":2}}\n",
+        out: "{\"kind\":\"changed\",\"left\":\"!!int \\\"1\\\"\",\"left_place\":{\"column\":4,\"line\":1},\"left_value\":1,\"path\":\".a\",\"right\":\"!!int \\\"2\\\"\",\"right_place\":{\"column\":4,\"line\":1},\"right_value\":2,\"steps\":[{\"left\":0,\"right\":0},\"a\"]}\n{\"kind\":\"left\",\"left\":\"\\\"x\\\"\",\"left_place\":{\"column\":5,\"line\":2},\"left_value\":\"x\",\"path\":\".b[0]\",\"right\":null,\"right_place\":null,\"steps\":[{\"left\":0,\"right\":0},\"b\",{\"left\":0}]}\n{\"kind\":\"right\",\"left\":null,\"left_place\":null,\"path\":\".c\",\"right\":\"!!null \\\"null\\\"\",\"right_place\":{\"column\":4,\"line\":2},\"right_value\":null,\"steps\":[{\"left\":0,\"right\":0},\"c\"]}\n",
         err: "",
     },
     Row {

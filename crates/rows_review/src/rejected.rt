@@ -168,7 +168,7 @@ pub static HIDDEN: [Row; 4] = [
         left: b"- a\xE2\x80\xAEb\n",
         right: b"- ab\n",
         status: 1,
-        out: "{\"kind\":\"changed\",\"left\":\"\\\"a\u{202E}b\\\"\",\"left_place\":null,\"path\":\"[0]\",\"right\":\"\\\"ab\\\"\",\"right_place\":null}\n",
+        out: "{\"kind\":\"changed\",\"left\":\"\\\"a\u{202E}b\\\"\",\"left_place\":null,\"left_value\":\"a\\u202Eb\",\"path\":\"[0]\",\"right\":\"\\\"ab\\\"\",\"right_place\":null,\"right_value\":\"ab\",\"steps\":[{\"left\":0,\"right\":0},{\"left\":0,\"right\":0}]}\n",
         err: "",
     },
 ];

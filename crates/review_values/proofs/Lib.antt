@@ -1,0 +1,3 @@
+mod GraphShapes
+mod StepLaws
+mod ValueLaws
