@@ -1,5 +1,7 @@
 //! What git passes to an external diff.
+use crate::asked::{GitAsked, Kind, Pair, are_equal};
 use crate::git_show::put_shown_lines;
+use crate::heads::{put_alone, put_modes, put_name, put_renamed};
 use review_args::{Diff, Form, Paths};
 use review_compare::compare_sides;
 use review_files::files::read_file;
@@ -15,167 +17,8 @@ use yaml_text::fault::Fault;
 /// How many lines `git` prints for a file.
 const LINES: usize = 1_000;
 
-/// What git passes for the hash and the mode of a side that does not exist.
-const NONE: &str = ".";
-
-/// The mode of a file that is not executable.
-const PLAIN: &str = "100644";
-
 /// What the one line of a submodule's text begins with.
 const COMMIT: &str = "Subproject commit ";
-
-/// The word before those of git that asks for lines of what `show` writes.
-const SHOWN: &str = "--lines=show";
-
-/// One side: the file to read, its hash and its mode.
-#[derive(Clone, Copy)]
-pub struct Side<'a> {
-    file: &'a str,
-    hash: &'a str,
-    mode: &'a str,
-}
-
-/// What a side is, by its mode.
-#[derive(Clone, Copy, Debug, PartialEq, Eq)]
-enum Kind {
-    /// It does not exist.
-    None,
-    File,
-    Link,
-    Submodule,
-}
-
-impl Side<'_> {
-    fn kind(self) -> Kind {
-        match self.mode {
-            NONE => Kind::None,
-            "120000" => Kind::Link,
-            "160000" => Kind::Submodule,
-            _ => Kind::File,
-        }
-    }
-}
-
-/// The words of one file: its path, both sides, and the path that it has now and git's lines on it if it was renamed or copied.
-#[derive(Clone, Copy)]
-pub struct Pair<'a> {
-    path: &'a str,
-    left: Side<'a>,
-    right: Side<'a>,
-    renamed: Option<(&'a str, &'a str)>,
-    /// Whether changed lines of what `show` writes are asked for, and not differences.
-    is_shown: bool,
-}
-
-/// What git asks for.
-#[derive(Clone, Copy)]
-pub enum GitAsked<'a> {
-    /// A path that is not merged, of which there is nothing to compare.
-    Unmerged(&'a str),
-    Changed(Pair<'a>),
-}
-
-/// One side from these three words.
-fn side_of<'a>(words: &[&'a str]) -> Option<Side<'a>> {
-    Some(Side {
-        file: words.first().copied()?,
-        hash: words.get(1).copied()?,
-        mode: words.get(2).copied()?,
-    })
-}
-
-/// The words of git, and whether there is one before them that asks for lines of what `show` writes. Those of git are 1, 7 or 9, so a
-/// path of that name is none.
-fn split_shown<'w, 'a>(words: &'w [&'a str]) -> (&'w [&'a str], bool) {
-    match words.split_first() {
-        Some((first, rest)) if *first == SHOWN && matches!(rest.len(), 1 | 7 | 9) => (rest, true),
-        _ => (words, false),
-    }
-}
-
-/// What 1, 7 or 9 words ask for: a path; the path, the old file with its hash and mode, and the new one with its own; or these
-/// and the new path with lines on what was renamed or copied.
-pub fn git_asked<'a>(given: &[&'a str]) -> Option<GitAsked<'a>> {
-    let (words, is_shown) = split_shown(given);
-    let path = words.first().copied()?;
-    match words.len() {
-        1 => Some(GitAsked::Unmerged(path)),
-        7 | 9 => Some(GitAsked::Changed(Pair {
-            path,
-            left: side_of(words.get(1..4)?)?,
-            right: side_of(words.get(4..7)?)?,
-            renamed: match words.get(7..9) {
-                Some(more) => Some((more.first().copied()?, more.get(1).copied()?)),
-                None => None,
-            },
-            is_shown,
-        })),
-        _ => None,
-    }
-}
-
-/// Writes the name of a pair.
-fn put_name(out: &mut String, pair: Pair<'_>) -> Result<(), Fault> {
-    out.push_str("diff ")?;
-    put_shown(out, pair.path)?;
-    if let Some((renamed, _)) = pair.renamed {
-        out.push_str(" -> ")?;
-        put_shown(out, renamed)?;
-    }
-    out.push('\n')?;
-    Ok(())
-}
-
-/// Writes a mode, and what it stands for where that is no file.
-fn put_mode(out: &mut String, side: Side<'_>) -> Result<(), Fault> {
-    put_shown(out, side.mode)?;
-    match side.kind() {
-        Kind::Link => out.push_str(" (symbolic link)")?,
-        Kind::Submodule => out.push_str(" (submodule)")?,
-        Kind::File | Kind::None => {}
-    }
-    Ok(())
-}
-
-/// Writes that a side is the only one, with its mode unless it is that of most files.
-fn put_alone(out: &mut String, words: &str, side: Side<'_>) -> Result<(), Fault> {
-    out.push_str(words)?;
-    if side.mode != PLAIN {
-        out.push_str(", mode ")?;
-        put_mode(out, side)?;
-    }
-    out.push('\n')?;
-    Ok(())
-}
-
-/// Writes which mode was changed, if one was.
-fn put_modes(out: &mut String, pair: Pair<'_>) -> Result<(), Fault> {
-    if pair.left.mode == pair.right.mode {
-        return Ok(());
-    }
-    out.push_str("mode ")?;
-    put_mode(out, pair.left)?;
-    out.push_str(" -> ")?;
-    put_mode(out, pair.right)?;
-    out.push('\n')?;
-    Ok(())
-}
-
-/// Writes from which path a file was renamed or copied, if it was.
-fn put_renamed(out: &mut String, pair: Pair<'_>) -> Result<(), Fault> {
-    let Some((_, lines)) = pair.renamed else {
-        return Ok(());
-    };
-    let is_copy = lines.split('\n').any(|line| line.starts_with("copy from "));
-    out.push_str(if is_copy {
-        "copied from "
-    } else {
-        "renamed from "
-    })?;
-    put_shown(out, pair.path)?;
-    out.push('\n')?;
-    Ok(())
-}
 
 /// The first line of what a link or a submodule holds: where it leads, or the commit.
 fn first_line(bytes: &[u8]) -> &str {
@@ -311,11 +154,6 @@ fn put_new<S: Shelf>(
         put_rejection(alloc, out, file, Form::Line)?;
     }
     Ok(())
-}
-
-/// Whether both sides are known to have the same bytes. A file that is not in git's store has a hash of zeros.
-fn are_equal(left: Side<'_>, right: Side<'_>) -> bool {
-    left.hash == right.hash && left.hash.bytes().any(|digit| digit != b'0')
 }
 
 /// What is printed of two sides that exist.

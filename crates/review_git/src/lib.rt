@@ -1,7 +1,10 @@
 //! The command `git`: what git passes to an external diff, and the differences of the two files or the changed lines of what `show` writes.
 #![tactic(auto)]
 
+mod asked;
 mod git;
 mod git_show;
+mod heads;
 
-pub use git::{GitAsked, Pair, Side, git_asked, git_text, put_page};
+pub use asked::{GitAsked, Pair, Side, git_asked};
+pub use git::{git_text, put_page};

@@ -1,0 +1,2 @@
+pub mod AskedLaws
+pub mod HeadLaws
