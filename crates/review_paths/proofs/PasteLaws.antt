@@ -11,7 +11,7 @@ use Rattle.yaml_diff.specs.Lines.{step_of, way_of}
 use Rattle.yaml_diff.specs.declared.difference.Step as code
 use Rattle.yaml_path.specs.Ways.{Way}
 use Rattle.review_text.proofs.Pieces.{then_more}
-use Rattle.review_paths.specs.Pasted.{escaped_char, escaped, kept_steps}
+use Rattle.review_paths.specs.Pasted.{escaped_char, escaped, kept_steps, fits_step, pasted_step, begun, unfit, side_text}
 use Rattle.review_paths.proofs.HighLaws.{char_same}
 
 -- ---- steps
@@ -59,6 +59,22 @@ all_by_map p f (x ∷ xs) = ap (λ z. p (f x) && z) (all_by_map p f xs)
 pub flat_by_map : {X Y : Type 0} (q : Y → List ℕ) (f : X → Y) (xs : List X) → flat_map (λ x. q (f x)) xs ≡ flat_map q (map f xs)
 flat_by_map q f [] = refl
 flat_by_map q f (x ∷ xs) = ap (λ z. q (f x) ++ z) (flat_by_map q f xs)
+
+module _ (g : Graph) (f n l : Bool) (path steps : List code.Step) (b : Bool) (e : map (step_of g) (reverse steps) ≡ kept_steps n (way_of g path)) (h : b ≡ list_all (λ s. fits_step (step_of g s)) (reverse steps)) where
+  all_fit : b ≡ list_all fits_step (kept_steps n (way_of g path))
+  all_fit = h ∙ all_by_map fits_step (step_of g) (reverse steps) ∙ ap (list_all fits_step) e
+
+  side : Bool → List ℕ
+  side c = cond c (begun f (flat_map (pasted_step f l) (kept_steps n (way_of g path)))) (unfit n (way_of g path))
+
+  pub side_fits : (new t s : List ℕ) → b ≡ true → new ≡ [] → t ≡ new ++ flat_map (λ s. pasted_step f l (step_of g s)) (reverse steps) → s ≡ begun f t → s ≡ side_text f n l (way_of g path)
+  side_fits new t s k i j m =
+      let r = flat_map (λ s. pasted_step f l (step_of g s)) (reverse steps) in
+      let same : t ≡ flat_map (pasted_step f l) (kept_steps n (way_of g path)) = j ∙ ap (λ z. z ++ r) i ∙ flat_by_map (pasted_step f l) (step_of g) (reverse steps) ∙ ap (flat_map (pasted_step f l)) e in
+      m ∙ ap (begun f) same ∙ ap side (sym k ∙ all_fit)
+
+  pub side_unfit : (s : List ℕ) → b ≡ false → s ≡ unfit n (way_of g path) → s ≡ side_text f n l (way_of g path)
+  side_unfit s k m = m ∙ ap side (sym k ∙ all_fit)
 
 -- ---- a text that is written character by character
 

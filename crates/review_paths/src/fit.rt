@@ -100,6 +100,13 @@ fn fits_step(alloc: Global, both: &Both<'_>, step: Step) -> Result<bool, Fault>
     }
 }
 
+/// Whether both are so.
+fn are(one: bool, other: bool) -> bool
+    ensures { result ≡ (one && other) }
+{
+    one && other
+}
+
 /// Whether all steps can be pasted, of which the last one comes first.
 pub(crate) fn fits(alloc: Global, both: &Both<'_>, steps: &[Step]) -> Result<bool, Fault>
     ensures { IfOk result (λ fits. fits ≡ list_all (λ step. fits_step (step_of both.now.graph step)) (reverse steps.now)) }
@@ -107,7 +114,7 @@ pub(crate) fn fits(alloc: Global, both: &Both<'_>, steps: &[Step]) -> Result<boo
     let mut all = true;
     'steps: for step in steps.iter().rev() {
         let fit = fits_step(alloc, both, *step)?;
-        all = all && fit;
+        all = are(all, fit);
     }
     Ok(all)
 }

@@ -15,7 +15,6 @@ use yaml_diff::Step;
 use yaml_text::fault::Fault;
 
 /// The steps that are written: without that to the document, unless its number is told.
-#[tactic(auto, using(crate::proofs::PasteLaws::kept_all, crate::proofs::PasteLaws::kept_rest, crate::proofs::PasteLaws::kept_none))]
 fn kept<'p>(path: &'p [Step], numbered: bool) -> &'p [Step]
     ensures { (g : Graph) → map (step_of g) (reverse result.now) ≡ kept_steps numbered (way_of g path.now) }
 {
@@ -87,12 +86,15 @@ fn side_text(
     ensures { IfOk result (λ s. string_bytes s ≡ side_text is_filter numbered is_left (way_of both.now.graph path.now)) }
 {
     let steps = kept(path, numbered);
-    if !fits(alloc, both, steps)? {
-        return unfit(alloc, both, path, numbered);
+    let fit = fits(alloc, both, steps)?;
+    if fit {
+        let mut text = String::new(alloc);
+        put_steps(&mut text, both, steps, is_filter, is_left)?;
+        let told = begun(alloc, text, is_filter)?;
+        return Ok(told);
     }
-    let mut text = String::new(alloc);
-    put_steps(&mut text, both, steps, is_filter, is_left)?;
-    begun(alloc, text, is_filter)
+    let told = unfit(alloc, both, path, numbered)?;
+    Ok(told)
 }
 
 /// The path on one side, or `-` if that has no node there.

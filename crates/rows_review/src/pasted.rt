@@ -55,7 +55,7 @@ pub static ROWS: [Row; 12] = [
         left: b"{}\n",
         right: KEYS,
         status: 1,
-        out: "",
+        out: "+\t-\t.[\"a b\"]\t\t!!int \"1\"\n+\t-\t.[\"a-b\"]\t\t!!int \"1\"\n+\t-\t.[\"a/b~c\"]\t\t!!int \"1\"\n+\t-\t.[\"\\\"\\\\\"]\t\t!!int \"1\"\n+\t-\t.[\"\"]\t\t!!int \"1\"\n+\t-\t.[\"0\"]\t\t!!int \"1\"\n+\t-\t.[\"é\"]\t\t!!int \"1\"\n",
         err: "",
     },
     Row {
@@ -64,7 +64,7 @@ pub static ROWS: [Row; 12] = [
         left: b"{}\n",
         right: KEYS,
         status: 1,
-        out: "",
+        out: "+\t-\t/a b\t\t!!int \"1\"\n+\t-\t/a-b\t\t!!int \"1\"\n+\t-\t/a~1b~0c\t\t!!int \"1\"\n+\t-\t/\"\\\t\t!!int \"1\"\n+\t-\t/\t\t!!int \"1\"\n+\t-\t/0\t\t!!int \"1\"\n+\t-\t/é\t\t!!int \"1\"\n",
         err: "",
     },
     Row {
@@ -73,7 +73,7 @@ pub static ROWS: [Row; 12] = [
         left: b"{}\n",
         right: PLAIN,
         status: 1,
-        out: "",
+        out: "+\t-\t![!!int \"1\"]\t\t!!int \"1\"\n+\t-\t![\"a\\tb\"]\t\t!!int \"1\"\n+\t-\t![\"a\\u202Eb\"]\t\t!!int \"1\"\n+\t-\t![[\"a\"]]\t\t!!int \"1\"\n",
         err: "",
     },
     Row {
@@ -82,7 +82,7 @@ pub static ROWS: [Row; 12] = [
         left: b"{}\n",
         right: PLAIN,
         status: 1,
-        out: "",
+        out: "+\t-\t![!!int \"1\"]\t\t!!int \"1\"\n+\t-\t![\"a\\tb\"]\t\t!!int \"1\"\n+\t-\t![\"a\\u202Eb\"]\t\t!!int \"1\"\n+\t-\t![[\"a\"]]\t\t!!int \"1\"\n",
         err: "",
     },
     Row {

@@ -1,4 +1,4 @@
-use Rattle.std.proofs.Common.{◌≡◌, true, false, cond, sym, ◌∙◌, ap}
+use Rattle.std.proofs.Common.{cond, sym, ◌∙◌, ap}
 use Rattle.std.specs.Prelude.{bytes_eq, Some, None}
 use Rattle.std.specs.Cow.{cow_str_bytes}
 use Rattle.yaml_definitions.specs.model.Tag.{str_tag}
