@@ -1,2 +1,3 @@
 pub mod FaultLines
 pub mod Spotted
+pub mod Warned

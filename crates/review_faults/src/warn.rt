@@ -1,16 +1,21 @@
 //! What tools of YAML 1.1 read otherwise in a file.
+ghost use Rattle.std.specs.Prelude.{◌≡◌, ◌≤◌, ◌++◌, ◌∷◌, ◌&&◌, [], flat_map, length, nat_lt, option_map, take, IfOk, OnOk, IfSome, Some, string_bytes};
+ghost use Rattle.yaml_text.specs.EventModel.{event_of};
+ghost use Rattle.yaml_place.specs.LineModel.{IsPlace};
+ghost use Rattle.review_faults.specs.Warned.{is_word, plain_text, asked_text, TellsOlder, FindsWarned, text_in, AreWarnings, ListsWarnings, warning_line, warning_object, warning_text, warnings_text};
+
 use crate::faults::put_head;
 use review_args::Form;
 use review_lines::lines::put_more;
-use review_places::places::{places, unmarked};
-use review_places::trace::trace_of;
+use review_places::places::unmarked;
+use review_places::trace::{Trace, trace_of};
 use review_places::trail::Trail;
 use review_text::fronts::put_shown;
+use review_text::json::{Said, put_object};
 use review_text::text::{CUT, front};
 use review_text::yaml11::{Older, read_older};
-use serde_json::json;
 use std::alloc::Global;
-use yaml_place::Place;
+use yaml_place::{Place, place_after, place_at};
 use yaml_read::read_events;
 use yaml_text::chars::Chars;
 use yaml_text::event::{Event, EventTag, Style};
@@ -24,7 +29,9 @@ struct Warned {
 }
 
 /// The text of an event that is an untagged plain scalar.
-fn plain_text<'e>(event: &'e Event<'_>) -> Option<&'e str> {
+fn plain_text<'e>(event: &'e Event<'_>) -> Option<&'e str>
+    ensures { option_map (λ text. text.now) result ≡ plain_text (event_of event.now) }
+{
     match event {
         Event::Scalar {
             tag: EventTag::None,
@@ -36,13 +43,56 @@ fn plain_text<'e>(event: &'e Event<'_>) -> Option<&'e str> {
     }
 }
 
+/// Whether a text is one of these words.
+fn is_word(words: &[&str], text: &str) -> bool
+    ensures { result ≡ is_word words.now text.now }
+{
+    words.iter().any(|word| *word == text)
+}
+
+/// The same text, unless it is one of the allowed words.
+fn asked_text<'e>(event: &'e Event<'_>, allowed: &[&str]) -> Option<&'e str>
+    ensures { option_map (λ text. text.now) result ≡ asked_text allowed.now (event_of event.now) }
+{
+    match plain_text(event) {
+        Some(text) if !is_word(allowed, text) => Some(text),
+        _ => None,
+    }
+}
+
+/// What YAML 1.1 makes of a text that is asked about, where it reads it otherwise.
+fn older_of(text: Option<&str>, is_key: bool) -> Option<Older>
+    ensures { TellsOlder (option_map (λ t. t.now) text.entry) result }
+{
+    match text {
+        Some(text) => read_older(text, is_key),
+        None => None,
+    }
+}
+
+/// Adds a warning, if there is room for it; if not, the list is not whole.
+fn add(found: &mut Warned, warning: (usize, Older), room: usize) -> Result<(), Fault>
+    requires few { length found.old.list.items ≤ room }
+    ensures list { OnOk result (found.new.list.items ≡ take room (found.old.list.items ++ (warning ∷ []))) }
+    ensures whole { OnOk result (found.new.whole ≡ (found.old.whole && nat_lt (length found.old.list.items) room)) }
+{
+    if found.list.len() < room {
+        found.list.push(warning)?;
+    } else {
+        found.whole = false;
+    }
+    Ok(())
+}
+
 /// The scalars of a file that YAML 1.1 reads otherwise and that are none of the allowed words, at most so many.
 fn find_warned(
     alloc: Global,
     events: &[Event<'_>],
     allowed: &[&str],
     room: usize,
-) -> Result<Warned, Fault> {
+) -> Result<Warned, Fault>
+    ensures { IfOk result (λ found. FindsWarned allowed.now room events.now found.list.items found.whole) }
+{
     let mut found = Warned {
         list: Vec::new(alloc),
         whole: true,
@@ -50,18 +100,9 @@ fn find_warned(
     let mut trail = Trail::new(alloc);
     for (at, event) in events.iter().enumerate() {
         trail.take(at, event)?;
-        let Some(text) = plain_text(event) else {
-            continue;
-        };
-        if allowed.iter().any(|word| *word == text) {
-            continue;
-        }
-        if let Some(older) = read_older(text, trail.is_at_key()) {
-            if found.list.len() >= room {
-                found.whole = false;
-                break;
-            }
-            found.list.push((at, older))?;
+        let is_key = trail.is_at_key();
+        if let Some(older) = older_of(asked_text(event, allowed), is_key) {
+            add(&mut found, (at, older), room)?;
         }
     }
     Ok(found)
@@ -83,29 +124,65 @@ pub struct Warnings {
     pub whole: bool,
 }
 
-/// The offsets of the scalars that were found, each with its number in the list.
-fn offsets_of(
-    alloc: Global,
-    source: &Chars<'_>,
-    found: &Warned,
-) -> Result<Vec<(usize, usize)>, Fault> {
-    let trace = trace_of(alloc, source)?;
-    let mut offsets = Vec::new(alloc);
-    for (number, (event, _)) in found.list.iter().enumerate() {
-        if let Some(offset) = trace.offset(*event) {
-            offsets.push((offset, number))?;
-        }
+/// The place of an offset, from that of another one. It costs more where it lies before that.
+fn go_on(text: &[u8], from: usize, place: Place, to: usize) -> Place
+    requires at { IsPlace text.now from place.line place.column }
+    requires within { to ≤ length text.now }
+    ensures { IsPlace text.now to result.line result.column }
+{
+    if from <= to {
+        place_after(text, from, place, to)
+    } else {
+        place_at(text, to)
     }
-    Ok(offsets)
 }
 
 /// The warning of a scalar that was found.
-fn warning_of(alloc: Global, text: &str, older: &Older, place: Place) -> Result<Warning, Fault> {
+fn warning_of(alloc: Global, text: &str, older: &Older, place: Place) -> Result<Warning, Fault>
+    ensures text { IfOk result (λ warning. string_bytes warning.text ≡ text.now) }
+    ensures place { IfOk result (λ warning. warning.place ≡ place) }
+{
     Ok(Warning {
         place,
         text: text.to_string(alloc)?,
         words: older.words(alloc, text)?,
     })
+}
+
+/// The text of the plain scalar of this number.
+fn text_at<'e>(events: &'e [Event<'_>], number: usize) -> Option<&'e str>
+    ensures { IfSome result (λ text. text_in events.now number ≡ Some text.now) }
+{
+    match events.get(number) {
+        Some(event) => plain_text(event),
+        None => None,
+    }
+}
+
+/// The warnings that were found, each at its event's offset in the text. For each there are a scalar and an offset, so that the
+/// error is want of memory.
+fn told(
+    alloc: Global,
+    events: &[Event<'_>],
+    trace: &Trace,
+    source: &[u8],
+    found: &[(usize, Older)],
+) -> Result<Vec<Warning>, Fault>
+    ensures { IfOk result (λ list. AreWarnings events.now source.now found.now list.items) }
+{
+    let mut list = Vec::new(alloc);
+    let mut at = 0;
+    let mut place = Place { line: 1, column: 1 };
+    'numbers: for (number, older) in found {
+        let (Some(text), Some(offset)) = (text_at(events, *number), trace.offset(*number)) else {
+            return Err(Fault::OutOfMemory);
+        };
+        let to = offset.min(source.len());
+        place = go_on(source, at, place, to);
+        at = to;
+        list.push(warning_of(alloc, text, older, place)?)?;
+    }
+    Ok(list)
 }
 
 /// What YAML 1.1 reads otherwise in a file that is not refused, but for plain scalars that are one of these words: at most so many.
@@ -114,24 +191,49 @@ pub fn list_warnings(
     bytes: &[u8],
     allowed: &[&str],
     room: usize,
-) -> Result<Warnings, Fault> {
+) -> Result<Warnings, Fault>
+    ensures { IfOk result (ListsWarnings bytes.now allowed.now room) }
+{
     let source = Chars::read(bytes)?;
     let events = read_events(alloc, &source)?;
     let found = find_warned(alloc, &events, allowed, room)?;
-    let offsets = offsets_of(alloc, &source, &found)?;
-    let mut list = Vec::new(alloc);
-    for (number, place) in &places(alloc, unmarked(bytes), offsets)? {
-        let Some((event, older)) = found.list.get(*number) else {
-            continue;
-        };
-        if let Some(text) = events.get(*event).and_then(plain_text) {
-            list.push(warning_of(alloc, text, older, *place)?)?;
-        }
-    }
+    let trace = trace_of(alloc, &source)?;
     Ok(Warnings {
-        list,
+        list: told(alloc, &events, &trace, unmarked(bytes), &found.list)?,
         whole: found.whole,
     })
+}
+
+/// Writes the line of a warning.
+fn put_line(out: &mut String, name: &str, warning: &Warning) -> Result<(), Fault>
+    ensures { OnOk result (string_bytes out.new ≡ string_bytes out.old ++ warning_line name.now warning.now) }
+{
+    put_head(out, name, Some(warning.place))?;
+    out.push_str("warning: ")?;
+    put_shown(out, front(&warning.text, CUT))?;
+    out.push_str(": ")?;
+    out.push_str(&warning.words)?;
+    out.push_str("\n")?;
+    Ok(())
+}
+
+/// Writes the JSON object of a warning.
+fn put_json<'t>(
+    alloc: Global,
+    out: &mut String,
+    name: &'t str,
+    warning: &'t Warning,
+) -> Result<(), Fault>
+    ensures { OnOk result (string_bytes out.new ≡ string_bytes out.old ++ warning_object name.now warning.now) }
+{
+    let members = [
+        ("file", Said::Text(Some(name))),
+        ("line", Said::Number(Some(warning.place.line))),
+        ("column", Said::Number(Some(warning.place.column))),
+        ("text", Said::Text(Some(warning.text.as_str()))),
+        ("words", Said::Text(Some(warning.words.as_str()))),
+    ];
+    put_object(alloc, out, &members)
 }
 
 /// Writes a warning.
@@ -141,41 +243,42 @@ fn put_warning(
     name: &str,
     warning: &Warning,
     form: Form,
-) -> Result<(), Fault> {
+) -> Result<(), Fault>
+    ensures { OnOk result (string_bytes out.new ≡ string_bytes out.old ++ warning_text form name.now warning.now) }
+{
     match form {
-        Form::Line => {
-            put_head(out, name, Some(warning.place))?;
-            out.push_str("warning: ")?;
-            put_shown(out, front(&warning.text, CUT))?;
-            out.push_str(": ")?;
-            out.push_str(&warning.words)?;
-        }
-        Form::Json => {
-            let line = warning.place.line as u64;
-            let column = warning.place.column as u64;
-            let text = warning.text.as_str();
-            let words = warning.words.as_str();
-            let object = json!(in alloc; {
-                "file": name, "line": line, "column": column, "text": text, "words": words
-            })?;
-            out.push_str(&object.to_string(alloc)?)?;
-        }
+        Form::Line => put_line(out, name, warning),
+        Form::Json => put_json(alloc, out, name, warning),
     }
-    out.push('\n')?;
+}
+
+/// Writes warnings, a line for each.
+fn put_list(
+    alloc: Global,
+    out: &mut String,
+    name: &str,
+    list: &[Warning],
+    form: Form,
+) -> Result<(), Fault>
+    ensures { OnOk result (string_bytes out.new ≡ string_bytes out.old ++ flat_map (warning_text form name.now) list.now) }
+{
+    for warning in list {
+        put_warning(alloc, out, name, warning, form)?;
+    }
     Ok(())
 }
 
-/// Writes the warnings of a file, a line for each.
+/// Writes the warnings of a file, a line for each, and tells if these are not all.
 pub fn put_warnings(
     alloc: Global,
     out: &mut String,
     name: &str,
     warnings: &Warnings,
     form: Form,
-) -> Result<(), Fault> {
-    for warning in &warnings.list {
-        put_warning(alloc, out, name, warning, form)?;
-    }
+) -> Result<(), Fault>
+    ensures { OnOk result (string_bytes out.new ≡ string_bytes out.old ++ warnings_text form name.now warnings.now.list.items warnings.now.whole) }
+{
+    put_list(alloc, out, name, &warnings.list, form)?;
     if !warnings.whole {
         put_more(out, form)?;
     }

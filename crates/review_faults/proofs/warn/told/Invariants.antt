@@ -1,0 +1,11 @@
+use Rattle.std.proofs.Common.{◌≤◌, length, take}
+use Rattle.yaml_place.specs.LineModel.{IsPlace}
+use Rattle.review_faults.specs.Warned.{AreWarnings}
+use Rattle.review_faults.proofs.warn.told.Given as goal
+
+abbrev pub invariant-numbers : goal.invariant-numbers
+invariant-numbers l = record {
+  told : AreWarnings l.events l.source (take l.number-index l.found) l.list.items;
+  here : IsPlace l.source l.at l.place.line l.place.column;
+  within : l.at ≤ length l.source;
+}
