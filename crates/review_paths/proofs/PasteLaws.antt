@@ -68,12 +68,14 @@ module _ (g : Graph) (f n l : Bool) (path steps : List code.Step) (b : Bool) (e 
   side c = cond c (begun f (flat_map (pasted_step f l) (kept_steps n (way_of g path)))) (unfit n (way_of g path))
 
   pub side_fits : (new t s : List ℕ) → b ≡ true → new ≡ [] → t ≡ new ++ flat_map (λ s. pasted_step f l (step_of g s)) (reverse steps) → s ≡ begun f t → s ≡ side_text f n l (way_of g path)
+  unfolding side
   side_fits new t s k i j m =
       let r = flat_map (λ s. pasted_step f l (step_of g s)) (reverse steps) in
       let same : t ≡ flat_map (pasted_step f l) (kept_steps n (way_of g path)) = j ∙ ap (λ z. z ++ r) i ∙ flat_by_map (pasted_step f l) (step_of g) (reverse steps) ∙ ap (flat_map (pasted_step f l)) e in
       m ∙ ap (begun f) same ∙ ap side (sym k ∙ all_fit)
 
   pub side_unfit : (s : List ℕ) → b ≡ false → s ≡ unfit n (way_of g path) → s ≡ side_text f n l (way_of g path)
+  unfolding side
   side_unfit s k m = m ∙ ap side (sym k ∙ all_fit)
 
 -- ---- a text that is written character by character

@@ -1,5 +1,5 @@
 use Rattle.std.proofs.Common.{◌≡◌, ◌++◌, ◌∷◌, [], rules}
-use Rattle.review_paths.proofs.PasteLaws.{kept_all, kept_rest, kept_none}
+use Rattle.review_paths.proofs.PasteLaws.{kept_all, kept_rest}
 use Rattle.review_paths.proofs.path.kept.Goals as goal
 
 pub returns-then-numbered : goal.returns-then-numbered

@@ -1,4 +1,4 @@
-use Rattle.std.proofs.Common.{◌≡◌, List, ℕ, ◌++◌, ◌∷◌, [], map, sym, ◌∙◌, ap, append-nil}
+use Rattle.std.proofs.Common.{List, ℕ, ◌++◌, ◌∷◌, [], map, sym, ◌∙◌, ap, append-nil}
 use Rattle.std.specs.String.{string_bytes}
 use Rattle.std.specs.List.{flat_map}
 use Rattle.std.proofs.lemmas.List.{map-append}
