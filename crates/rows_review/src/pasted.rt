@@ -134,7 +134,7 @@ pub static ROWS: [Row; 12] = [
         left: b"a/b: 1\n",
         right: b"a/b: 2\n",
         status: 1,
-        out: "{\"kind\":\"changed\",\"left\":\"!!int \\\"1\\\"\",\"left_place\":null,\"path\":\"[\\\"a/b\\\"]\",\"right\":\"!!int \\\"2\\\"\",\"right_place\":null}\n",
+        out: "{\"kind\":\"changed\",\"left\":\"!!int \\\"1\\\"\",\"left_place\":null,\"left_value\":1,\"path\":\"[\\\"a/b\\\"]\",\"right\":\"!!int \\\"2\\\"\",\"right_place\":null,\"right_value\":2,\"steps\":[{\"left\":0,\"right\":0},\"a/b\"]}\n",
         err: "",
     },
 ];
