@@ -1,1 +1,2 @@
 mod FolderLaws
+mod StatusLaws
