@@ -1,6 +1,7 @@
 -- The status of a file in two folders.
 use Rattle.std.specs.Prelude.{IfOk, IfErr}
-use Rattle.std.proofs.Common.{◌≡◌, ◌⊎◌, ℕ, max, Bool, cond, List, [], Option, inr, inl, sym, ◌∙◌, subst}
+use Rattle.std.proofs.Common.{◌≡◌, ℕ, max, Bool, cond, List, [], Option, Result, Ok, Err, Vec, inr, inl, sym, ◌∙◌, subst}
+use Rattle.std.specs.declared.alloc.Global.{Global}
 use Rattle.yaml_text.specs.declared.side.Side.{Side}
 use Rattle.yaml_canon.specs.Comparing.{Compares}
 use Rattle.yaml_command.specs.Shelves.{IsOf}
@@ -9,7 +10,16 @@ use Rattle.review_args.specs.declared.words.Diff.{Diff}
 use Rattle.review_files.specs.Named.{IsUnread, NotBothRead}
 use Rattle.review_files.specs.Told.{TellsFile, TellsBoth, TellsNotCompared}
 use Rattle.review_files.specs.declared.rejected.Named.{Named}
+use Rattle.review_files.specs.declared.unread.Unread.{Unread}
 use Rattle.review_folders.specs.Folders.{IsPath, AsksAlike, LeavesNone, IsRead, NewStatus, BothStatus}
+
+-- not both are read
+pub left_unread : (a b : Result (Vec ℕ Global) Unread) (why : Unread) → a ≡ Err why → NotBothRead a b
+left_unread a b why e = subst (λ z. NotBothRead z b) (sym e) tt
+
+pub right_unread : (a b : Result (Vec ℕ Global) Unread) (why : Unread) → b ≡ Err why → NotBothRead a b
+right_unread (Ok x) b why e = subst (λ z. NotBothRead (Ok x) z) (sym e) tt
+right_unread (Err y) b why e = tt
 
 module _ (holds : List ℕ → Option (List ℕ)) (asked : Diff) (name : List ℕ) where
   -- what reading a path gave is what reading the name that is printed gave
