@@ -45,39 +45,57 @@ module _ (holds : List ℕ → Option (List ℕ)) (asked : Diff) (name : List �
   module _ (ignored : List Pattern) (left right : List ℕ) (at_left : IsPath asked.left.now name left) (at_right : IsPath asked.right.now name right) (left_read right_read : List ℕ) (read_left : left_read ≡ left) (read_right : right_read ≡ right) where
     module _ (one other : Named) (text : List ℕ) (status : ℕ) (one_name : one.name.now ≡ left) (other_name : other.name.now ≡ right) (one_ok : IfOk one.answer.now (λ v. IsOf (holds left_read) v.items)) (one_err : IfErr one.answer.now (IsUnread (holds left_read))) (other_ok : IfOk other.answer.now (λ v. IsOf (holds right_read) v.items)) (other_err : IfErr other.answer.now (IsUnread (holds right_read))) where
       pub not_read : TellsBoth asked.form one other text status → NotBothRead one.answer.now other.answer.now → BothStatus holds asked ignored name status
-      not_read t n = (left, right, at_left, at_right, inr (record {
-        one = one;
-        other = other;
-        one_name = one_name;
-        other_name = other_name;
-        one_is = is_read one left left_read one_name read_left one_ok one_err;
-        other_is = is_read other right right_read other_name read_right other_ok other_err;
-        text = text;
-        tells = inl (n, t);
-      }))
+      not_read t n = (
+        left,
+        right,
+        at_left,
+        at_right,
+        inr (record {
+          one = one;
+          other = other;
+          one_name = one_name;
+          other_name = other_name;
+          one_is = is_read one left left_read one_name read_left one_ok one_err;
+          other_is = is_read other right right_read other_name read_right other_ok other_err;
+          text = text;
+          tells = inl (n, t);
+        }),
+      )
 
       pub not_compared : (side : Side) → TellsNotCompared asked.form one other side text status → BothStatus holds asked ignored name status
-      not_compared side t = (left, right, at_left, at_right, inr (record {
-        one = one;
-        other = other;
-        one_name = one_name;
-        other_name = other_name;
-        one_is = is_read one left left_read one_name read_left one_ok one_err;
-        other_is = is_read other right right_read other_name read_right other_ok other_err;
-        text = text;
-        tells = inr (side, t);
-      }))
+      not_compared side t = (
+        left,
+        right,
+        at_left,
+        at_right,
+        inr (record {
+          one = one;
+          other = other;
+          one_name = one_name;
+          other_name = other_name;
+          one_is = is_read one left left_read one_name read_left one_ok one_err;
+          other_is = is_read other right right_read other_name read_right other_ok other_err;
+          text = text;
+          tells = inr (side, t);
+        }),
+      )
 
     pub compared : (first second : List ℕ) (none : Bool) (question : Diff) (status : ℕ) → IsOf (holds left_read) first → IsOf (holds right_read) second → (ignored ≡ [] → Compares first second none) → AsksAlike asked question → LeavesNone first second question ignored none → status ≡ cond none 0 1 → BothStatus holds asked ignored name status
-    compared first second none question status a b same alike leaves told = (left, right, at_left, at_right, inl (record {
-      first = first;
-      second = second;
-      one = subst (λ z. IsOf (holds z) first) read_left a;
-      other = subst (λ z. IsOf (holds z) second) read_right b;
-      none = none;
-      compares = same;
-      question = question;
-      alike = alike;
-      leaves = leaves;
-      told = told;
-    }))
+    compared first second none question status a b same alike leaves told = (
+      left,
+      right,
+      at_left,
+      at_right,
+      inl (record {
+        first = first;
+        second = second;
+        one = subst (λ z. IsOf (holds z) first) read_left a;
+        other = subst (λ z. IsOf (holds z) second) read_right b;
+        none = none;
+        compares = same;
+        question = question;
+        alike = alike;
+        leaves = leaves;
+        told = told;
+      }),
+    )

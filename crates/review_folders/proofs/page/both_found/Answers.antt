@@ -12,8 +12,8 @@ returns-in_default g c =
     let h : BothStatus (g.S.Shelf.holds c.args.shelf.now) c.args.asked.now c.args.ignored.now c.args.name.now c.in_ok-status.status =
     not_read (g.S.Shelf.holds c.args.shelf.now) c.args.asked.now c.args.name.now c.args.ignored.now _ _ c.in_ok-left_path.ensures c.in_ok-right_path.ensures c.as_str.result.now c.as_str-2.result.now c.as_str.ensures.value c.as_str-2.ensures.value _ _ told.0 c.in_ok-status.status c.as_str-3.ensures.value c.as_str-4.ensures.value c.read_file-left.ensures.ok c.read_file-left.ensures.err c.read_file-right.ensures.ok c.read_file-right.ensures.err told.2
     (elim c.in_default.branch [
-      in_default-via-in-Ok+in_default w ↦ right_unread c.read_file-left.result c.read_file-right.result w.in_default.field-0-1 w.in_default.is-1
-    | in_default-via-in_default w ↦ left_unread c.read_file-left.result c.read_file-right.result w.in_default.field-0-0 w.in_default.is-0
+      | in_default-via-in-Ok+in_default w ↦ right_unread c.read_file-left.result c.read_file-right.result w.in_default.field-0-1 w.in_default.is-1
+      | in_default-via-in_default w ↦ left_unread c.read_file-left.result c.read_file-right.result w.in_default.field-0-0 w.in_default.is-0
     ]) in
     IfOk-weaker c.refused_found.result (λ f. f.status ≡ c.in_ok-status.status) (λ f. BothStatus (g.S.Shelf.holds c.args.shelf.now) c.args.asked.now c.args.ignored.now c.args.name.now f.status) (λ f e. subst (BothStatus (g.S.Shelf.holds c.args.shelf.now) c.args.asked.now c.args.ignored.now c.args.name.now) (sym e) h) c.refused_found.ensures
 
