@@ -21,6 +21,12 @@ pub right_unread : (a b : Result (Vec ℕ Global) Unread) (why : Unread) → b �
 right_unread (Ok x) b why e = subst (λ z. NotBothRead (Ok x) z) (sym e) tt
 right_unread (Err y) b why e = tt
 
+-- the bytes that reading a file gave
+pub read_is : (held : Option (List ℕ)) (answer : Result (Vec ℕ Global) Unread) (bytes : Vec ℕ Global) → answer ≡ Ok bytes → IfOk answer (λ v. IsOf held v.items) → IsOf held bytes.items
+read_is held answer bytes e h =
+    let P : Result (Vec ℕ Global) Unread → Type 0 = λ z. IfOk z (λ v. IsOf held v.items) in
+    subst P e h
+
 module _ (holds : List ℕ → Option (List ℕ)) (asked : Diff) (name : List ℕ) where
   -- what reading a path gave is what reading the name that is printed gave
   is_read : (file : Named) (path read : List ℕ) → file.name.now ≡ path → read ≡ path → IfOk file.answer.now (λ v. IsOf (holds read) v.items) → IfErr file.answer.now (IsUnread (holds read)) → IsRead holds file

@@ -1,8 +1,6 @@
 use Rattle.std.proofs.Common.{inl, sym, ◌∙◌, ap, subst}
-use Rattle.std.proofs.lemmas.Result.{IfOk-at_ok}
-use Rattle.yaml_command.specs.Shelves.{IsOf}
 use Rattle.review_folders.specs.Folders.{BothStatus}
-use Rattle.review_folders.proofs.StatusLaws.{left_unread, right_unread, not_read, not_compared, compared}
+use Rattle.review_folders.proofs.StatusLaws.{read_is, left_unread, right_unread, not_read, not_compared, compared}
 use Rattle.review_folders.proofs.lines.both_told.Goals.{in_default-via-in-Ok+in_default, in_default-via-in_default, in-Ok+in_ok-put_compared-in-Ok, in-Err+in_ok-told-in-Err}
 use Rattle.review_folders.proofs.lines.both_told.Goals as goal
 
@@ -20,7 +18,7 @@ returns g c =
     elim c.match-compare_sides.branch [
       | in-Ok+in_ok-put_compared-in-Ok w ↦
           compared (g.S.Shelf.holds c.args.shelf.now) c.args.asked.now c.args.name.now c.args.ignored.now _ _ c.in_ok-left_path.ensures c.in_ok-right_path.ensures c.as_str.result.now c.as_str-2.result.now c.as_str.ensures.value c.as_str-2.ensures.value c.in-Ok-Ok.one.items c.in-Ok-Ok.other.items w.in-Ok.compared.same c.with_names.result c.match-compare_sides.told.status
-          (IfOk-at_ok (λ v. IsOf (g.S.Shelf.holds c.args.shelf.now c.as_str.result.now) v.items) c.in-Ok-Ok.is-0 c.read_file-left.ensures.ok) (IfOk-at_ok (λ v. IsOf (g.S.Shelf.holds c.args.shelf.now c.as_str-2.result.now) v.items) c.in-Ok-Ok.is-1 c.read_file-right.ensures.ok)
+          (read_is (g.S.Shelf.holds c.args.shelf.now c.as_str.result.now) c.read_file-left.result c.in-Ok-Ok.one c.in-Ok-Ok.is-0 c.read_file-left.ensures.ok) (read_is (g.S.Shelf.holds c.args.shelf.now c.as_str-2.result.now) c.read_file-right.result c.in-Ok-Ok.other c.in-Ok-Ok.is-1 c.read_file-right.ensures.ok)
           (rw c.deref-2.ensures.value at (rw c.deref.ensures.value at w.in-Ok.ensures.same)) c.with_names.ensures
           (inl (_, (rw c.deref-2.ensures.value at (rw c.deref.ensures.value at w.in-Ok.ensures.lines)))) (ap (λ z. z.status) w.told-is ∙ w.status_of.ensures)
       | in-Err+in_ok-told-in-Err w ↦

@@ -1,8 +1,7 @@
 use Rattle.std.proofs.Common.{◌≡◌, inr, refl, sym, subst}
-use Rattle.std.proofs.lemmas.Result.{IfOk-at_ok, IfOk-weaker}
-use Rattle.yaml_command.specs.Shelves.{IsOf}
+use Rattle.std.proofs.lemmas.Result.{IfOk-weaker}
 use Rattle.review_folders.specs.Folders.{AsksAlike, BothStatus}
-use Rattle.review_folders.proofs.StatusLaws.{left_unread, right_unread, not_read, not_compared, compared}
+use Rattle.review_folders.proofs.StatusLaws.{read_is, left_unread, right_unread, not_read, not_compared, compared}
 use Rattle.review_folders.proofs.page.both_found.Goals.{in_default-via-in-Ok+in_default, in_default-via-in_default}
 use Rattle.review_folders.proofs.page.both_found.Goals as goal
 
@@ -21,7 +20,7 @@ pub returns-in-Ok : goal.returns-in-Ok
 returns-in-Ok g c =
     let alike : AsksAlike c.args.asked.now c.args.asked.now = record { by = refl; by_position = refl; folds = refl; lines = refl; form = refl } in
     compared (g.S.Shelf.holds c.args.shelf.now) c.args.asked.now c.args.name.now c.args.ignored.now _ _ c.in_ok-left_path.ensures c.in_ok-right_path.ensures c.as_str.result.now c.as_str-2.result.now c.as_str.ensures.value c.as_str-2.ensures.value c.in-Ok-Ok.one.items c.in-Ok-Ok.other.items c.in-Ok.listed.same c.args.asked.now _
-    (IfOk-at_ok (λ v. IsOf (g.S.Shelf.holds c.args.shelf.now c.as_str.result.now) v.items) c.in-Ok-Ok.is-0 c.read_file-left.ensures.ok) (IfOk-at_ok (λ v. IsOf (g.S.Shelf.holds c.args.shelf.now c.as_str-2.result.now) v.items) c.in-Ok-Ok.is-1 c.read_file-right.ensures.ok)
+    (read_is (g.S.Shelf.holds c.args.shelf.now c.as_str.result.now) c.read_file-left.result c.in-Ok-Ok.one c.in-Ok-Ok.is-0 c.read_file-left.ensures.ok) (read_is (g.S.Shelf.holds c.args.shelf.now c.as_str-2.result.now) c.read_file-right.result c.in-Ok-Ok.other c.in-Ok-Ok.is-1 c.read_file-right.ensures.ok)
     (rw c.deref-2.ensures.value at (rw c.deref.ensures.value at c.in-Ok.ensures.same)) alike
     (inr (c.in-Ok.listed, (rw c.deref-2.ensures.value at (rw c.deref.ensures.value at c.in-Ok.ensures.lists)), refl)) c.status_of.ensures
 
