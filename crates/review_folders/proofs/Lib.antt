@@ -1,0 +1,2 @@
+mod FolderLaws
+mod StatusLaws
