@@ -1,5 +1,7 @@
 //! The commands.
-ghost use Rattle.std.specs.Prelude.{◌≡◌, IfOk, IfErr};
+ghost use Rattle.std.specs.Prelude.{◌≡◌, ◌<◌, ◌-◌, ◌^◌, map, IfOk, IfErr};
+ghost use Rattle.yaml_text.specs.CountedModel.{faults_of};
+ghost use Rattle.review_command.specs.Gits.{GitEnds};
 ghost use Rattle.review_command.specs.Rejections.{no_diff_status};
 ghost use Rattle.review_command.specs.Runs.{AsksSum, SumRuns, AsksMerge, Does};
 ghost use Rattle.review_merge.specs.Merges.{no_merge_status};
@@ -42,17 +44,20 @@ fn git<S: Shelf, W: Write, E: Write>(
     shelf: &S,
     alloc: Global,
     words: &[&str],
-    out: &mut W,
+    out: &mut Counted<W>,
     err: &mut E,
-) -> u8 {
+) -> u8
+    requires { faults_of out.old < 2 ^ 64 - 1 }
+    ensures { GitEnds (S.holds shelf.now) W.contents (map (λ s. s.now) words.now) out.old out.new result }
+{
     let Some(asked) = git_asked(words) else {
         return tell_usage(GIT_WORDS, err);
     };
-    let written = match git_text(shelf, alloc, asked) {
-        Ok(text) => put_page(out, text.as_bytes()),
-        Err(fault) => Err(fault),
+    let text = match git_text(shelf, alloc, asked) {
+        Ok(text) => text,
+        Err(_) => return tell_bare(Fault::OutOfMemory, err),
     };
-    match written {
+    match put_page(out, text.as_bytes()) {
         Ok(()) => DONE,
         Err(fault) => tell_bare(fault, err),
     }
@@ -146,7 +151,10 @@ fn run<S: Shelf, R: Read + Drop, W: Write + Drop, E: Write + Drop>(
             reports(shelf, alloc, kind, &asked, &mut input, &mut out, &mut err)
         }
         Asked::Show(asked) => { show_files(shelf, alloc, &asked, &mut input, &mut out, &mut err) }
-        Asked::Git(words) => git(shelf, alloc, &words, &mut out, &mut err),
+        Asked::Git(words) => {
+            let mut out = Counted::new(out);
+            git(shelf, alloc, &words, &mut out, &mut err)
+        }
         Asked::Sum(asked) => sum(shelf, alloc, sum_asked(&asked), input, out, err),
         Asked::Merge(asked) => {
             let names = merge_names(&asked);

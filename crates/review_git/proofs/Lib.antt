@@ -1,2 +1,4 @@
 pub mod AskedLaws
+pub mod FileLaws
 pub mod HeadLaws
+pub mod NoneLaws
