@@ -1,4 +1,3 @@
 pub mod Diffs
-pub mod Gits
 pub mod Rejections
 pub mod Runs

@@ -8,7 +8,6 @@ use Rattle.review_args.specs.declared.words.Diff.{Diff}
 use Rattle.review_args.specs.declared.words.Report.{Report}
 use Rattle.review_patterns.specs.declared.pattern.Pattern.{Pattern}
 use Rattle.review_command.specs.Diffs.{DiffTells}
-use Rattle.review_command.specs.Gits.{GitEnds}
 use Rattle.review_command.specs.Rejections.{DiffRefuses, no_diff_status}
 use Rattle.review_command.specs.declared.diff.NoDiff.{NoDiff}
 use Rattle.review_args.specs.declared.words.Merge.{Merge}
@@ -89,21 +88,13 @@ module _ {R W E : Type 0} (holds : List ℕ → Option (List ℕ)) (remaining : 
     pub no_write : faults_of old ≡ 0
     pub ends : MergeTells holds remaining contents names input end old new status ⊎ (2 ≤ status)
 
-  pub record GitRuns (words : List (List ℕ)) (out : W) (status : ℕ) : Type 0 where
-    pub old : Counted W
-    pub new : Counted W
-    pub writer : inner_of old ≡ out
-    pub no_write : faults_of old ≡ 0
-    pub ends : GitEnds holds contents words old new status
-
-  -- What `diff`, `faults`, `warn`, `sum`, `git` and `merge3` do; of the other commands nothing is said here.
+  -- What `diff`, `faults`, `warn`, `sum` and `merge3` do; of the other commands nothing is said here.
   abbrev pub Does : Asked → R → W → E → ℕ → Type 0
   Does (asks.Diff asked ignored) input out err status = DiffRuns asked ignored.items input out status
   Does (asks.Faults asked) input out err status = ReportsTell Faults asked input out status
   Does (asks.Warn asked warn) input out err status = (kind : Kind) × AsksWarnings warn kind × ReportsTell kind asked input out status
   Does (asks.FaultsPage page asked) input out err status = PagesTell Faults asked input out status
   Does (asks.WarnPage page asked warn) input out err status = (kind : Kind) × AsksWarnings warn kind × PagesTell kind asked input out status
-  Does (asks.Git words) input out err status = GitRuns (map (λ s. s.now) words.items) out status
   Does (asks.Sum asked) input out err status = (is : SumAsked) × AsksSum asked is × SumRuns is input out err status
   Does (asks.Merge asked) input out err status = MergeRuns asked input out status
   Does _ input out err status = Unit {0}

