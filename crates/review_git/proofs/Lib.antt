@@ -1,2 +1,6 @@
 pub mod AskedLaws
+pub mod BothLaws
+pub mod FileLaws
 pub mod HeadLaws
+pub mod NoneLaws
+pub mod ShownLaws

@@ -1,173 +1,26 @@
-//! What git passes to an external diff.
+//! What is printed of what git passes to an external diff.
+ghost use Rattle.std.specs.Prelude.{◌≡◌, ◌++◌, ℕ, List, IfOk, OnOk, string_bytes};
+ghost use Rattle.review_git.specs.Sides.{kind_of};
+ghost use Rattle.review_git.specs.Texts.{or_same, unmerged_text, OfKinds, OfBoth, OfSides, OfPair, WritesPair, GitWrites};
+
 use crate::asked::{GitAsked, Kind, Pair, are_equal};
-use crate::git_show::put_shown_lines;
+use crate::differences::{put_differences, put_new};
 use crate::heads::{put_alone, put_modes, put_name, put_renamed};
-use review_args::{Diff, Form, Paths};
-use review_compare::compare_sides;
-use review_files::files::read_file;
-use review_files::rejected::{Named, put_not_compared, put_rejection, put_rejections};
-use review_files::unread::Unread;
+use crate::targets::put_targets;
 use review_text::put_shown;
 use std::alloc::Global;
-use std::io::{ErrorKind, Write};
-use std::str;
 use yaml_command::shelf::Shelf;
 use yaml_text::fault::Fault;
 
-/// How many lines `git` prints for a file.
-const LINES: usize = 1_000;
-
-/// What the one line of a submodule's text begins with.
-const COMMIT: &str = "Subproject commit ";
-
-/// The first line of what a link or a submodule holds: where it leads, or the commit.
-fn first_line(bytes: &[u8]) -> &str {
-    let text = str::from_utf8(bytes).unwrap_or("");
-    let line = text.split('\n').next().unwrap_or(text);
-    line.strip_prefix(COMMIT).unwrap_or(line)
-}
-
-/// Writes what a link or a submodule was and is.
-fn put_targets<S: Shelf>(
-    shelf: &S,
-    alloc: Global,
-    out: &mut String,
-    words: &str,
-    pair: Pair<'_>,
-) -> Result<(), Fault> {
-    let left = read_file(shelf, alloc, pair.left.file);
-    let right = read_file(shelf, alloc, pair.right.file);
-    let (Ok(left), Ok(right)) = (&left, &right) else {
-        put_rejections(
-            alloc,
-            out,
-            Named {
-                name: pair.left.file,
-                answer: &left,
-            },
-            Named {
-                name: pair.right.file,
-                answer: &right,
-            },
-            Form::Line,
-        )?;
-        return Ok(());
-    };
-    let (left, right) = (first_line(left), first_line(right));
-    if left == right {
-        return Ok(());
-    }
-    out.push_str(words)?;
-    put_shown(out, left)?;
-    out.push_str(" -> ")?;
-    put_shown(out, right)?;
-    out.push('\n')?;
-    Ok(())
-}
-
-/// A path as git labels it on one side.
-fn label(alloc: Global, side: &str, path: &str) -> Result<String, Fault> {
-    let mut name = String::new(alloc);
-    name.push_str(side)?;
-    name.push_str(path)?;
-    Ok(name)
-}
-
-/// The label of the right path, which a renamed file has anew.
-fn right_label(alloc: Global, pair: Pair<'_>) -> Result<String, Fault> {
-    match pair.renamed {
-        Some((path, _)) => label(alloc, "b/", path),
-        None => label(alloc, "b/", pair.path),
-    }
-}
-
-/// What is asked of the differences of two files of these names.
-fn lines_of<'n>(left: &'n str, right: &'n str) -> Diff<'n> {
-    Diff {
-        left,
-        right,
-        places: true,
-        whole: false,
-        lines: LINES,
-        form: Form::Line,
-        context: 0,
-        color: false,
-        stat: false,
-        by_position: false,
-        by: &[],
-        folds: true,
-        paths: Paths::Plain,
-    }
-}
-
-/// The lines of the differences of two files; or, of each that is not read or is rejected, what `faults` prints.
-fn put_differences<S: Shelf>(
+/// Writes what two sides of these kinds have differently.
+fn put_kinds<S: Shelf>(
     shelf: &S,
     alloc: Global,
     out: &mut String,
     pair: Pair<'_>,
-) -> Result<(), Fault> {
-    let (left_name, right_name) = (label(alloc, "a/", pair.path)?, right_label(alloc, pair)?);
-    let (left_name, right_name) = (left_name.as_str(), right_name.as_str());
-    let left = read_file(shelf, alloc, pair.left.file);
-    let right = read_file(shelf, alloc, pair.right.file);
-    let first = Named {
-        name: left_name,
-        answer: &left,
-    };
-    let second = Named {
-        name: right_name,
-        answer: &right,
-    };
-    let (Ok(left), Ok(right)) = (&left, &right) else {
-        put_rejections(alloc, out, first, second, Form::Line)?;
-        return Ok(());
-    };
-    if pair.is_shown {
-        let left = (left_name, left.as_slice());
-        return put_shown_lines(alloc, out, left, (right_name, right.as_slice()));
-    }
-    match compare_sides(alloc, &lines_of(left_name, right_name), &[], left, right) {
-        Ok(told) => out.push_str(&told.text)?,
-        Err((side, _)) => {
-            put_not_compared(alloc, out, first, second, side, Form::Line)?;
-        }
-    }
-    Ok(())
-}
-
-/// What is printed of a new file: that it is one, and why it is rejected, if it is.
-fn put_new<S: Shelf>(
-    shelf: &S,
-    alloc: Global,
-    out: &mut String,
-    pair: Pair<'_>,
-) -> Result<(), Fault> {
-    put_alone(out, "new file", pair.right)?;
-    if pair.right.kind() == Kind::File {
-        let name = right_label(alloc, pair)?;
-        let answer: Result<Vec<u8>, Unread> = read_file(shelf, alloc, pair.right.file);
-        let file = Named {
-            name: name.as_str(),
-            answer: &answer,
-        };
-        put_rejection(alloc, out, file, Form::Line)?;
-    }
-    Ok(())
-}
-
-/// What is printed of two sides that exist.
-fn put_changed<S: Shelf>(
-    shelf: &S,
-    alloc: Global,
-    out: &mut String,
-    pair: Pair<'_>,
-) -> Result<(), Fault> {
-    put_modes(out, pair)?;
-    put_renamed(out, pair)?;
-    if are_equal(pair.left, pair.right) {
-        return Ok(());
-    }
+) -> Result<(), Fault>
+    ensures { OnOk result ((text : List ℕ) × (string_bytes out.new ≡ string_bytes out.old ++ text) × OfKinds (S.holds shelf.now) (kind_of pair.entry.left.mode.now) (kind_of pair.entry.right.mode.now) pair.entry text) }
+{
     match (pair.left.kind(), pair.right.kind()) {
         (Kind::File, Kind::File) => put_differences(shelf, alloc, out, pair),
         (Kind::Link, Kind::Link) => put_targets(shelf, alloc, out, "symbolic link ", pair),
@@ -176,46 +29,93 @@ fn put_changed<S: Shelf>(
     }
 }
 
-/// What is printed of a pair, without its name.
-fn pair_text<S: Shelf>(shelf: &S, alloc: Global, pair: Pair<'_>) -> Result<String, Fault> {
+/// What is printed of two sides that exist.
+fn put_changed<S: Shelf>(
+    shelf: &S,
+    alloc: Global,
+    out: &mut String,
+    pair: Pair<'_>,
+) -> Result<(), Fault>
+    ensures { OnOk result ((text : List ℕ) × (string_bytes out.new ≡ string_bytes out.old ++ text) × OfBoth (S.holds shelf.now) pair.entry text) }
+{
+    put_modes(out, pair)?;
+    put_renamed(out, pair)?;
+    if are_equal(pair.left, pair.right) {
+        return Ok(());
+    }
+    put_kinds(shelf, alloc, out, pair)
+}
+
+/// Writes what is printed of a pair, without its name.
+fn put_pair<S: Shelf>(
+    shelf: &S,
+    alloc: Global,
+    out: &mut String,
+    pair: Pair<'_>,
+) -> Result<(), Fault>
+    ensures { OnOk result ((text : List ℕ) × (string_bytes out.new ≡ string_bytes out.old ++ text) × OfSides (S.holds shelf.now) (kind_of pair.entry.left.mode.now) (kind_of pair.entry.right.mode.now) pair.entry text) }
+{
+    match pair.left.kind() {
+        Kind::None => put_new(shelf, alloc, out, pair),
+        Kind::File | Kind::Link | Kind::Submodule => match pair.right.kind() {
+            Kind::None => put_alone(out, "deleted file", pair.left),
+            Kind::File | Kind::Link | Kind::Submodule => put_changed(shelf, alloc, out, pair),
+        },
+    }
+}
+
+/// Writes what is printed of a pair, or that there is nothing to print.
+fn put_pair_or_same<S: Shelf>(
+    shelf: &S,
+    alloc: Global,
+    out: &mut String,
+    pair: Pair<'_>,
+) -> Result<(), Fault>
+    ensures { OnOk result ((text : List ℕ) × (string_bytes out.new ≡ string_bytes out.old ++ text) × OfPair (S.holds shelf.now) pair.entry text) }
+{
+    let mut text = String::new(alloc);
+    put_pair(shelf, alloc, &mut text, pair)?;
+    out.push_str(or_same(text.as_str()))?;
+    Ok(())
+}
+
+/// A text, or the line that there is none.
+fn or_same(text: &str) -> &str
+    ensures { result.now ≡ or_same text.now }
+{
+    if text.is_empty() { "same\n" } else { text }
+}
+
+/// What is printed of a path that is not merged.
+fn unmerged_text(alloc: Global, path: &str) -> Result<String, Fault>
+    ensures { IfOk result (λ text. string_bytes text ≡ unmerged_text path.now) }
+{
     let mut out = String::new(alloc);
-    match (pair.left.kind(), pair.right.kind()) {
-        (Kind::None, _) => put_new(shelf, alloc, &mut out, pair)?,
-        (_, Kind::None) => put_alone(&mut out, "deleted file", pair.left)?,
-        _ => put_changed(shelf, alloc, &mut out, pair)?,
-    }
-    if out.is_empty() {
-        out.push_str("same\n")?;
-    }
+    out.push_str("diff ")?;
+    put_shown(&mut out, path)?;
+    out.push_str("\nnot merged\n")?;
+    Ok(out)
+}
+
+/// What is printed of a changed file, from its name on.
+fn changed_text<S: Shelf>(shelf: &S, alloc: Global, pair: Pair<'_>) -> Result<String, Fault>
+    ensures { IfOk result (λ text. WritesPair (S.holds shelf.now) pair.entry (string_bytes text)) }
+{
+    let mut out = String::new(alloc);
+    put_name(&mut out, pair)?;
+    put_pair_or_same(shelf, alloc, &mut out, pair)?;
     Ok(out)
 }
 
 /// What is printed of what git asks for. A side that cannot be read or is rejected is reported there.
-pub fn git_text<S: Shelf>(shelf: &S, alloc: Global, asked: GitAsked<'_>) -> Result<String, Fault> {
-    let mut out = String::new(alloc);
+///
+/// # Errors
+/// Want of memory.
+pub fn git_text<S: Shelf>(shelf: &S, alloc: Global, asked: GitAsked<'_>) -> Result<String, Fault>
+    ensures { IfOk result (λ text. GitWrites (S.holds shelf.now) asked.entry (string_bytes text)) }
+{
     match asked {
-        GitAsked::Unmerged(path) => {
-            out.push_str("diff ")?;
-            put_shown(&mut out, path)?;
-            out.push_str("\nnot merged\n")?;
-        }
-        GitAsked::Changed(pair) => {
-            put_name(&mut out, pair)?;
-            out.push_str(&pair_text(shelf, alloc, pair)?)?;
-        }
-    }
-    Ok(out)
-}
-
-/// Writes what is told and flushes. Where whoever reads it has gone, as `head` and a pager do, nothing is left to be told.
-pub fn put_page<W: Write>(out: &mut W, text: &[u8]) -> Result<(), Fault> {
-    let written = match out.write_all(text) {
-        Ok(()) => out.flush(),
-        Err(error) => Err(error),
-    };
-    match written {
-        Ok(()) => Ok(()),
-        Err(error) if error.kind() == ErrorKind::BrokenPipe => Ok(()),
-        Err(_) => Err(Fault::WriteFault),
+        GitAsked::Unmerged(path) => unmerged_text(alloc, path),
+        GitAsked::Changed(pair) => changed_text(shelf, alloc, pair),
     }
 }

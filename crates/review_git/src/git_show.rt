@@ -1,4 +1,7 @@
 //! The changed lines of what `show` writes of two files.
+ghost use Rattle.std.specs.Prelude.{◌≡◌, ◌++◌, ℕ, List, Some, IfOk, OnOk, option_map, codes, string_bytes};
+ghost use Rattle.review_git.specs.Shown.{IsShownFile, side_lines, TellsChanges, TellsShown};
+
 use review_show::put_unshown;
 use review_text::put_shown;
 use std::alloc::Global;
@@ -11,23 +14,69 @@ use yaml_unified::put_unified;
 const CONTEXT: usize = 3;
 
 /// What `show` writes of a file; none if it is rejected, and then it is written why.
-fn shown_of(alloc: Global, out: &mut String, file: (&str, &[u8])) -> Result<Option<String>, Fault> {
+fn shown_of(alloc: Global, out: &mut String, file: (&str, &[u8])) -> Result<Option<String>, Fault>
+    ensures { IfOk result (λ shown. (text : List ℕ) × (string_bytes out.new ≡ string_bytes out.old ++ text) × IsShownFile file.entry.0.now file.entry.1.now (option_map string_bytes shown) text) }
+{
     match show(alloc, file.1) {
         Ok(text) => Ok(Some(text)),
         Err(Fault::OutOfMemory) => Err(Fault::OutOfMemory),
         Err(fault) => {
-            put_unshown(alloc, out, file.0, file.1, Unshown::Rejected(fault))?;
+            let mut why = String::new(alloc);
+            put_unshown(alloc, &mut why, file.0, file.1, Unshown::Rejected(fault))?;
+            out.push_str(why.as_str())?;
             Ok(None)
         }
     }
 }
 
-/// Writes a line with the name of a side.
-fn put_side(out: &mut String, sign: &str, name: &str) -> Result<(), Fault> {
-    out.push_str(sign)?;
-    put_shown(out, name)?;
+/// Writes the lines with the names of both sides.
+fn put_sides(out: &mut String, left: &str, right: &str) -> Result<(), Fault>
+    ensures { OnOk result (string_bytes out.new ≡ string_bytes out.old ++ side_lines left.now right.now) }
+{
+    out.push_str("--- ")?;
+    put_shown(out, left)?;
+    out.push_str("\n+++ ")?;
+    put_shown(out, right)?;
     out.push_str("\n")?;
     Ok(())
+}
+
+/// Writes the changed lines of two texts as a unified diff, behind the names of both sides. It writes nothing if the texts are equal.
+fn put_changes(
+    alloc: Global,
+    out: &mut String,
+    names: (&str, &str),
+    old: &str,
+    new: &str,
+) -> Result<(), Fault>
+    ensures { OnOk result ((text : List ℕ) × (string_bytes out.new ≡ string_bytes out.old ++ text) × TellsChanges names.entry.0.now names.entry.1.now (Some old.now) (Some new.now) text) }
+{
+    if old == new {
+        return Ok(());
+    }
+    put_sides(out, names.0, names.1)?;
+    let edits = script_of(alloc, old, new)?;
+    put_unified(out, &edits, CONTEXT)?;
+    Ok(())
+}
+
+/// The same of texts of which either may be missing. Nothing is written then.
+fn put_both(
+    alloc: Global,
+    out: &mut String,
+    names: (&str, &str),
+    old: &Option<String>,
+    new: &Option<String>,
+) -> Result<(), Fault>
+    ensures { OnOk result ((text : List ℕ) × (string_bytes out.new ≡ string_bytes out.old ++ text) × TellsChanges names.entry.0.now names.entry.1.now (option_map string_bytes old.now) (option_map string_bytes new.now) text) }
+{
+    match old {
+        Some(old) => match new {
+            Some(new) => put_changes(alloc, out, names, old.as_str(), new.as_str()),
+            None => Ok(()),
+        },
+        None => Ok(()),
+    }
 }
 
 /// Writes the changed lines of what `show` writes of two files, given by their names and bytes, as a unified diff; or why a file is
@@ -37,17 +86,11 @@ pub(crate) fn put_shown_lines(
     out: &mut String,
     left: (&str, &[u8]),
     right: (&str, &[u8]),
-) -> Result<(), Fault> {
-    let left_text = shown_of(alloc, out, left)?;
-    let right_text = shown_of(alloc, out, right)?;
-    let (Some(left_text), Some(right_text)) = (left_text, right_text) else {
-        return Ok(());
-    };
-    if left_text.as_str() == right_text.as_str() {
-        return Ok(());
-    }
-    put_side(out, "--- ", left.0)?;
-    put_side(out, "+++ ", right.0)?;
-    let edits = script_of(alloc, left_text.as_str(), right_text.as_str())?;
-    put_unified(out, &edits, CONTEXT)
+) -> Result<(), Fault>
+    ensures { OnOk result ((text : List ℕ) × (string_bytes out.new ≡ string_bytes out.old ++ text) × TellsShown left.entry.0.now right.entry.0.now left.entry.1.now right.entry.1.now text) }
+{
+    let old = shown_of(alloc, out, left)?;
+    let new = shown_of(alloc, out, right)?;
+    put_both(alloc, out, (left.0, right.0), &old, &new)?;
+    Ok(())
 }

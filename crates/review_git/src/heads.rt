@@ -1,7 +1,7 @@
 //! The lines before the differences: which file, which modes, which path it had.
-ghost use Rattle.std.specs.Prelude.{◌≡◌, ◌++◌, OnOk, MatchBool, codes, string_bytes};
+ghost use Rattle.std.specs.Prelude.{◌≡◌, ◌++◌, ℕ, List, OnOk, MatchBool, codes, string_bytes};
 ghost use Rattle.review_git.specs.Sides.{kind_note, mode_text, alone_line, modes_line, HasLine, IsChange};
-ghost use Rattle.review_git.specs.Heads.{name_line};
+ghost use Rattle.review_git.specs.Heads.{name_line, IsRenamedLine};
 
 use crate::asked::{Kind, Pair, Side};
 use review_text::put_shown;
@@ -97,7 +97,9 @@ fn words_of(lines: &str) -> &'static str
 }
 
 /// Writes from which path a file was renamed or copied, if it was.
-pub(crate) fn put_renamed(out: &mut String, pair: Pair<'_>) -> Result<(), Fault> {
+pub(crate) fn put_renamed(out: &mut String, pair: Pair<'_>) -> Result<(), Fault>
+    ensures { OnOk result ((line : List ℕ) × (string_bytes out.new ≡ string_bytes out.old ++ line) × IsRenamedLine pair.entry line) }
+{
     let Some((_, lines)) = pair.renamed else {
         return Ok(());
     };

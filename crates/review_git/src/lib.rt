@@ -2,9 +2,13 @@
 #![tactic(auto)]
 
 mod asked;
+mod differences;
 mod git;
 mod git_show;
 mod heads;
+mod page;
+mod targets;
 
 pub use asked::{GitAsked, Pair, Side, git_asked};
-pub use git::{git_text, put_page};
+pub use git::git_text;
+pub use page::put_page;
