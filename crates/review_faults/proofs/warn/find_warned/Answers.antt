@@ -1,4 +1,4 @@
-use Rattle.std.proofs.Common.{◌≡◌, ◌+◌, List, [], ◌∷◌, ◌++◌, take, length, sym, ◌∙◌, ap, subst, arith}
+use Rattle.std.proofs.Common.{◌≡◌, ◌+◌, [], ◌∷◌, ◌++◌, take, length, sym, ◌∙◌, ap, subst, arith}
 use Rattle.std.specs.Prelude.{Some, None}
 use Rattle.std.proofs.lemmas.List.{take_more, length-take-le}
 use Rattle.review_faults.specs.Warned.{TellsOlder, FindsWarned}
@@ -16,13 +16,13 @@ loop-at-preserved c =
     let more : take (i + 1) es ≡ take i es ++ (e ∷ []) = take_more es i e c.loop-at-test.true ∙ ap (λ z. take i es ++ (z ∷ [])) (sym c.index-events-at.is) in
     let count : i ≡ length (take i es) = sym (length-take-le i es (omega (arith, c.loop-at-test.true))) in
     elim c.match-older_of.branch [
-    | in-Some+in_ok-add w ↦
-        let why = w.in-Some.older in
-        let told = subst (λ z. TellsOlder z (Some why)) c.asked_text.ensures w.in-Some.ensures in
-        subst (λ z. FindsWarned allowed room (take (i + 1) es) z.list.items z.whole) (sym w.found-is)
-        (one_more allowed room (take i es) (take (i + 1) es) e why i c.loop-at.found.list.items w.add.new.found.list.items c.loop-at.found.whole w.add.new.found.whole more count told w.in_ok-add.ensures.list w.in_ok-add.ensures.whole c.loop-at.invariant)
-    | in_default w ↦
-        let told = subst (λ z. TellsOlder z None) c.asked_text.ensures w.in_default.ensures in
-        subst (λ z. FindsWarned allowed room (take (i + 1) es) z.list.items z.whole) (sym w.found-is)
-        (none_more allowed room (take i es) (take (i + 1) es) e c.loop-at.found.list.items c.loop-at.found.whole more told c.loop-at.invariant)
+      | in-Some+in_ok-add w ↦
+          let why = w.in-Some.older in
+          let told = subst (λ z. TellsOlder z (Some why)) c.asked_text.ensures w.in-Some.ensures in
+          subst (λ z. FindsWarned allowed room (take (i + 1) es) z.list.items z.whole) (sym w.found-is)
+          (one_more allowed room (take i es) (take (i + 1) es) e why i c.loop-at.found.list.items w.add.new.found.list.items c.loop-at.found.whole w.add.new.found.whole more count told w.in_ok-add.ensures.list w.in_ok-add.ensures.whole c.loop-at.invariant)
+      | in_default w ↦
+          let told = subst (λ z. TellsOlder z None) c.asked_text.ensures w.in_default.ensures in
+          subst (λ z. FindsWarned allowed room (take (i + 1) es) z.list.items z.whole) (sym w.found-is)
+          (none_more allowed room (take i es) (take (i + 1) es) e c.loop-at.found.list.items c.loop-at.found.whole more told c.loop-at.invariant)
     ]
