@@ -1,6 +1,8 @@
 -- Warnings that are listed as far as they are asked for.
-use Rattle.std.proofs.Common.{◌≡◌, ℕ, zero, suc, ◌+◌, Bool, true, false, not, ◌&&◌, ◌==◌, nat_le, cond, List, [], ◌∷◌, ◌++◌, length, take, refl, sym, ◌∙◌, ap, subst, arith}
+use Rattle.std.proofs.Common.{◌≡◌, ℕ, zero, suc, ◌+◌, ◌<◌, Bool, true, false, not, ◌&&◌, ◌==◌, nat_le, cond, List, [], ◌∷◌, ◌++◌, length, take, get_or, refl, sym, ◌∙◌, ap, subst, arith}
 use Rattle.std.specs.Borrow.{Bor}
+use Rattle.std.proofs.lemmas.Bool.{eqb-true, ne_eqb}
+use Rattle.std.proofs.lemmas.List.{take_more}
 use Rattle.yaml_text.specs.declared.event.Event.{Event}
 use Rattle.review_args.specs.declared.words.Form.{Form}
 use Rattle.review_args.specs.declared.words.Warn.{Warn}
@@ -20,11 +22,11 @@ as_many events text (t ∷ found) list (one, rest, w, r, e) = ap length e ∙ ap
 
 some_room : (lines : ℕ) → (room : ℕ) × (room_for lines ≡ suc room)
 some_room zero = (0, refl)
-some_room (suc n) = (n, refl)
+some_room (suc n) = (n, ap (λ z. cond z 1 (suc n)) (ne_eqb (suc n) 0 (λ e. omega arith)))
 
 first_none : (all : List (ℕ × Older)) (room : ℕ) → (length (take (suc room) all) == 0) ≡ (length all == 0)
 first_none [] room = refl
-first_none (x ∷ xs) room = refl
+first_none (x ∷ xs) room = ne_eqb (length (take (suc room) (x ∷ xs))) 0 (λ e. omega (arith, e)) ∙ sym (ne_eqb (length (x ∷ xs)) 0 (λ e. omega (arith, e)))
 
 -- no warning is listed exactly if there is none
 is_none : (bytes : List ℕ) (allowed : List (Bor (List ℕ))) (all : List (ℕ × Older)) (lines : ℕ) (list : List Warning) → ListsFirst bytes allowed all (room_for lines) list → (length list == 0) ≡ (length all == 0)
@@ -34,19 +36,19 @@ is_none bytes allowed all lines list h =
 
 none_asked : (bytes : List ℕ) (allowed : List (Bor (List ℕ))) (all : List (ℕ × Older)) (room lines : ℕ) (list : List Warning) → (lines == 0) ≡ true → ListsFirst bytes allowed all room list → ListsFirst bytes allowed all lines []
 none_asked bytes allowed all room zero list z h = record { events = h.events; reads = h.reads; warned = h.warned; are = refl }
-none_asked bytes allowed all room (suc n) list z h = absurd (arith, z)
+none_asked bytes allowed all room (suc n) list z h = let q = eqb-true (suc n) 0 z in absurd (omega (arith, q))
 
 room_is : (lines : ℕ) → (lines == 0) ≡ false → room_for lines ≡ lines
 room_is lines e = ap (λ z. cond z 1 lines) e
 
 -- ---- as lines
 
-module _ (w : Warn) (form : Form) (name bytes : List ℕ) (warnings : Warnings) (status : ℕ) (h : ListsWarnings bytes w.allowed.items (room_for w.lines) warnings) (s : status ≡ cond (w.is_strict && not (length warnings.list.items == 0)) 1 0) where
+module _ (w : Warn) (name bytes : List ℕ) (warnings : Warnings) (status : ℕ) (h : ListsWarnings bytes w.allowed.items (room_for w.lines) warnings) (s : status ≡ cond (w.is_strict && not (length warnings.list.items == 0)) 1 0) where
   answers : status ≡ cond (w.is_strict && not (length h.all == 0)) 1 0
   answers = s ∙ ap (λ z. cond (w.is_strict && not z) 1 0) (is_none bytes w.allowed.items h.all w.lines warnings.list.items h.first)
 
-  pub no_lines : (text : List ℕ) → (w.lines == 0) ≡ true → text ≡ [] → AddsWarnings w form name bytes text status
-  no_lines text z t =
+  pub no_lines : (form : Form) (text : List ℕ) → (w.lines == 0) ≡ true → text ≡ [] → AddsWarnings w form name bytes text status
+  no_lines form text z t =
       record {
         all = h.all;
         list = [];
@@ -58,8 +60,8 @@ module _ (w : Warn) (form : Form) (name bytes : List ℕ) (warnings : Warnings) 
   asked : (w.lines == 0) ≡ false → ListsFirst bytes w.allowed.items h.all w.lines warnings.list.items
   asked z = subst (λ n. ListsFirst bytes w.allowed.items h.all n warnings.list.items) (room_is w.lines z) h.first
 
-  pub some_lines : (text : List ℕ) → (w.lines == 0) ≡ false → text ≡ warnings_text form name warnings.list.items warnings.whole → AddsWarnings w form name bytes text status
-  some_lines text z t =
+  pub some_lines : (form : Form) (text : List ℕ) → (w.lines == 0) ≡ false → text ≡ warnings_text form name warnings.list.items warnings.whole → AddsWarnings w form name bytes text status
+  some_lines form text z t =
       record {
         all = h.all;
         list = warnings.list.items;
@@ -96,6 +98,10 @@ are_more : (name : List ℕ) (ws : List Warning) (list : List Finding) (w : Warn
 are_more name [] list w one h f = (one, [], f, refl, ap (λ z. z ++ (one ∷ [])) h)
 are_more name (v ∷ ws) list w one (first, rest, g, r, e) f = (first, rest ++ (one ∷ []), g, are_more name ws rest w one r f, ap (λ z. z ++ (one ∷ [])) e)
 
-pub found_more : (name : List ℕ) (ws more : List Warning) (list new : List Finding) (w : Warning) (one : Finding) → more ≡ ws ++ (w ∷ []) → new ≡ list ++ (one ∷ []) → AreFoundWarnings name ws list → IsFoundWarning name w one → AreFoundWarnings name more new
+found_more : (name : List ℕ) (ws more : List Warning) (list new : List Finding) (w : Warning) (one : Finding) → more ≡ ws ++ (w ∷ []) → new ≡ list ++ (one ∷ []) → AreFoundWarnings name ws list → IsFoundWarning name w one → AreFoundWarnings name more new
 found_more name ws more list new w one m n h f =
     subst (λ z. AreFoundWarnings name z new) (sym m) (subst (AreFoundWarnings name (ws ++ (w ∷ []))) (sym n) (are_more name ws list w one h f))
+
+-- the same of the warnings of a list, by the number of the next one
+pub found_next : (name : List ℕ) (ws : List Warning) (i : ℕ) (d : Warning) (list new : List Finding) (one : Finding) → i < length ws → new ≡ list ++ (one ∷ []) → IsFoundWarning name (get_or ws i d) one → AreFoundWarnings name (take i ws) list → AreFoundWarnings name (take (i + 1) ws) new
+found_next name ws i d list new one l n f h = found_more name (take i ws) (take (i + 1) ws) list new (get_or ws i d) one (take_more ws i d l) n h f

@@ -122,11 +122,7 @@ fn warning_words(alloc: Global, warning: &Warning) -> Result<String, Fault>
 }
 
 /// A scalar that YAML 1.1 reads otherwise.
-pub(crate) fn warning_found(
-    alloc: Global,
-    name: &str,
-    warning: &Warning,
-) -> Result<Finding, Fault>
+pub(crate) fn warning_found(alloc: Global, name: &str, warning: &Warning) -> Result<Finding, Fault>
     ensures { IfOk result (IsFoundWarning name.now warning.now) }
 {
     Ok(Finding {
