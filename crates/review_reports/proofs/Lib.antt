@@ -1,2 +1,3 @@
 mod PageLaws
 mod ReportLaws
+mod WarningLaws

@@ -1,5 +1,5 @@
 -- What `faults` and `warn` find in files, and what is written of it as a whole.
-use Rattle.std.specs.Prelude.{◌≡◌, ◌⊎◌, ◌==◌, ◌&&◌, ℕ, max, not, cond, List, [], ◌∷◌, ◌++◌, length, Option, string_bytes}
+use Rattle.std.specs.Prelude.{◌≡◌, ◌⊎◌, ◌==◌, ◌&&◌, ℕ, max, not, cond, List, [], ◌∷◌, ◌++◌, length, Option, Some, codes, string_bytes}
 use Rattle.yaml_text.specs.Fault.{fault_name}
 use Rattle.yaml_text.specs.declared.fault.Fault.{Fault}
 use Rattle.yaml_text.specs.declared.fault.Fault.TheVariants.{TooLong}
@@ -9,7 +9,12 @@ use Rattle.yaml_canon.specs.Claims.{CanonicalRefuses}
 use Rattle.yaml_canon.specs.FaultPlaces.{TellsPlace}
 use Rattle.review_args.specs.declared.words.Warn.{Warn}
 use Rattle.review_formats.specs.declared.finding.Finding.{Finding}
+use Rattle.review_text.specs.Hidden.{visible}
+use Rattle.review_text.specs.Shown.{front}
+use Rattle.review_text.specs.declared.yaml11.Older.{Older}
 use Rattle.review_faults.specs.Spotted.{IsSpotted}
+use Rattle.review_faults.specs.Warned.{ListsFirst}
+use Rattle.review_faults.specs.declared.warn.Warning.{Warning}
 use Rattle.review_files.specs.Named.{ReadsNamed, ReadsNot}
 use Rattle.review_files.specs.Told.{IsAccepted}
 use Rattle.review_reports.specs.Reports.{HasNoText}
@@ -31,18 +36,34 @@ pub record IsFault (name bytes : List ℕ) (fault : Fault) (one : Finding) : Typ
 abbrev pub FindsFault : List ℕ → List ℕ → Fault → List Finding → Type 0
 FindsFault name bytes fault list = (one : Finding) × (list ≡ one ∷ []) × IsFault name bytes fault one
 
--- Nothing is found in a file that is accepted, but for warnings, of which it is not said which. With `--strict` the status is 1 if there is one. Those that are not asked for are not listed.
-abbrev pub FindsWarnings : Warn → List Finding → ℕ → Type 0
-FindsWarnings w list status = (all : List Finding) × (list ≡ cond (w.lines == 0) [] all) × (status ≡ cond (w.is_strict && not (length all == 0)) 1 0)
+-- it is this warning of a file of this name, at its place, with the scalar's text of 60 bytes at most and what is said of it
+pub record IsFoundWarning (name : List ℕ) (w : Warning) (one : Finding) : Type 0 where
+  pub file : string_bytes one.file ≡ name
+  pub rule : one.rule.now ≡ codes "yaml-1.1"
+  pub place : one.place ≡ Some w.place
+  pub message : string_bytes one.message ≡ visible (front 60 (string_bytes w.text)) ++ (codes ": " ++ string_bytes w.words)
 
-abbrev pub FindsAccepted : Kind → List Finding → ℕ → Type 0
-FindsAccepted Faults list status = (list ≡ []) × (status ≡ 0)
-FindsAccepted (Warnings w) list status = FindsWarnings w.now list status
+-- these warnings are found, one by one
+abbrev pub AreFoundWarnings : List ℕ → List Warning → List Finding → Type 0
+AreFoundWarnings name [] list = list ≡ []
+AreFoundWarnings name (w ∷ ws) list = (one : Finding) × (rest : List Finding) × IsFoundWarning name w one × AreFoundWarnings name ws rest × (list ≡ one ∷ rest)
+
+-- In a file that is accepted the first of the plain scalars are found that YAML 1.1 reads otherwise, as many as are asked for. With `--strict` the status is 1 exactly if there is one.
+pub record FindsWarnings (w : Warn) (name bytes : List ℕ) (list : List Finding) (status : ℕ) : Type 0 where
+  pub all : List (ℕ × Older)
+  pub warnings : List Warning
+  pub first : ListsFirst bytes w.allowed.items all w.lines warnings
+  pub found : AreFoundWarnings name warnings list
+  pub answered : status ≡ cond (w.is_strict && not (length all == 0)) 1 0
+
+abbrev pub FindsAccepted : Kind → List ℕ → List ℕ → List Finding → ℕ → Type 0
+FindsAccepted Faults name bytes list status = (list ≡ []) × (status ≡ 0)
+FindsAccepted (Warnings w) name bytes list status = FindsWarnings w.now name bytes list status
 
 -- what is found in bytes: the fault with which `canonical` refuses them
 abbrev pub FindsBytes : Kind → List ℕ → List ℕ → List Finding → ℕ → Type 0
 FindsBytes kind name bytes list status =
-    (IsAccepted bytes × FindsAccepted kind list status)
+    (IsAccepted bytes × FindsAccepted kind name bytes list status)
     ⊎ ((fault : Fault) × CanonicalRefuses bytes fault × TellsPlace bytes fault × FindsFault name bytes fault list × (status ≡ 2))
 
 -- ---- what is written

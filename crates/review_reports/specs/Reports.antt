@@ -1,5 +1,5 @@
 -- What `faults` and `warn` tell of files.
-use Rattle.std.specs.Prelude.{◌≡◌, ◌⊎◌, ◌==◌, ◌&&◌, ℕ, max, not, cond, List, [], ◌∷◌, length, Option}
+use Rattle.std.specs.Prelude.{◌≡◌, ◌⊎◌, ◌==◌, ◌&&◌, ℕ, max, not, nat_le, cond, List, [], ◌∷◌, length, Option}
 use Rattle.yaml_text.specs.declared.fault.Fault.{Fault}
 use Rattle.yaml_text.specs.declared.fault.Fault.TheVariants.{TooLong, WriteFault}
 use Rattle.yaml_text.specs.declared.counted.Counted.{Counted}
@@ -7,6 +7,9 @@ use Rattle.yaml_text.specs.Writers.{Printed, Broken}
 use Rattle.review_args.specs.declared.words.Form.{Form}
 use Rattle.review_args.specs.declared.words.Warn.{Warn}
 use Rattle.review_faults.specs.FaultLines.{TellsFault}
+use Rattle.review_faults.specs.Warned.{ListsFirst, warnings_text}
+use Rattle.review_faults.specs.declared.warn.Warning.{Warning}
+use Rattle.review_text.specs.declared.yaml11.Older.{Older}
 use Rattle.review_files.specs.Named.{ReadsNamed, ReadsNot}
 use Rattle.review_files.specs.Statuses.{unread_status}
 use Rattle.review_files.specs.Told.{IsAccepted, TellsRefusal}
@@ -17,18 +20,26 @@ use Rattle.review_reports.specs.declared.reports.Kind.TheVariants.{Faults, Warni
 
 -- ---- the bytes of a file
 
--- What `warn` prints of a file that is accepted is not said, but that it is nothing where no line is asked for. With `--strict` the status is 1 if there is a line that is or would be printed.
-abbrev pub AddsWarnings : Warn → List ℕ → ℕ → Type 0
-AddsWarnings w text status = (all : List ℕ) × (text ≡ cond (w.lines == 0) [] all) × (status ≡ cond (w.is_strict && not (length all == 0)) 1 0)
+-- room for so many warnings, and for one at least
+abbrev pub room_for : ℕ → ℕ
+room_for lines = cond (lines == 0) 1 lines
+
+-- Of an accepted file `warn` prints the first of the plain scalars that YAML 1.1 reads otherwise, a line for each and one more if these are not all, or nothing where no line is asked for. With `--strict` the status is 1 exactly if there is one.
+pub record AddsWarnings (w : Warn) (form : Form) (name bytes text : List ℕ) (status : ℕ) : Type 0 where
+  pub all : List (ℕ × Older)
+  pub list : List Warning
+  pub first : ListsFirst bytes w.allowed.items all w.lines list
+  pub printed : text ≡ cond (w.lines == 0) [] (warnings_text form name list (nat_le (length all) w.lines))
+  pub answered : status ≡ cond (w.is_strict && not (length all == 0)) 1 0
 
 -- `faults` prints nothing of it, with the status 0
-abbrev pub Adds : Kind → List ℕ → ℕ → Type 0
-Adds Faults text status = (text ≡ []) × (status ≡ 0)
-Adds (Warnings w) text status = AddsWarnings w.now text status
+abbrev pub Adds : Kind → Form → List ℕ → List ℕ → List ℕ → ℕ → Type 0
+Adds Faults form name bytes text status = (text ≡ []) × (status ≡ 0)
+Adds (Warnings w) form name bytes text status = AddsWarnings w.now form name bytes text status
 
 -- The status is 2 for bytes that are not accepted.
 abbrev pub TellsBytes : Kind → Form → List ℕ → List ℕ → List ℕ → ℕ → Type 0
-TellsBytes kind form name bytes text status = (IsAccepted bytes × Adds kind text status) ⊎ (TellsRefusal form name bytes text × (status ≡ 2))
+TellsBytes kind form name bytes text status = (IsAccepted bytes × Adds kind form name bytes text status) ⊎ (TellsRefusal form name bytes text × (status ≡ 2))
 
 module _ {R : Type 0} (holds : List ℕ → Option (List ℕ)) (remaining : R → Option (List ℕ)) where
   -- ---- reading one

@@ -1,6 +1,8 @@
 //! What is found, by its parts.
-ghost use Rattle.std.specs.Prelude.{◌≡◌, IfOk, string_bytes};
-ghost use Rattle.review_reports.specs.Pages.{IsFault};
+ghost use Rattle.std.specs.Prelude.{◌≡◌, ◌++◌, codes, IfOk, string_bytes};
+ghost use Rattle.review_text.specs.Hidden.{visible};
+ghost use Rattle.review_text.specs.Shown.{front};
+ghost use Rattle.review_reports.specs.Pages.{IsFault, IsFoundWarning};
 
 use review_args::Diff;
 use review_faults::{Warning, spot_fault};
@@ -12,7 +14,9 @@ use std::alloc::Global;
 use yaml_text::fault::Fault;
 
 /// A text with escapes for the characters that would not be seen.
-fn visible(alloc: Global, text: &str) -> Result<String, Fault> {
+fn visible(alloc: Global, text: &str) -> Result<String, Fault>
+    ensures { IfOk result (λ s. string_bytes s ≡ visible text.now) }
+{
     let mut out = String::new(alloc);
     put_visible(&mut out, text)?;
     Ok(out)
@@ -108,7 +112,9 @@ pub fn fault_found(alloc: Global, name: &str, bytes: &[u8], fault: Fault) -> Res
 }
 
 /// What is said of a scalar that YAML 1.1 reads otherwise.
-fn warning_words(alloc: Global, warning: &Warning) -> Result<String, Fault> {
+fn warning_words(alloc: Global, warning: &Warning) -> Result<String, Fault>
+    ensures { IfOk result (λ s. string_bytes s ≡ visible (front 60 (string_bytes warning.now.text)) ++ (codes ": " ++ string_bytes warning.now.words)) }
+{
     let mut out = visible(alloc, front(&warning.text, CUT))?;
     out.push_str(": ")?;
     out.push_str(&warning.words)?;
@@ -116,11 +122,9 @@ fn warning_words(alloc: Global, warning: &Warning) -> Result<String, Fault> {
 }
 
 /// A scalar that YAML 1.1 reads otherwise.
-pub(crate) fn warning_found(
-    alloc: Global,
-    name: &str,
-    warning: &Warning,
-) -> Result<Finding, Fault> {
+pub(crate) fn warning_found(alloc: Global, name: &str, warning: &Warning) -> Result<Finding, Fault>
+    ensures { IfOk result (IsFoundWarning name.now warning.now) }
+{
     Ok(Finding {
         rule: "yaml-1.1",
         level: Level::Warning,

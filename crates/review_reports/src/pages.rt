@@ -2,13 +2,13 @@
 ghost use Rattle.std.specs.Prelude.{◌≡◌, ◌<◌, ◌-◌, ◌^◌, ◌++◌, map, [], IfOk, IfErr, OnOk};
 ghost use Rattle.yaml_text.specs.CountedModel.{faults_of};
 ghost use Rattle.review_reports.specs.Reports.{HasNoText};
-ghost use Rattle.review_reports.specs.Pages.{FindsWarnings, FindsAccepted, FindsFault, FindsBytes, HasFound, FindsFile, FindsFiles, WritesPage, TellsPage};
+ghost use Rattle.review_reports.specs.Pages.{AreFoundWarnings, FindsWarnings, FindsAccepted, FindsFault, FindsBytes, HasFound, FindsFile, FindsFiles, WritesPage, TellsPage};
 
 use crate::findings::{fault_found, warning_found};
 use crate::reports::{Kind, room_of, warned_status};
 use review_args::{Page, Report, Warn};
 use review_compare::fault_of;
-use review_faults::list_warnings;
+use review_faults::{Warning, list_warnings};
 use review_files::files::read_named;
 use review_files::telling::{tell_bare, tell_unread};
 use review_files::unread::{Unread, greater};
@@ -47,16 +47,12 @@ fn fault_list(alloc: Global, name: &str, bytes: &[u8], fault: Fault) -> Result<V
     Ok(list)
 }
 
-/// The warnings of a file.
-fn warnings_found(
-    alloc: Global,
-    warn: &Warn<'_>,
-    name: &str,
-    bytes: &[u8],
-) -> Result<Vec<Finding>, Fault> {
-    let warnings = list_warnings(alloc, bytes, &warn.allowed, room_of(warn.lines))?;
+/// Warnings of a file, as they are found.
+fn warnings_found(alloc: Global, name: &str, warnings: &[Warning]) -> Result<Vec<Finding>, Fault>
+    ensures { IfOk result (λ list. AreFoundWarnings name.now warnings.now list.items) }
+{
     let mut list = Vec::new(alloc);
-    for warning in &warnings.list {
+    'warnings: for warning in warnings {
         list.push(warning_found(alloc, name, warning)?)?;
     }
     Ok(list)
@@ -69,14 +65,14 @@ fn warned_list(
     name: &str,
     bytes: &[u8],
 ) -> Result<(Vec<Finding>, u8), Fault>
-    ensures { IfOk result (λ told. FindsWarnings warn.now told.0.items told.1) }
+    ensures { IfOk result (λ told. FindsWarnings warn.now name.now bytes.now told.0.items told.1) }
 {
-    let all = warnings_found(alloc, warn, name, bytes)?;
-    let status = warned_status(warn.is_strict, all.len() == 0);
+    let warnings = list_warnings(alloc, bytes, &warn.allowed, room_of(warn.lines))?;
+    let status = warned_status(warn.is_strict, warnings.list.len() == 0);
     if warn.lines == 0 {
         return Ok((Vec::new(alloc), status));
     }
-    Ok((all, status))
+    Ok((warnings_found(alloc, name, &warnings.list)?, status))
 }
 
 /// What is found in a file that is accepted, and the status.
@@ -86,7 +82,7 @@ fn accepted_list(
     name: &str,
     bytes: &[u8],
 ) -> Result<(Vec<Finding>, u8), Fault>
-    ensures { IfOk result (λ told. FindsAccepted kind.entry told.0.items told.1) }
+    ensures { IfOk result (λ told. FindsAccepted kind.entry name.now bytes.now told.0.items told.1) }
 {
     match kind {
         Kind::Faults => Ok((Vec::new(alloc), DONE)),

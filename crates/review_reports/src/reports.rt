@@ -2,7 +2,7 @@
 ghost use Rattle.std.specs.Prelude.{◌≡◌, ◌<◌, ◌-◌, ◌^◌, ◌&&◌, not, cond, map, IfOk, IfErr, OnOk, string_bytes};
 ghost use Rattle.yaml_text.specs.CountedModel.{faults_of};
 ghost use Rattle.review_faults.specs.FaultLines.{TellsFault};
-ghost use Rattle.review_reports.specs.Reports.{AddsWarnings, Adds, TellsBytes, HasText, HasNoText, TellsFile, CutsFile, TellsFiles};
+ghost use Rattle.review_reports.specs.Reports.{room_for, AddsWarnings, Adds, TellsBytes, HasText, HasNoText, TellsFile, CutsFile, TellsFiles};
 
 use review_args::{Form, Report, Warn};
 use review_compare::fault_of;
@@ -34,7 +34,9 @@ pub enum Kind<'w> {
 }
 
 /// Room for so many warnings, and for one at least, without which it would not be known whether there is one.
-pub(crate) fn room_of(lines: usize) -> usize {
+pub(crate) fn room_of(lines: usize) -> usize
+    ensures { result ≡ room_for lines }
+{
     if lines == 0 { 1 } else { lines }
 }
 
@@ -68,15 +70,15 @@ fn warned_text(
     bytes: &[u8],
     form: Form,
 ) -> Result<(String, u8), Fault>
-    ensures { IfOk result (λ told. AddsWarnings warn.now (string_bytes told.0) told.1) }
+    ensures { IfOk result (λ told. AddsWarnings warn.now form name.now bytes.now (string_bytes told.0) told.1) }
 {
     let warnings = list_warnings(alloc, bytes, &warn.allowed, room_of(warn.lines))?;
+    let status = warned_status(warn.is_strict, warnings.list.len() == 0);
     let mut text = String::new(alloc);
-    put_warnings(alloc, &mut text, name, &warnings, form)?;
-    let status = warned_status(warn.is_strict, text.as_str().len() == 0);
     if warn.lines == 0 {
-        return Ok((String::new(alloc), status));
+        return Ok((text, status));
     }
+    put_warnings(alloc, &mut text, name, &warnings, form)?;
     Ok((text, status))
 }
 
@@ -88,7 +90,7 @@ fn accepted_text(
     bytes: &[u8],
     form: Form,
 ) -> Result<(String, u8), Fault>
-    ensures { IfOk result (λ told. Adds kind.entry (string_bytes told.0) told.1) }
+    ensures { IfOk result (λ told. Adds kind.entry form name.now bytes.now (string_bytes told.0) told.1) }
 {
     match kind {
         Kind::Faults => Ok((String::new(alloc), DONE)),
