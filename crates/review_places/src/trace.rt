@@ -2,6 +2,7 @@
 //! indicator that introduces it where it has none; an empty key without properties has the offset of its colon.
 ghost use Rattle.std.specs.Prelude.{◌≡◌, IfOk, IfErr, IfSome, Some, slice_get};
 ghost use Rattle.std.specs.Bool.{OnTrue};
+ghost use Rattle.yaml_definitions.specs.grammar.Characters.{c-tag};
 
 use std::alloc::Global;
 use std::borrow::CowStr;
@@ -219,7 +220,7 @@ impl Trace {
 
     /// The offset of the tag of the node that an event begins, in the text that was read. It has one there that is not `!` alone.
     pub fn tag_offset(&self, text: &[u8], event: usize) -> Option<usize>
-        ensures { IfSome result (λ at. slice_get text.now at ≡ Some 33) }
+        ensures { IfSome result (λ at. slice_get text.now at ≡ Some c-tag) }
     {
         for noted in &self.notes {
             if let Note::Tag { at } = noted.note
@@ -288,7 +289,7 @@ fn short(at: usize) -> Result<u32, Fault>
 
 /// Whether a tag begins at this offset: with `!` (YAML 1.2.2, 6.9.1).
 fn begins_tag(text: &[u8], at: usize) -> bool
-    ensures { OnTrue result (slice_get text.now at ≡ Some 33) }
+    ensures { OnTrue result (slice_get text.now at ≡ Some c-tag) }
 {
     at < text.len() && text[at] == b'!'
 }

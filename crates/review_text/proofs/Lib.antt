@@ -1,4 +1,4 @@
-mod GraphShapes
+pub mod GraphShapes
 pub mod HiddenLaws
 mod KeyLaws
 mod LineLaws

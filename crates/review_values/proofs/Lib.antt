@@ -1,3 +1,2 @@
-mod GraphShapes
 mod StepLaws
 mod ValueLaws

@@ -19,7 +19,7 @@ use Rattle.yaml_diff.specs.declared.difference.Step as code
 use Rattle.review_text.specs.PathText.{whole_limit}
 use Rattle.review_text.proofs.Pieces.{then_more}
 use Rattle.review_values.specs.Json.{string_json, unnamed_json, key_json, step_json, next_json, inner_json}
-use Rattle.review_values.proofs.GraphShapes.{none-there}
+use Rattle.review_text.proofs.GraphShapes.{none-there}
 
 told : (g x : List ℕ) → (bytes_eq g str_tag && nat_le (length x) whole_limit) ≡ true → key_json (scalar g x) ≡ string_json x
 unfolding key_json

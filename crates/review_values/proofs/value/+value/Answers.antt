@@ -4,7 +4,7 @@ use Rattle.yaml_graph.specs.GraphView.{tree}
 use Rattle.yaml_graph.specs.declared.node.NodeId.{NodeId}
 use Rattle.yaml_rank.specs.RankModel.{key_pair}
 use Rattle.review_text.proofs.Pieces.{on_ok}
-use Rattle.review_values.proofs.GraphShapes.{scalar-there, sequence-there, mapping-there}
+use Rattle.review_text.proofs.GraphShapes.{scalar-there, sequence-there, mapping-there}
 use Rattle.review_values.proofs.ValueLaws.{items_first, items_step, items_end, entries_first, entries_step, entries_end, scalar_says, sequence_says, mapping_says}
 use Rattle.review_values.proofs.value.+value.Goals as goal
 

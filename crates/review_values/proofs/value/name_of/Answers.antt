@@ -1,7 +1,7 @@
 use Rattle.std.proofs.Common.{sym, ◌∙◌}
 use Rattle.yaml_definitions.specs.model.Order.{arranged}
 use Rattle.yaml_graph.specs.GraphView.{tree}
-use Rattle.review_values.proofs.GraphShapes.{scalar-there}
+use Rattle.review_text.proofs.GraphShapes.{scalar-there}
 use Rattle.review_values.proofs.ValueLaws.{name_is}
 use Rattle.review_values.proofs.value.name_of.Goals as goal
 
