@@ -30,6 +30,7 @@ use Rattle.review_text.specs.declared.both.Both.{Both}
 use Rattle.review_values.specs.Members.{SaysMembers}
 use Rattle.review_values.specs.declared.members.Members.{Members}
 use Rattle.review_lines.specs.Lines.{Text, lines_text, more_text}
+use Rattle.review_lines.specs.Stat.{stat_text}
 use Rattle.review_lines.specs.declared.lines.Changes.{Changes}
 use Rattle.review_lines.specs.declared.lines.Line.{Line}
 
@@ -172,7 +173,7 @@ abbrev pub TellsAsked : ℕ → Both → Diff → Found → List ℕ → Type 0
 TellsAsked zero both asked f text = text ≡ []
 TellsAsked (suc lines) both asked f text = TellsFound both asked f text
 
--- The text is the lines of the differences of two streams, of as many as were asked for, but for those that are at or below a path that one of the patterns matches; and whether there are none. Of the numbers of differences, in place of lines, nothing is said.
+-- The text is the lines of the differences of two streams, of as many as were asked for, but for those that are at or below a path that one of the patterns matches; and whether there are none. If the numbers of differences and moves are asked for, they stand in place of the lines.
 pub record TellsStreams (both : Both) (asked : Diff) (ignored : List Pattern) (none : Bool) (text : List ℕ) : Type 0 where
   pub found : Found
   pub finds : FindsItems both.graph (take both.documents (roots_of both.graph)) (drop both.documents (roots_of both.graph)) (search_room ignored (room_for asked.lines)) found
@@ -180,3 +181,4 @@ pub record TellsStreams (both : Both) (asked : Diff) (ignored : List Pattern) (n
   pub keeps : Keeps both.graph ignored (room_for asked.lines) found kept
   pub is_none : none ≡ ((kept.whole && (length kept.list.items == 0)) && (length kept.moves.items == 0))
   pub tells : asked.stat ≡ false → TellsAsked asked.lines both asked kept text
+  pub counts : asked.stat ≡ true → text ≡ stat_text asked kept

@@ -1,3 +1,4 @@
 pub mod Compared
 pub mod Lines
 pub mod Listed
+pub mod Stat

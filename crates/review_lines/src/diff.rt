@@ -7,6 +7,7 @@ ghost use Rattle.yaml_diff.specs.Lines.{way_of};
 ghost use Rattle.yaml_diff.specs.Found.{FindsItems};
 ghost use Rattle.review_folds.specs.Folds.{Folds};
 ghost use Rattle.review_lines.specs.Lines.{lines_text};
+ghost use Rattle.review_lines.specs.Stat.{stat_text};
 ghost use Rattle.review_lines.specs.Compared.{room_of, room_for, search_room, is_numbered, has_left, has_right, path_as, ShowsNode, ShowsBoth, TellsMembers, TellsOne, TellsEach, TellsMoves, TellsFound, TellsAsked, TellsStreams};
 
 use crate::lines::{Line, put_more};
@@ -375,7 +376,8 @@ fn told_text(
     found: &Found,
 ) -> Result<String, Fault>
     requires ranked { RanksAre both.now.graph both.now.ranks }
-    ensures { IfOk result (λ text. asked.now.stat ≡ false → TellsAsked asked.now.lines both.now asked.now found.now (string_bytes text)) }
+    ensures lines { IfOk result (λ text. asked.now.stat ≡ false → TellsAsked asked.now.lines both.now asked.now found.now (string_bytes text)) }
+    ensures counts { IfOk result (λ text. asked.now.stat ≡ true → string_bytes text ≡ stat_text asked.now found.now) }
 {
     if asked.stat {
         return stat_text(alloc, asked, found);

@@ -1,59 +1,117 @@
 //! How many differences and moves there are.
+ghost use Rattle.std.specs.Prelude.{◌≡◌, ◌++◌, string_bytes, OnOk, IfOk};
+ghost use Rattle.review_lines.specs.Stat.{is_added, is_removed, is_changed, added, removed, changed, moves_text, stat_line, stat_json, numbers_text, lists_nothing, stat_text};
+
 use review_args::{Diff, Form};
 use review_text::put_shown;
 use std::alloc::Global;
-use yaml_diff::Found;
+use yaml_diff::{Difference, Found};
 use yaml_text::fault::Fault;
 
-/// How many differences there are of each kind.
-#[derive(Clone, Copy)]
-struct Counts {
-    added: usize,
-    removed: usize,
-    changed: usize,
+/// Whether the right side alone has a node.
+fn is_added(difference: &Difference) -> bool
+    ensures { result ≡ is_added difference.now }
+{
+    difference.left.is_none()
 }
 
-fn counts_of(found: &Found) -> Counts {
-    let mut counts = Counts {
-        added: 0,
-        removed: 0,
-        changed: 0,
-    };
-    for difference in &found.list {
-        let count = match (difference.left, difference.right) {
-            (None, _) => &mut counts.added,
-            (_, None) => &mut counts.removed,
-            _ => &mut counts.changed,
-        };
-        *count = count.saturating_add(1);
+/// Whether the left side alone has a node.
+fn is_removed(difference: &Difference) -> bool
+    ensures { result ≡ is_removed difference.now }
+{
+    difference.left.is_some() && difference.right.is_none()
+}
+
+/// Whether both sides have a node.
+fn is_changed(difference: &Difference) -> bool
+    ensures { result ≡ is_changed difference.now }
+{
+    difference.left.is_some() && difference.right.is_some()
+}
+
+fn added(found: &Found) -> usize
+    ensures { result ≡ added found.now }
+{
+    found.list.iter().filter(|one| is_added(one)).count()
+}
+
+fn removed(found: &Found) -> usize
+    ensures { result ≡ removed found.now }
+{
+    found.list.iter().filter(|one| is_removed(one)).count()
+}
+
+fn changed(found: &Found) -> usize
+    ensures { result ≡ changed found.now }
+{
+    found.list.iter().filter(|one| is_changed(one)).count()
+}
+
+/// Writes the number of moves, if there are some.
+fn put_moves(out: &mut String, moves: usize) -> Result<(), Fault>
+    ensures { OnOk result (string_bytes out.new ≡ string_bytes out.old ++ moves_text moves) }
+{
+    if moves > 0 {
+        write!(out, " >{moves}")?;
     }
-    counts
+    Ok(())
 }
 
-/// The line with the numbers of differences and moves and the name of the right file; no line if there is none. Behind numbers that
-/// are not all stands `...`.
-pub(crate) fn stat_text(alloc: Global, asked: &Diff<'_>, found: &Found) -> Result<String, Fault> {
+/// Writes the numbers and the name of the right file. Behind numbers that are not all stands `...`.
+fn put_line(out: &mut String, found: &Found, right: &str) -> Result<(), Fault>
+    ensures { OnOk result (string_bytes out.new ≡ string_bytes out.old ++ stat_line found.now right.now) }
+{
+    let (added, removed, changed) = (added(found), removed(found), changed(found));
+    write!(out, "+{added} -{removed} ~{changed}")?;
+    put_moves(out, found.moves.len())?;
+    out.push_str(if found.whole { " " } else { " ... " })?;
+    put_shown(out, right)?;
+    out.push('\n')?;
+    Ok(())
+}
+
+/// Writes the numbers, and whether they are all, as an object of JSON.
+fn put_json(out: &mut String, found: &Found) -> Result<(), Fault>
+    ensures { OnOk result (string_bytes out.new ≡ string_bytes out.old ++ stat_json found.now) }
+{
+    let (added, removed, changed) = (added(found), removed(found), changed(found));
+    let moved = found.moves.len();
+    write!(out, "{{\"added\":{added},\"changed\":{changed}")?;
+    write!(
+        out,
+        ",\"kind\":\"stat\",\"moved\":{moved},\"removed\":{removed}"
+    )?;
+    out.push_str(",\"whole\":")?;
+    out.push_str(if found.whole { "true" } else { "false" })?;
+    out.push_str("}\n")?;
+    Ok(())
+}
+
+/// Writes the numbers in the form that is asked for.
+fn put_numbers(out: &mut String, asked: &Diff<'_>, found: &Found) -> Result<(), Fault>
+    ensures { OnOk result (string_bytes out.new ≡ string_bytes out.old ++ numbers_text asked.now.form found.now asked.now.right.now) }
+{
+    match asked.form {
+        Form::Line => put_line(out, found, asked.right),
+        Form::Json => put_json(out, found),
+    }
+}
+
+/// Whether no difference is listed, and no move.
+fn lists_nothing(found: &Found) -> bool
+    ensures { result ≡ lists_nothing found.now }
+{
+    found.list.is_empty() && found.moves.is_empty()
+}
+
+/// The numbers of differences and moves as a line; no line where none is asked for, or where nothing is listed.
+pub(crate) fn stat_text(alloc: Global, asked: &Diff<'_>, found: &Found) -> Result<String, Fault>
+    ensures { IfOk result (λ text. string_bytes text ≡ stat_text asked.now found.now) }
+{
     let mut out = String::new(alloc);
-    if asked.lines == 0 || (found.list.is_empty() && found.moves.is_empty()) {
+    if asked.lines == 0 || lists_nothing(found) {
         return Ok(out);
     }
-    let counts = counts_of(found);
-    let (added, removed, changed) = (counts.added, counts.removed, counts.changed);
-    let moved = found.moves.len();
-    let more = if found.whole { "" } else { " ..." };
-    match asked.form {
-        Form::Line => {
-            write!(out, "+{added} -{removed} ~{changed} >{moved}{more} ")?;
-            put_shown(&mut out, asked.right)?;
-            out.push('\n')?;
-        }
-        Form::Json => {
-            let whole = found.whole;
-            write!(
-                out,
-                "{{\"added\":{added},\"changed\":{changed},\"kind\":\"stat\",\"moved\":{moved},\"removed\":{removed},\"whole\":{whole}}}\n"
-            )?;
-        }
-    }
+    put_numbers(&mut out, asked, found)?;
     Ok(out)
 }

@@ -48,7 +48,7 @@ pub static ROWS: [Row; 19] = [
         left: OLD,
         right: NEW,
         status: 1,
-        out: "+0 -0 ~4 >0 right\n",
+        out: "+0 -0 ~4 right\n",
         err: "",
     },
     Row {

@@ -148,7 +148,7 @@ pub static ROWS: [Row; 16] = [
         left: b"a: {x: 1}\nb: 1\n",
         right: b"a: {x: 2}\nb: 2\n",
         status: 1,
-        out: "+0 -0 ~1 >0 right\n",
+        out: "+0 -0 ~1 right\n",
         err: "",
     },
     Row {

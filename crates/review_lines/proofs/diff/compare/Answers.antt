@@ -21,7 +21,8 @@ returns-clause-text c =
       kept = k;
       keeps = subst (λ n. Keeps g c.args.ignored.now n f k) room c.in_ok-kept.ensures;
       is_none = c.lists_none-same.ensures;
-      tells = c.in_ok-text.ensures;
+      tells = c.in_ok-text.ensures.lines;
+      counts = c.in_ok-text.ensures.counts;
     }
 
 pub returns-clause-same : goal.returns-clause-same
