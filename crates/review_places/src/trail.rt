@@ -85,10 +85,13 @@ impl Trail {
         false
     }
 
-    /// The path of the node that began last. That of a key is the path of its value, and a key that is no scalar is shown as `[?]`.
-    pub fn path(&self, alloc: Global, events: &[Event<'_>]) -> Result<String, Fault> {
-        let number = self.document;
-        let mut out = format!(in alloc; "{number}")?;
+    /// The steps from the document to the node that began last.
+    fn put_steps(
+        &self,
+        alloc: Global,
+        out: &mut String,
+        events: &[Event<'_>],
+    ) -> Result<(), Fault> {
         for frame in &self.frames {
             if frame.parts == 0 {
                 continue;
@@ -96,14 +99,38 @@ impl Trail {
             if frame.is_mapping {
                 let is_key = frame.parts % 2 == 1;
                 let key = if is_key { frame.last } else { frame.key };
-                put_key(alloc, &mut out, events.get(key))?;
+                put_key(alloc, out, events.get(key))?;
             } else {
                 let place = frame.parts.saturating_sub(1);
                 write!(out, "[{place}]")?;
             }
         }
+        Ok(())
+    }
+
+    /// The path of the node that began last, in the stream of these events: the number of the document, unless it is the only one, and
+    /// then the steps. The only document is `.`. The path of a key is that of its value, and a key that is no scalar is shown as `[?]`.
+    pub fn path(&self, alloc: Global, events: &[Event<'_>]) -> Result<String, Fault> {
+        let mut out = String::new(alloc);
+        if is_numbered(events) {
+            let number = self.document;
+            write!(out, "{number}")?;
+        }
+        self.put_steps(alloc, &mut out, events)?;
+        if out.is_empty() {
+            out.push('.')?;
+        }
         Ok(out)
     }
+}
+
+fn begins_document(event: &Event<'_>) -> bool {
+    matches!(event, Event::DocumentStart { .. })
+}
+
+/// Whether paths tell the number of the document: unless the stream has one document.
+fn is_numbered(events: &[Event<'_>]) -> bool {
+    events.iter().filter(|event| begins_document(event)).count() != 1
 }
 
 /// The step to the value of the key that this event begins.

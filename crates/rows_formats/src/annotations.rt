@@ -41,7 +41,7 @@ static ROWS: [Row; 8] = [
         left: b"",
         right: b"a: 1\na: 2\n",
         status: 2,
-        out: "::error file=<b>`|%2C%3A%25,line=2,col=1,title=yamlreview EqualKeys::0.a: the keys of a mapping differ, each from each\n",
+        out: "::error file=<b>`|%2C%3A%25,line=2,col=1,title=yamlreview EqualKeys::.a: the keys of a mapping differ, each from each\n",
     },
     Row {
         name: "a content with the signs of a command",

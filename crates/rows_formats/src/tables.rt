@@ -41,7 +41,7 @@ static ROWS: [Row; 5] = [
         left: b"",
         right: b"a: 1\na: 2\n",
         status: 2,
-        out: "**yamlreview faults**\n\n| file | at | | path | |\n|---|---|---|---|---|\n| <code>&#x3C;b&#x3E;&#x60;&#x7C;&#x2C;&#x3A;&#x25;</code> | 2:1 | EqualKeys | <code>0&#x2E;a</code> | <code>the keys of a mapping differ&#x2C; each from each</code> |\n",
+        out: "**yamlreview faults**\n\n| file | at | | path | |\n|---|---|---|---|---|\n| <code>&#x3C;b&#x3E;&#x60;&#x7C;&#x2C;&#x3A;&#x25;</code> | 2:1 | EqualKeys | <code>&#x2E;a</code> | <code>the keys of a mapping differ&#x2C; each from each</code> |\n",
     },
 ];
 

@@ -84,7 +84,7 @@ static ROWS: [Row; 16] = [
         result: "owner: bob\nname: shop\nowner: alice\n",
         given: true,
         lines: 10,
-        out: "result:3:1: 19 EqualKeys at byte 22: 0.owner: the keys of a mapping differ, each from each\nowner: alice\n^\nresult:1:1: the first of the two\n",
+        out: "result:3:1: 19 EqualKeys at byte 22: .owner: the keys of a mapping differ, each from each\nowner: alice\n^\nresult:1:1: the first of the two\n",
         status: 2,
     },
     Row {

@@ -186,7 +186,7 @@ static FAULTS: [Row; 4] = [
         right: NONE,
         status: 2,
         told: Text {
-            front: "left:1:65544: 15 BadContent at byte 65547: 0[\"a ",
+            front: "left:1:65544: 15 BadContent at byte 65547: [\"a ",
             end: "...]: `x` is no `!!int`: write a whole number, as 12, -12, 0o14 or 0xC\n",
             ..LONG_KEY
         },
@@ -237,7 +237,7 @@ static FAULTS: [Row; 4] = [
         right: NONE,
         status: 2,
         told: Text {
-            front: "left:2:1: 18 TooHigh at byte 8: 0: with its aliases in place the document is more than 1,023 levels high\n",
+            front: "left:2:1: 18 TooHigh at byte 8: .: with its aliases in place the document is more than 1,023 levels high\n",
             ..NONE
         },
         is_all: false,

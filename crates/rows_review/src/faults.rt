@@ -80,14 +80,32 @@ pub static SYNTAX: [Row; 8] = [
 ];
 
 /// What has no canonical text.
-pub static MEANINGS: [Row; 7] = [
+pub static MEANINGS: [Row; 9] = [
     Row {
         name: "equal keys",
         words: FAULTS,
         left: b"x:\n  80: a\n  0x50: c\n",
         right: b"",
         status: 2,
-        out: "left:3:3: 19 EqualKeys at byte 13: 0.x[!!int \"80\"]: the keys of a mapping differ, each from each\n  0x50: c\n  ^\nleft:2:3: the first of the two\n",
+        out: "left:3:3: 19 EqualKeys at byte 13: .x[!!int \"80\"]: the keys of a mapping differ, each from each\n  0x50: c\n  ^\nleft:2:3: the first of the two\n",
+        err: "",
+    },
+    Row {
+        name: "in the first of two documents",
+        words: FAULTS,
+        left: b"a: !!int x\n--- b\n",
+        right: b"",
+        status: 2,
+        out: "left:1:4: 15 BadContent at byte 3: 0.a: `x` is no `!!int`: write a whole number, as 12, -12, 0o14 or 0xC\na: !!int x\n   ^\n",
+        err: "",
+    },
+    Row {
+        name: "in the second of two documents, which is the node",
+        words: FAULTS,
+        left: b"a\n--- !!int x\n",
+        right: b"",
+        status: 2,
+        out: "left:2:5: 15 BadContent at byte 6: 1: `x` is no `!!int`: write a whole number, as 12, -12, 0o14 or 0xC\n--- !!int x\n    ^\n",
         err: "",
     },
     Row {
@@ -96,7 +114,7 @@ pub static MEANINGS: [Row; 7] = [
         left: b"jobs:\n- a\n- env: *e\n",
         right: b"",
         status: 2,
-        out: "left:3:8: 12 UndefinedAlias at byte 17: 0.jobs[1].env: no node before this one in its document has an anchor of this name\n- env: *e\n       ^\n",
+        out: "left:3:8: 12 UndefinedAlias at byte 17: .jobs[1].env: no node before this one in its document has an anchor of this name\n- env: *e\n       ^\n",
         err: "",
     },
     Row {
@@ -105,7 +123,7 @@ pub static MEANINGS: [Row; 7] = [
         left: b"a: &a [*a]\n",
         right: b"",
         status: 2,
-        out: "left:1:8: 13 CyclicAlias at byte 7: 0.a[0]: an alias cannot stand inside the node that it names\na: &a [*a]\n       ^\n",
+        out: "left:1:8: 13 CyclicAlias at byte 7: .a[0]: an alias cannot stand inside the node that it names\na: &a [*a]\n       ^\n",
         err: "",
     },
     Row {
@@ -114,7 +132,7 @@ pub static MEANINGS: [Row; 7] = [
         left: b"a: !!str [x]\n",
         right: b"",
         status: 2,
-        out: "left:1:4: 14 WrongKind at byte 3: 0.a: `!!str` is for scalars, and this is a sequence\na: !!str [x]\n   ^\n",
+        out: "left:1:4: 14 WrongKind at byte 3: .a: `!!str` is for scalars, and this is a sequence\na: !!str [x]\n   ^\n",
         err: "",
     },
     Row {
@@ -123,7 +141,7 @@ pub static MEANINGS: [Row; 7] = [
         left: b"a: !!int x\n",
         right: b"",
         status: 2,
-        out: "left:1:4: 15 BadContent at byte 3: 0.a: `x` is no `!!int`: write a whole number, as 12, -12, 0o14 or 0xC\na: !!int x\n   ^\n",
+        out: "left:1:4: 15 BadContent at byte 3: .a: `x` is no `!!int`: write a whole number, as 12, -12, 0o14 or 0xC\na: !!int x\n   ^\n",
         err: "",
     },
     Row {
@@ -132,7 +150,7 @@ pub static MEANINGS: [Row; 7] = [
         left: b"a: 10000000000000000000000000000000000000000\n",
         right: b"",
         status: 2,
-        out: "left:1:4: 16 IntRange at byte 3: 0.a: an int is between -2^127 and 2^127 - 1\na: 10000000000000000000000000000000000000000\n   ^\n",
+        out: "left:1:4: 16 IntRange at byte 3: .a: an int is between -2^127 and 2^127 - 1\na: 10000000000000000000000000000000000000000\n   ^\n",
         err: "",
     },
     Row {
@@ -141,7 +159,7 @@ pub static MEANINGS: [Row; 7] = [
         left: b"a: 1e99999999\n",
         right: b"",
         status: 2,
-        out: "left:1:4: 17 FloatRange at byte 3: 0.a: a float's exponent is between -1,000,000 and 1,000,000\na: 1e99999999\n   ^\n",
+        out: "left:1:4: 17 FloatRange at byte 3: .a: a float's exponent is between -1,000,000 and 1,000,000\na: 1e99999999\n   ^\n",
         err: "",
     },
 ];

@@ -211,7 +211,7 @@ static RESULTS: [Row; 7] = [
         ],
         status: 2,
         out: "",
-        err: "result:3:1: 19 EqualKeys at byte 22: 0.owner: the keys of a mapping differ, each from each\nowner: alice\n^\nresult:1:1: the first of the two\n",
+        err: "result:3:1: 19 EqualKeys at byte 22: .owner: the keys of a mapping differ, each from each\nowner: alice\n^\nresult:1:1: the first of the two\n",
     },
     Row {
         name: "where both changed a key, no result is the merge",
@@ -312,7 +312,7 @@ static NONE: [Row; 5] = [
         files: ["a: [1,\n2\n", "a: 1\n", "- *x\n", ""],
         status: 2,
         out: "",
-        err: "base:2:1: 4 Syntax at byte 7: a line of a flow collection stands deeper than its parent\n2\n^\ntheirs:1:3: 12 UndefinedAlias at byte 2: 0[0]: no node before this one in its document has an anchor of this name\n- *x\n  ^\n",
+        err: "base:2:1: 4 Syntax at byte 7: a line of a flow collection stands deeper than its parent\n2\n^\ntheirs:1:3: 12 UndefinedAlias at byte 2: [0]: no node before this one in its document has an anchor of this name\n- *x\n  ^\n",
     },
     Row {
         name: "a file is not there",

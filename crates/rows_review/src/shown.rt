@@ -143,7 +143,7 @@ pub static YAML: [Row; 18] = [
         right: b"- x\n",
         status: 2,
         out: "---\n- x\n",
-        err: "left:1:3: 12 UndefinedAlias at byte 2: 0[0]: no node before this one in its document has an anchor of this name\n- *x\n  ^\n",
+        err: "left:1:3: 12 UndefinedAlias at byte 2: [0]: no node before this one in its document has an anchor of this name\n- *x\n  ^\n",
     },
     Row {
         name: "a mapping with two equal keys",
@@ -152,7 +152,7 @@ pub static YAML: [Row; 18] = [
         right: b"",
         status: 2,
         out: "",
-        err: "left:1:14: 19 EqualKeys at byte 13: 0.a: the keys of a mapping differ, each from each\n{a: 1, b: 2, a: 3}\n             ^\nleft:1:2: the first of the two\n",
+        err: "left:1:14: 19 EqualKeys at byte 13: .a: the keys of a mapping differ, each from each\n{a: 1, b: 2, a: 3}\n             ^\nleft:1:2: the first of the two\n",
     },
     Row {
         name: "with --textconv a rejected file is written as it is",
@@ -161,7 +161,7 @@ pub static YAML: [Row; 18] = [
         right: b"[ x ]\n",
         status: 0,
         out: "- *x---\n- x\n",
-        err: "left:1:3: 12 UndefinedAlias at byte 2: 0[0]: no node before this one in its document has an anchor of this name\n- *x\n  ^\n",
+        err: "left:1:3: 12 UndefinedAlias at byte 2: [0]: no node before this one in its document has an anchor of this name\n- *x\n  ^\n",
     },
     Row {
         name: "a file that is not there",
@@ -201,7 +201,7 @@ pub static LINES: [Row; 9] = [
         right: b"",
         status: 2,
         out: "",
-        err: "left:2:1: 0[!!int \"2\"]: a key of a JSON object is a string, and this one is none\n2: x\n^\n",
+        err: "left:2:1: [!!int \"2\"]: a key of a JSON object is a string, and this one is none\n2: x\n^\n",
     },
     Row {
         name: "a key that is an alias of no string",
@@ -210,7 +210,7 @@ pub static LINES: [Row; 9] = [
         right: b"",
         status: 2,
         out: "",
-        err: "left:2:4: 0[1][*a]: a key of a JSON object is a string, and this one is none\n- {*a : y}\n   ^\n",
+        err: "left:2:4: [1][*a]: a key of a JSON object is a string, and this one is none\n- {*a : y}\n   ^\n",
     },
     Row {
         name: "a key that is a collection",
@@ -219,7 +219,7 @@ pub static LINES: [Row; 9] = [
         right: b"",
         status: 2,
         out: "",
-        err: "left:1:3: 0[0][?]: a key of a JSON object is a string, and this one is none\n- [a]: 1\n  ^\n",
+        err: "left:1:3: [0][?]: a key of a JSON object is a string, and this one is none\n- [a]: 1\n  ^\n",
     },
     Row {
         name: "a float without digits",
@@ -237,7 +237,7 @@ pub static LINES: [Row; 9] = [
         right: b"",
         status: 2,
         out: "",
-        err: "left:2:6: 0[1]: JSON has no tags, and this one is none of the core schema\n- &a !Ref x\n     ^\n",
+        err: "left:2:6: [1]: JSON has no tags, and this one is none of the core schema\n- &a !Ref x\n     ^\n",
     },
     Row {
         name: "with --textconv such a file is written as it is",
@@ -246,7 +246,7 @@ pub static LINES: [Row; 9] = [
         right: b"",
         status: 0,
         out: "1: x\n",
-        err: "left:1:1: 0[!!int \"1\"]: a key of a JSON object is a string, and this one is none\n1: x\n^\n",
+        err: "left:1:1: [!!int \"1\"]: a key of a JSON object is a string, and this one is none\n1: x\n^\n",
     },
     Row {
         name: "a stream without documents",

@@ -10,7 +10,7 @@ pub static ROWS: [Row; 21] = [
         left: b"!!bool yes",
         right: b"",
         status: 2,
-        out: "left:1:1: 15 BadContent at byte 0: 0: `yes` is no `!!bool`: write true or false\n!!bool yes\n^\n",
+        out: "left:1:1: 15 BadContent at byte 0: .: `yes` is no `!!bool`: write true or false\n!!bool yes\n^\n",
         err: "",
     },
     Row {
@@ -19,7 +19,7 @@ pub static ROWS: [Row; 21] = [
         left: b"a: !!null x\n",
         right: b"",
         status: 2,
-        out: "left:1:4: 15 BadContent at byte 3: 0.a: `x` is no `!!null`: write null, ~ or nothing\na: !!null x\n   ^\n",
+        out: "left:1:4: 15 BadContent at byte 3: .a: `x` is no `!!null`: write null, ~ or nothing\na: !!null x\n   ^\n",
         err: "",
     },
     Row {
@@ -28,7 +28,7 @@ pub static ROWS: [Row; 21] = [
         left: b"- !!int 1.5\n",
         right: b"",
         status: 2,
-        out: "left:1:3: 15 BadContent at byte 2: 0[0]: `1.5` is no `!!int`: write a whole number, as 12, -12, 0o14 or 0xC\n- !!int 1.5\n  ^\n",
+        out: "left:1:3: 15 BadContent at byte 2: [0]: `1.5` is no `!!int`: write a whole number, as 12, -12, 0o14 or 0xC\n- !!int 1.5\n  ^\n",
         err: "",
     },
     Row {
@@ -37,7 +37,7 @@ pub static ROWS: [Row; 21] = [
         left: b"!!float 1:20\n",
         right: b"",
         status: 2,
-        out: "left:1:1: 15 BadContent at byte 0: 0: `1:20` is no `!!float`: write a number, as 12, 1.5, 1e3, .inf or .nan\n!!float 1:20\n^\n",
+        out: "left:1:1: 15 BadContent at byte 0: .: `1:20` is no `!!float`: write a number, as 12, 1.5, 1e3, .inf or .nan\n!!float 1:20\n^\n",
         err: "",
     },
     Row {
@@ -46,7 +46,7 @@ pub static ROWS: [Row; 21] = [
         left: b"a: !!int\nb: 1\n",
         right: b"",
         status: 2,
-        out: "left:1:4: 15 BadContent at byte 3: 0.a: an empty text is no `!!int`: write a whole number, as 12, -12, 0o14 or 0xC\na: !!int\n   ^\n",
+        out: "left:1:4: 15 BadContent at byte 3: .a: an empty text is no `!!int`: write a whole number, as 12, -12, 0o14 or 0xC\na: !!int\n   ^\n",
         err: "",
     },
     Row {
@@ -55,7 +55,7 @@ pub static ROWS: [Row; 21] = [
         left: b"!!int \"1\\n2\"\n",
         right: b"",
         status: 2,
-        out: "left:1:1: 15 BadContent at byte 0: 0: `1?2` is no `!!int`: write a whole number, as 12, -12, 0o14 or 0xC\n!!int \"1\\n2\"\n^\n",
+        out: "left:1:1: 15 BadContent at byte 0: .: `1?2` is no `!!int`: write a whole number, as 12, -12, 0o14 or 0xC\n!!int \"1\\n2\"\n^\n",
         err: "",
     },
     Row {
@@ -64,7 +64,7 @@ pub static ROWS: [Row; 21] = [
         left: b"!!bool yyyyyyyyyyyyyyyyyyyyyyyyyyyyyyyyyyyyyyyyyyyyyyyyyyyyyyyyyyyyy\n",
         right: b"",
         status: 2,
-        out: "left:1:1: 15 BadContent at byte 0: 0: `yyyyyyyyyyyyyyyyyyyyyyyyyyyyyyyyyyyyyyyyyyyyyyyyyyyyyyyyyyyy...` is no `!!bool`: write true or false\n!!bool yyyyyyyyyyyyyyyyyyyyyyyyyyyyyyyyyyyyyyyyyyyyyyyyyyyyyyyyyyyyy\n^\n",
+        out: "left:1:1: 15 BadContent at byte 0: .: `yyyyyyyyyyyyyyyyyyyyyyyyyyyyyyyyyyyyyyyyyyyyyyyyyyyyyyyyyyyy...` is no `!!bool`: write true or false\n!!bool yyyyyyyyyyyyyyyyyyyyyyyyyyyyyyyyyyyyyyyyyyyyyyyyyyyyyyyyyyyyy\n^\n",
         err: "",
     },
     Row {
@@ -73,7 +73,7 @@ pub static ROWS: [Row; 21] = [
         left: b"!!seq x",
         right: b"",
         status: 2,
-        out: "left:1:1: 14 WrongKind at byte 0: 0: `!!seq` is for sequences, and this is a scalar\n!!seq x\n^\n",
+        out: "left:1:1: 14 WrongKind at byte 0: .: `!!seq` is for sequences, and this is a scalar\n!!seq x\n^\n",
         err: "",
     },
     Row {
@@ -82,7 +82,7 @@ pub static ROWS: [Row; 21] = [
         left: b"- !!map [a]\n",
         right: b"",
         status: 2,
-        out: "left:1:3: 14 WrongKind at byte 2: 0[0]: `!!map` is for mappings, and this is a sequence\n- !!map [a]\n  ^\n",
+        out: "left:1:3: 14 WrongKind at byte 2: [0]: `!!map` is for mappings, and this is a sequence\n- !!map [a]\n  ^\n",
         err: "",
     },
     Row {
@@ -91,7 +91,7 @@ pub static ROWS: [Row; 21] = [
         left: b"!!str {a: 1}\n",
         right: b"",
         status: 2,
-        out: "left:1:1: 14 WrongKind at byte 0: 0: `!!str` is for scalars, and this is a mapping\n!!str {a: 1}\n^\n",
+        out: "left:1:1: 14 WrongKind at byte 0: .: `!!str` is for scalars, and this is a mapping\n!!str {a: 1}\n^\n",
         err: "",
     },
     Row {
@@ -100,7 +100,7 @@ pub static ROWS: [Row; 21] = [
         left: b"a: !!seq # c\n  b: 1\n",
         right: b"",
         status: 2,
-        out: "left:1:4: 14 WrongKind at byte 3: 0.a: `!!seq` is for sequences, and this is a mapping\na: !!seq # c\n   ^\n",
+        out: "left:1:4: 14 WrongKind at byte 3: .a: `!!seq` is for sequences, and this is a mapping\na: !!seq # c\n   ^\n",
         err: "",
     },
     Row {
@@ -109,7 +109,7 @@ pub static ROWS: [Row; 21] = [
         left: b"a:\n  &x # c !!int\n  # !!int\n  !!bool # d\n  yes\n",
         right: b"",
         status: 2,
-        out: "left:4:3: 15 BadContent at byte 30: 0.a: `yes` is no `!!bool`: write true or false\n  !!bool # d\n  ^\n",
+        out: "left:4:3: 15 BadContent at byte 30: .a: `yes` is no `!!bool`: write true or false\n  !!bool # d\n  ^\n",
         err: "",
     },
     Row {
@@ -118,7 +118,7 @@ pub static ROWS: [Row; 21] = [
         left: b"- !!int &x y\n",
         right: b"",
         status: 2,
-        out: "left:1:3: 15 BadContent at byte 2: 0[0]: `y` is no `!!int`: write a whole number, as 12, -12, 0o14 or 0xC\n- !!int &x y\n  ^\n",
+        out: "left:1:3: 15 BadContent at byte 2: [0]: `y` is no `!!int`: write a whole number, as 12, -12, 0o14 or 0xC\n- !!int &x y\n  ^\n",
         err: "",
     },
     Row {
@@ -127,7 +127,7 @@ pub static ROWS: [Row; 21] = [
         left: b"%TAG !y! tag:yaml.org,2002:\n--- !y!bool yes\n",
         right: b"",
         status: 2,
-        out: "left:2:5: 15 BadContent at byte 32: 0: `yes` is no `!!bool`: write true or false\n--- !y!bool yes\n    ^\n",
+        out: "left:2:5: 15 BadContent at byte 32: .: `yes` is no `!!bool`: write true or false\n--- !y!bool yes\n    ^\n",
         err: "",
     },
     Row {
@@ -136,7 +136,7 @@ pub static ROWS: [Row; 21] = [
         left: b"a: !<tag:yaml.org,2002:bool> yes\n",
         right: b"",
         status: 2,
-        out: "left:1:4: 15 BadContent at byte 3: 0.a: `yes` is no `!!bool`: write true or false\na: !<tag:yaml.org,2002:bool> yes\n   ^\n",
+        out: "left:1:4: 15 BadContent at byte 3: .a: `yes` is no `!!bool`: write true or false\na: !<tag:yaml.org,2002:bool> yes\n   ^\n",
         err: "",
     },
     Row {
@@ -145,7 +145,7 @@ pub static ROWS: [Row; 21] = [
         left: b"!!map\n!!int x: 1\n",
         right: b"",
         status: 2,
-        out: "left:2:1: 15 BadContent at byte 6: 0[?]: `x` is no `!!int`: write a whole number, as 12, -12, 0o14 or 0xC\n!!int x: 1\n^\n",
+        out: "left:2:1: 15 BadContent at byte 6: [?]: `x` is no `!!int`: write a whole number, as 12, -12, 0o14 or 0xC\n!!int x: 1\n^\n",
         err: "",
     },
     Row {
@@ -154,7 +154,7 @@ pub static ROWS: [Row; 21] = [
         left: b"!!seq\n!!str x: 1\n",
         right: b"",
         status: 2,
-        out: "left:1:1: 14 WrongKind at byte 0: 0: `!!seq` is for sequences, and this is a mapping\n!!seq\n^\n",
+        out: "left:1:1: 14 WrongKind at byte 0: .: `!!seq` is for sequences, and this is a mapping\n!!seq\n^\n",
         err: "",
     },
     Row {
@@ -163,7 +163,7 @@ pub static ROWS: [Row; 21] = [
         left: b"- !!str a\n- [!!str b: !!bool c]\n",
         right: b"",
         status: 2,
-        out: "left:2:13: 15 BadContent at byte 22: 0[1][0].b: `c` is no `!!bool`: write true or false\n- [!!str b: !!bool c]\n            ^\n",
+        out: "left:2:13: 15 BadContent at byte 22: [1][0].b: `c` is no `!!bool`: write true or false\n- [!!str b: !!bool c]\n            ^\n",
         err: "",
     },
     Row {
@@ -172,7 +172,7 @@ pub static ROWS: [Row; 21] = [
         left: b"\xEF\xBB\xBFa: !!int x\n",
         right: b"",
         status: 2,
-        out: "left:1:4: 15 BadContent at byte 6: 0.a: `x` is no `!!int`: write a whole number, as 12, -12, 0o14 or 0xC\na: !!int x\n   ^\n",
+        out: "left:1:4: 15 BadContent at byte 6: .a: `x` is no `!!int`: write a whole number, as 12, -12, 0o14 or 0xC\na: !!int x\n   ^\n",
         err: "",
     },
     Row {
@@ -181,7 +181,7 @@ pub static ROWS: [Row; 21] = [
         left: b"!!int 10000000000000000000000000000000000000000\n",
         right: b"",
         status: 2,
-        out: "left:1:7: 16 IntRange at byte 6: 0: an int is between -2^127 and 2^127 - 1\n!!int 10000000000000000000000000000000000000000\n      ^\n",
+        out: "left:1:7: 16 IntRange at byte 6: .: an int is between -2^127 and 2^127 - 1\n!!int 10000000000000000000000000000000000000000\n      ^\n",
         err: "",
     },
     Row {
@@ -190,7 +190,7 @@ pub static ROWS: [Row; 21] = [
         left: b"a: !!bool yes\n",
         right: b"",
         status: 2,
-        out: "{\"byte\":3,\"column\":4,\"file\":\"left\",\"first_column\":null,\"first_line\":null,\"line\":1,\"name\":\"BadContent\",\"number\":15,\"path\":\"0.a\",\"words\":\"`yes` is no `!!bool`: write true or false\"}\n",
+        out: "{\"byte\":3,\"column\":4,\"file\":\"left\",\"first_column\":null,\"first_line\":null,\"line\":1,\"name\":\"BadContent\",\"number\":15,\"path\":\".a\",\"words\":\"`yes` is no `!!bool`: write true or false\"}\n",
         err: "",
     },
 ];
