@@ -3,4 +3,5 @@ mod LineLaws
 mod ListLaws
 mod SameLaws
 mod SideLaws
+mod StatLaws
 mod StringLaws

@@ -50,12 +50,15 @@ stat_line f right =
     (codes "+" ++ (decimal (added f) ++ (codes " -" ++ (decimal (removed f) ++ (codes " ~" ++ decimal (changed f))))))
     ++ (moves_text (moved f) ++ (cond f.whole (codes " ") (codes " ... ") ++ (terminal right ++ codes "\n")))
 
+-- whether the numbers are all, and the end of the object
+abbrev pub whole_text : Bool → List ℕ
+whole_text whole = cond whole (codes ",\"whole\":true}\n") (codes ",\"whole\":false}\n")
+
 -- an object of JSON with the numbers, and whether they are all
 abbrev pub stat_json : Found → List ℕ
 stat_json f =
-    (codes "{\"added\":" ++ (decimal (added f) ++ (codes ",\"changed\":" ++ decimal (changed f))))
-    ++ ((codes ",\"kind\":\"stat\",\"moved\":" ++ (decimal (moved f) ++ (codes ",\"removed\":" ++ decimal (removed f))))
-    ++ (codes ",\"whole\":" ++ (cond f.whole (codes "true") (codes "false") ++ codes "}\n")))
+    (codes "{\"added\":" ++ decimal (added f)) ++ ((codes ",\"changed\":" ++ decimal (changed f)) ++ ((codes ",\"kind\":\"stat\",\"moved\":" ++ decimal (moved f))
+    ++ ((codes ",\"removed\":" ++ decimal (removed f)) ++ whole_text f.whole)))
 
 abbrev pub numbers_text : Form → Found → List ℕ → List ℕ
 numbers_text form.Line f right = stat_line f right

@@ -1,6 +1,6 @@
 //! How many differences and moves there are.
-ghost use Rattle.std.specs.Prelude.{◌≡◌, ◌++◌, string_bytes, OnOk, IfOk};
-ghost use Rattle.review_lines.specs.Stat.{is_added, is_removed, is_changed, added, removed, changed, moves_text, stat_line, stat_json, numbers_text, lists_nothing, stat_text};
+ghost use Rattle.std.specs.Prelude.{◌≡◌, ◌++◌, decimal, string_bytes, OnOk, IfOk};
+ghost use Rattle.review_lines.specs.Stat.{is_added, is_removed, is_changed, added, removed, changed, moved, moves_text, whole_text, stat_line, stat_json, numbers_text, lists_nothing, stat_text};
 
 use review_args::{Diff, Form};
 use review_text::put_shown;
@@ -47,6 +47,12 @@ fn changed(found: &Found) -> usize
     found.list.iter().filter(|one| is_changed(one)).count()
 }
 
+fn moved(found: &Found) -> usize
+    ensures { result ≡ moved found.now }
+{
+    found.moves.len()
+}
+
 /// Writes the number of moves, if there are some.
 fn put_moves(out: &mut String, moves: usize) -> Result<(), Fault>
     ensures { OnOk result (string_bytes out.new ≡ string_bytes out.old ++ moves_text moves) }
@@ -63,10 +69,31 @@ fn put_line(out: &mut String, found: &Found, right: &str) -> Result<(), Fault>
 {
     let (added, removed, changed) = (added(found), removed(found), changed(found));
     write!(out, "+{added} -{removed} ~{changed}")?;
-    put_moves(out, found.moves.len())?;
+    put_moves(out, moved(found))?;
     out.push_str(if found.whole { " " } else { " ... " })?;
     put_shown(out, right)?;
     out.push('\n')?;
+    Ok(())
+}
+
+/// Writes what stands before a member's number, and the number.
+fn put_number(out: &mut String, front: &str, number: usize) -> Result<(), Fault>
+    ensures { OnOk result (string_bytes out.new ≡ string_bytes out.old ++ (front.now ++ decimal number)) }
+{
+    out.push_str(front)?;
+    write!(out, "{number}")?;
+    Ok(())
+}
+
+/// Writes whether the numbers are all, and the object's end.
+fn put_whole(out: &mut String, whole: bool) -> Result<(), Fault>
+    ensures { OnOk result (string_bytes out.new ≡ string_bytes out.old ++ whole_text whole) }
+{
+    if whole {
+        out.push_str(",\"whole\":true}\n")?;
+    } else {
+        out.push_str(",\"whole\":false}\n")?;
+    }
     Ok(())
 }
 
@@ -74,16 +101,11 @@ fn put_line(out: &mut String, found: &Found, right: &str) -> Result<(), Fault>
 fn put_json(out: &mut String, found: &Found) -> Result<(), Fault>
     ensures { OnOk result (string_bytes out.new ≡ string_bytes out.old ++ stat_json found.now) }
 {
-    let (added, removed, changed) = (added(found), removed(found), changed(found));
-    let moved = found.moves.len();
-    write!(out, "{{\"added\":{added},\"changed\":{changed}")?;
-    write!(
-        out,
-        ",\"kind\":\"stat\",\"moved\":{moved},\"removed\":{removed}"
-    )?;
-    out.push_str(",\"whole\":")?;
-    out.push_str(if found.whole { "true" } else { "false" })?;
-    out.push_str("}\n")?;
+    put_number(out, "{\"added\":", added(found))?;
+    put_number(out, ",\"changed\":", changed(found))?;
+    put_number(out, ",\"kind\":\"stat\",\"moved\":", moved(found))?;
+    put_number(out, ",\"removed\":", removed(found))?;
+    put_whole(out, found.whole)?;
     Ok(())
 }
 
