@@ -5,7 +5,7 @@ const DIFF: &[&str] = &["diff", "left", "right"];
 
 const NO_PLACES: &[&str] = &["diff", "--no-places", "left", "right"];
 
-pub static ROWS: [Row; 14] = [
+pub static ROWS: [Row; 16] = [
     Row {
         name: "the changed line of a string",
         words: DIFF,
