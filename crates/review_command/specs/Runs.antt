@@ -18,10 +18,12 @@ use Rattle.review_args.specs.declared.words.Warn.{Warn}
 use Rattle.yaml_sum.specs.Asks.{SumTells}
 use Rattle.yaml_sum.specs.declared.asked.Asked.{Asked as SumAsked}
 use Rattle.yaml_sum.specs.declared.asked.Asked.TheVariants.{Files, FilesFrom, Check}
+use Rattle.review_args.specs.declared.words.Show.{Show}
 use Rattle.review_reports.specs.Pages.{TellsPage}
 use Rattle.review_reports.specs.Reports.{TellsFiles}
 use Rattle.review_reports.specs.declared.reports.Kind.{Kind}
 use Rattle.review_reports.specs.declared.reports.Kind.TheVariants.{Faults, Warnings}
+use Rattle.review_show.specs.Files.{ShowsFiles}
 
 -- what is asked of sums: a list is checked, the files of a list are summed, or those that are named
 abbrev pub AsksSum : Sum → SumAsked → Type 0
@@ -60,6 +62,16 @@ module _ {R W E : Type 0} (holds : List ℕ → Option (List ℕ)) (remaining : 
     pub no_write : faults_of old ≡ 0
     pub tells : TellsPage holds remaining contents kind (map (λ s. s.now) asked.files.items) input end old new status
 
+  -- what is shown of files, by some state of the reader and of both writers
+  pub record ShowRuns (asked : Show) (input : R) (out : W) (err : E) (status : ℕ) : Type 0 where
+    pub end : R
+    pub old : Counted W
+    pub new : Counted W
+    pub after : E
+    pub writer : inner_of old ≡ out
+    pub no_write : faults_of old ≡ 0
+    pub shows : ShowsFiles holds remaining contents told asked (map (λ s. s.now) asked.files.items) input end old new err after status
+
   -- sums are made or checked, or the list's name is not UTF-8
   abbrev pub SumRuns : SumAsked → R → W → E → ℕ → Type 0
   SumRuns asked input out err status = SumTells holds remaining contents told asked input out err status ⊎ (status ≡ 3)
@@ -88,13 +100,14 @@ module _ {R W E : Type 0} (holds : List ℕ → Option (List ℕ)) (remaining : 
     pub no_write : faults_of old ≡ 0
     pub ends : MergeTells holds remaining contents names input end old new status ⊎ (2 ≤ status)
 
-  -- What `diff`, `faults`, `warn`, `sum` and `merge3` do; of the other commands nothing is said here.
+  -- What `diff`, `faults`, `warn`, `show`, `sum` and `merge3` do; of the other commands nothing is said here.
   abbrev pub Does : Asked → R → W → E → ℕ → Type 0
   Does (asks.Diff asked ignored) input out err status = DiffRuns asked ignored.items input out status
   Does (asks.Faults asked) input out err status = ReportsTell Faults asked input out status
   Does (asks.Warn asked warn) input out err status = (kind : Kind) × AsksWarnings warn kind × ReportsTell kind asked input out status
   Does (asks.FaultsPage page asked) input out err status = PagesTell Faults asked input out status
   Does (asks.WarnPage page asked warn) input out err status = (kind : Kind) × AsksWarnings warn kind × PagesTell kind asked input out status
+  Does (asks.Show asked) input out err status = ShowRuns asked input out err status
   Does (asks.Sum asked) input out err status = (is : SumAsked) × AsksSum asked is × SumRuns is input out err status
   Does (asks.Merge asked) input out err status = MergeRuns asked input out status
   Does _ input out err status = Unit {0}

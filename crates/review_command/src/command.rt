@@ -154,7 +154,10 @@ fn run<S: Shelf, R: Read + Drop, W: Write + Drop, E: Write + Drop>(
             let kind = Kind::Warnings(&warn);
             reports(shelf, alloc, kind, &asked, &mut input, &mut out, &mut err)
         }
-        Asked::Show(asked) => { show_files(shelf, alloc, &asked, &mut input, &mut out, &mut err) }
+        Asked::Show(asked) => {
+            let mut out = Counted::new(out);
+            show_files(shelf, alloc, &asked, &mut input, &mut out, &mut err)
+        }
         Asked::Git(words) => git(shelf, alloc, &words, &mut out, &mut err),
         Asked::Sum(asked) => sum(shelf, alloc, sum_asked(&asked), input, out, err),
         Asked::Merge(asked) => {

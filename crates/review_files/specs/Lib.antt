@@ -1,3 +1,4 @@
+pub mod Lines
 pub mod Named
 pub mod Statuses
 pub mod Told

@@ -1,6 +1,8 @@
 //! The lines of standard error.
-ghost use Rattle.std.specs.Prelude.{◌≡◌, ◌++◌, ℕ, List, OnOk, codes, string_bytes};
+ghost use Rattle.std.specs.Prelude.{◌≡◌, ◌++◌, ℕ, List, true, OnOk, codes, string_bytes};
+ghost use Rattle.std.specs.Io.KnownBytes.{Appends};
 ghost use Rattle.review_text.specs.Terminal.{terminal};
+ghost use Rattle.review_files.specs.Lines.{TakesLine, bare_line, TellsNoWords};
 ghost use Rattle.review_files.specs.Told.{TellsName, no_memory};
 ghost use Rattle.review_files.specs.Statuses.{fault_status, unread_status};
 
@@ -9,9 +11,7 @@ use review_text::put_shown;
 use std::alloc::Global;
 use std::io::Write;
 use yaml_args::WordsFault;
-use yaml_command::line::tell_fault;
-use yaml_spell::page::write_whole;
-use yaml_text::counted::Counted;
+use yaml_message::message_of;
 use yaml_text::fault::Fault;
 
 /// The status where the words, a file or a stream cannot be used.
@@ -26,14 +26,51 @@ const NO_WORDS: &str = "yamlreview: usage: the words cannot be read\n";
 /// What is said of a file for which memory is refused.
 const NO_MEMORY: &str = "21 OutOfMemory\n";
 
+/// Writes a text, and answers whether the writer took all of it.
+fn put_piece<E: Write>(text: &str, err: &mut E) -> bool
+    ensures whole { result ≡ true → Appends (E.contents err.old) (E.contents err.new) text.now }
+    ensures some { TakesLine E.contents err.old err.new text.now }
+{
+    let bytes = text.as_bytes();
+    let mut at = 0;
+    'write: while at < bytes.len() {
+        match err.write(&bytes[at..]) {
+            Ok(took) => {
+                if took == 0 {
+                    return false;
+                }
+                at += took;
+            }
+            Err(_) => return false,
+        }
+    }
+    true
+}
+
 /// Writes a line. Where standard error fails too, the status alone is left to tell what the line would.
-pub fn put_line<E: Write>(line: &str, err: &mut E) {
-    let _ = write_whole(&mut Counted::new(err), line.as_bytes());
+pub fn put_line<E: Write>(line: &str, err: &mut E)
+    ensures { TakesLine E.contents err.old err.new line.now }
+{
+    let _ = put_piece(line, err);
+}
+
+/// Writes the line of a message.
+fn put_message<E: Write>(message: &str, err: &mut E)
+    ensures { TakesLine E.contents err.old err.new (codes "yamlreview: " ++ (message.now ++ codes "\n")) }
+{
+    if !put_piece(FRONT, err) {
+        return;
+    }
+    if !put_piece(message, err) {
+        return;
+    }
+    let _ = put_piece("\n", err);
 }
 
 /// Writes the line of wrong usage, and answers the status.
 pub fn tell_usage<E: Write>(line: &str, err: &mut E) -> u8
-    ensures { result ≡ 3 }
+    ensures status { result ≡ 3 }
+    ensures told { TakesLine E.contents err.old err.new line.now }
 {
     put_line(line, err);
     UNUSABLE
@@ -112,15 +149,18 @@ pub fn tell_unread<E: Write>(alloc: Global, name: &str, unread: Unread, err: &mu
 
 /// Tells a fault of no file, and answers the status.
 pub fn tell_bare<E: Write>(fault: Fault, err: &mut E) -> u8
-    ensures { result ≡ fault_status fault }
+    ensures status { result ≡ fault_status fault }
+    ensures told { TakesLine E.contents err.old err.new (bare_line fault) }
 {
-    // Where standard error fails too, the status alone is left to tell it.
-    let _ = tell_fault(FRONT, fault, &mut Counted::new(err));
+    let message = message_of(fault);
+    put_message(message.as_str(), err);
     fault_status(fault)
 }
 
 /// Tells why the program's own words can't be read, and answers the status.
-pub fn tell_no_words<E: Write + Drop>(fault: WordsFault, mut err: E) -> u8 {
+pub fn tell_no_words<E: Write + Drop>(fault: WordsFault, mut err: E) -> u8
+    ensures { TellsNoWords E.contents fault err result }
+{
     match fault {
         WordsFault::Usage => tell_usage(NO_WORDS, &mut err),
         WordsFault::OutOfMemory => {

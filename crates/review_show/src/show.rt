@@ -1,12 +1,18 @@
 //! The command `show`.
-ghost use Rattle.std.specs.Prelude.{◌≡◌, cond, bytes_eq, IfOk};
+ghost use Rattle.std.specs.Prelude.{◌≡◌, ◌<◌, ◌-◌, ◌^◌, ◌++◌, ℕ, List, true, codes, map, IfOk, IfErr, OnOk, string_bytes};
+ghost use Rattle.yaml_text.specs.CountedModel.{faults_of};
+ghost use Rattle.yaml_text.specs.Writers.{Printed};
+ghost use Rattle.yaml_command.specs.Printing.{PrintFails};
+ghost use Rattle.review_text.specs.Terminal.{terminal};
+ghost use Rattle.review_show.specs.Files.{IsText, HasNone, shown_output, shown_status, TellsUnshown, TellsNotRead, PrintsSource, CutsText, ShowsBytes, CutsBytes, ShowsFile, CutsFile, ShowsFiles};
+ghost use Rattle.review_show.specs.Unshown.{too_long, unlike, TellsRejected, PutsUnshown};
 
 use review_args::{Form, Format, Show};
 use review_faults::{put_fault, put_no_json};
 use review_files::files::read_named;
 use review_files::rejected::put_no_bytes;
 use review_files::telling::{put_fault_line, put_line, tell_bare};
-use review_files::unread::Unread;
+use review_files::unread::{Unread, greater};
 use review_text::put_shown;
 use std::alloc::Global;
 use std::io::{Read, Write};
@@ -24,32 +30,55 @@ const REJECTED: u8 = 2;
 /// The status of a file that is not as it would be written.
 const UNLIKE: u8 = 1;
 
-/// Writes the name of a file that is not as `show` writes it, and answers the status: 0 if it is.
-fn put_checked<W: Write>(
-    alloc: Global,
-    name: &str,
-    bytes: &[u8],
-    text: &str,
-    out: &mut W,
-) -> Result<u8, Fault>
-    ensures { IfOk result (λ status. status ≡ cond (bytes_eq bytes.now text.now) 0 1) }
+/// What is shown of the bytes of a file.
+fn text_of(alloc: Global, bytes: &[u8], format: Format) -> Result<String, Unshown>
+    ensures ok { IfOk result (λ text. IsText format bytes.now (string_bytes text)) }
+    ensures err { IfErr result (HasNone format bytes.now) }
 {
-    if bytes == text.as_bytes() {
-        return Ok(DONE);
-    }
-    let mut line = String::new(alloc);
-    put_shown(&mut line, name)?;
-    line.push('\n')?;
-    write_out(&mut Counted::new(out), line.as_bytes())?;
-    Ok(UNLIKE)
-}
-
-/// What is shown of a file.
-fn text_of(alloc: Global, bytes: &[u8], format: Format) -> Result<String, Unshown> {
     match format {
-        Format::Yaml => Ok(show(alloc, bytes)?),
+        Format::Yaml => match show(alloc, bytes) {
+            Ok(text) => Ok(text),
+            Err(fault) => Err(Unshown::Rejected(fault)),
+        },
         Format::Json => show_json(alloc, bytes),
     }
+}
+
+/// Writes that the text of a file would be too long.
+fn put_too_long(out: &mut String, name: &str) -> Result<(), Fault>
+    ensures { OnOk result (string_bytes out.new ≡ string_bytes out.old ++ too_long name.now) }
+{
+    put_shown(out, name)?;
+    out.push_str(
+        ": 20 TextTooLong: the text with aliases in place would have more than 67,108,864 bytes\n",
+    )?;
+    Ok(())
+}
+
+/// Writes why a file is rejected.
+fn put_rejected(
+    alloc: Global,
+    out: &mut String,
+    name: &str,
+    bytes: &[u8],
+    fault: Fault,
+) -> Result<(), Fault>
+    ensures { OnOk result ((text : List ℕ) × (string_bytes out.new ≡ string_bytes out.old ++ text) × TellsRejected name.now bytes.now fault text) }
+{
+    match fault {
+        Fault::TextTooLong => put_too_long(out, name),
+        Fault::OutOfMemory => put_fault_line(alloc, out, name, Fault::OutOfMemory),
+        fault => put_fault(alloc, out, name, bytes, fault, Form::Line),
+    }
+}
+
+/// Writes that the JSON of a file would mean something else.
+fn put_unlike(out: &mut String, name: &str) -> Result<(), Fault>
+    ensures { OnOk result (string_bytes out.new ≡ string_bytes out.old ++ unlike name.now) }
+{
+    put_shown(out, name)?;
+    out.push_str(": the JSON would mean something else; this is a bug of yamlreview\n")?;
+    Ok(())
 }
 
 /// Writes why a file is not shown.
@@ -59,36 +88,20 @@ pub fn put_unshown(
     name: &str,
     bytes: &[u8],
     why: Unshown,
-) -> Result<(), Fault> {
+) -> Result<(), Fault>
+    ensures { OnOk result (PutsUnshown name.now bytes.now why (string_bytes out.old) (string_bytes out.new)) }
+{
     match why {
-        Unshown::Rejected(Fault::TextTooLong) => {
-            put_shown(out, name)?;
-            out.push_str(
-                ": 20 TextTooLong: the text with aliases in place would have more than 67,108,864 bytes\n",
-            )?;
-            Ok(())
-        }
-        Unshown::Rejected(Fault::OutOfMemory) => {
-            put_fault_line(alloc, out, name, Fault::OutOfMemory)
-        }
-        Unshown::Rejected(fault) => put_fault(alloc, out, name, bytes, fault, Form::Line),
+        Unshown::Rejected(fault) => put_rejected(alloc, out, name, bytes, fault),
         Unshown::NoJson => put_no_json(alloc, out, name, bytes),
-        Unshown::Unlike => {
-            put_shown(out, name)?;
-            out.push_str(": the JSON would mean something else; this is a bug of yamlreview\n")?;
-            Ok(())
-        }
+        Unshown::Unlike => put_unlike(out, name),
     }
 }
 
 /// Reports why a file is not shown, and answers the status.
-fn tell_unshown<E: Write>(
-    alloc: Global,
-    name: &str,
-    bytes: &[u8],
-    why: Unshown,
-    err: &mut E,
-) -> u8 {
+fn tell_unshown<E: Write>(alloc: Global, name: &str, bytes: &[u8], why: Unshown, err: &mut E) -> u8
+    ensures { TellsUnshown E.contents name.now bytes.now why err.old err.new result }
+{
     let mut line = String::new(alloc);
     match put_unshown(alloc, &mut line, name, bytes, why) {
         Ok(()) => {
@@ -100,7 +113,9 @@ fn tell_unshown<E: Write>(
 }
 
 /// Reports why a file is not read, and answers the status.
-fn tell_no_bytes<E: Write>(alloc: Global, name: &str, unread: Unread, err: &mut E) -> u8 {
+fn tell_no_bytes<E: Write>(alloc: Global, name: &str, unread: Unread, err: &mut E) -> u8
+    ensures { TellsNotRead E.contents name.now unread err.old err.new result }
+{
     let mut line = String::new(alloc);
     match put_no_bytes(alloc, &mut line, name, unread, Form::Line) {
         Ok(status) => {
@@ -111,36 +126,122 @@ fn tell_no_bytes<E: Write>(alloc: Global, name: &str, unread: Unread, err: &mut 
     }
 }
 
-/// Shows one file, and answers its status.
+/// Writes the name of a file on a line of its own.
+fn put_name(out: &mut String, name: &str) -> Result<(), Fault>
+    ensures { OnOk result (string_bytes out.new ≡ string_bytes out.old ++ (terminal name.now ++ codes "\n")) }
+{
+    put_shown(out, name)?;
+    out.push_str("\n")?;
+    Ok(())
+}
+
+/// What is printed of a file that is shown as this text, and the status. With `--check` it is the name of a file that is another text.
+fn output_of(
+    alloc: Global,
+    name: &str,
+    bytes: &[u8],
+    text: String,
+    is_check: bool,
+) -> Result<(String, u8), Fault>
+    ensures output { IfOk result (λ told. string_bytes told.0 ≡ shown_output is_check name.now bytes.now (string_bytes text)) }
+    ensures status { IfOk result (λ told. told.1 ≡ shown_status is_check bytes.now (string_bytes text)) }
+    ensures check { IfErr result (λ fault. is_check ≡ true) }
+{
+    if !is_check {
+        return Ok((text, DONE));
+    }
+    let mut line = String::new(alloc);
+    if bytes == text.as_bytes() {
+        return Ok((line, DONE));
+    }
+    put_name(&mut line, name)?;
+    Ok((line, UNLIKE))
+}
+
+/// Prints what there is to print of a file that is shown as this text, and answers the status.
+fn put_text<W: Write>(
+    alloc: Global,
+    name: &str,
+    bytes: &[u8],
+    text: String,
+    is_check: bool,
+    out: &mut Counted<W>,
+) -> Result<u8, Fault>
+    requires { faults_of out.old < 2 ^ 64 - 1 }
+    ensures printed { OnOk result (Printed W.contents out.old out.new (shown_output is_check name.now bytes.now (string_bytes text))) }
+    ensures status { IfOk result (λ status. status ≡ shown_status is_check bytes.now (string_bytes text)) }
+    ensures cut { IfErr result (CutsText W.contents is_check (shown_output is_check name.now bytes.now (string_bytes text)) out.old out.new) }
+{
+    match output_of(alloc, name, bytes, text, is_check) {
+        Ok((output, status)) => match write_out(out, output.as_bytes()) {
+            Ok(()) => Ok(status),
+            Err(fault) => Err(fault),
+        },
+        Err(fault) => Err(fault),
+    }
+}
+
+/// Prints a file that is not shown as it is, if that is asked for, and answers the status. Else the status is the one that is passed.
+fn put_source<W: Write>(
+    textconv: bool,
+    bytes: &[u8],
+    status: u8,
+    out: &mut Counted<W>,
+) -> Result<u8, Fault>
+    requires { faults_of out.old < 2 ^ 64 - 1 }
+    ensures ok { IfOk result (PrintsSource W.contents textconv bytes.now status out.old out.new) }
+    ensures asked { IfErr result (λ fault. textconv ≡ true) }
+    ensures cut { IfErr result (PrintFails W.contents out.old out.new bytes.now) }
+{
+    if !textconv {
+        return Ok(status);
+    }
+    match write_out(out, bytes) {
+        Ok(()) => Ok(DONE),
+        Err(fault) => Err(fault),
+    }
+}
+
+/// Shows the bytes of a file, and answers its status. An error is that the output fails.
+fn show_bytes<W: Write, E: Write>(
+    alloc: Global,
+    named: (&str, &Show<'_>),
+    bytes: &[u8],
+    out: &mut Counted<W>,
+    err: &mut E,
+) -> Result<u8, Fault>
+    requires { faults_of out.old < 2 ^ 64 - 1 }
+    ensures ok { IfOk result (ShowsBytes W.contents E.contents named.entry.1.now named.entry.0.now bytes.now out.old out.new err.old err.new) }
+    ensures cut { IfErr result (CutsBytes W.contents E.contents named.entry.1.now named.entry.0.now bytes.now out.old out.new err.old err.new) }
+{
+    let (name, asked) = named;
+    match text_of(alloc, bytes, asked.format) {
+        Ok(text) => put_text(alloc, name, bytes, text, asked.is_check, out),
+        Err(why) => {
+            let status = tell_unshown(alloc, name, bytes, why, err);
+            put_source(asked.textconv, bytes, status, out)
+        }
+    }
+}
+
+/// Shows one file, and answers its status. An error is that the output fails.
 fn show_file<S: Shelf, R: Read, W: Write, E: Write>(
     shelf: &S,
     alloc: Global,
     named: (&str, &Show<'_>),
     input: &mut R,
-    out: &mut W,
+    out: &mut Counted<W>,
     err: &mut E,
-) -> Result<u8, Fault> {
+) -> Result<u8, Fault>
+    requires { faults_of out.old < 2 ^ 64 - 1 }
+    ensures ok { IfOk result (ShowsFile (S.holds shelf.now) R.remaining W.contents E.contents named.entry.1.now named.entry.0.now input.old input.new out.old out.new err.old err.new) }
+    ensures cut { IfErr result (CutsFile (S.holds shelf.now) R.remaining W.contents E.contents named.entry.1.now named.entry.0.now input.old input.new out.old out.new err.old err.new) }
+{
     let (name, asked) = named;
-    let bytes = match read_named(shelf, alloc, name, input) {
-        Ok(bytes) => bytes,
-        Err(unread) => return Ok(tell_no_bytes(alloc, name, unread, err)),
-    };
-    let why = match text_of(alloc, &bytes, asked.format) {
-        Ok(text) => {
-            if asked.is_check {
-                return put_checked(alloc, name, &bytes, &text, out);
-            }
-            write_out(&mut Counted::new(out), text.as_bytes())?;
-            return Ok(DONE);
-        }
-        Err(why) => why,
-    };
-    let status = tell_unshown(alloc, name, &bytes, why, err);
-    if asked.textconv {
-        write_out(&mut Counted::new(out), &bytes)?;
-        return Ok(DONE);
+    match read_named(shelf, alloc, name, input) {
+        Ok(bytes) => show_bytes(alloc, (name, asked), &bytes, out, err),
+        Err(unread) => Ok(tell_no_bytes(alloc, name, unread, err)),
     }
-    Ok(status)
 }
 
 /// Shows each file, and goes on to the next one unless the output fails. The status is the greatest of all.
@@ -149,14 +250,18 @@ pub fn show_files<S: Shelf, R: Read, W: Write, E: Write>(
     alloc: Global,
     asked: &Show<'_>,
     input: &mut R,
-    out: &mut W,
+    out: &mut Counted<W>,
     err: &mut E,
-) -> u8 {
+) -> u8
+    requires { faults_of out.old < 2 ^ 64 - 1 }
+    ensures shows { ShowsFiles (S.holds shelf.now) R.remaining W.contents E.contents asked.now (map (λ s. s.now) asked.now.files.items) input.old input.new out.old out.new err.old err.new result }
+{
+    let files = asked.files.as_slice();
     let mut status = DONE;
-    for name in &asked.files {
+    'files: for name in files {
         match show_file(shelf, alloc, (*name, asked), input, out, err) {
-            Ok(answer) => status = status.max(answer),
-            Err(fault) => return status.max(tell_bare(fault, err)),
+            Ok(answer) => status = greater(status, answer),
+            Err(fault) => return greater(status, tell_bare(fault, err)),
         }
     }
     status

@@ -41,6 +41,19 @@ returns-in-WarnPage g c =
     subst (λ z. Does (g.S.Shelf.holds c.args.shelf.now) g.R.Read.remaining g.W.Write.contents g.E.Write.contents z c.args.input c.args.out c.args.err c.pages-in-WarnPage.result) (sym c.in-WarnPage.is)
     (warns_page (g.S.Shelf.holds c.args.shelf.now) g.R.Read.remaining g.W.Write.contents g.E.Write.contents c.in-WarnPage.asked c.in-WarnPage.warn w c.args.input c.args.out c.pages-in-WarnPage.result c.pages-in-WarnPage.new.input c.new-out-in-WarnPage.result c.pages-in-WarnPage.new.out c.pages-in-WarnPage.ensures refl c.new-out-in-WarnPage.ensures.inner c.new-out-in-WarnPage.ensures.faults)
 
+pub returns-in-Show : goal.returns-in-Show
+returns-in-Show g c =
+    subst (λ z. Does (g.S.Shelf.holds c.args.shelf.now) g.R.Read.remaining g.W.Write.contents g.E.Write.contents z c.args.input c.args.out c.args.err c.show_files.result) (sym c.in-Show.is)
+    (record {
+      end = c.show_files.new.input;
+      old = c.new-out-in-Show.result;
+      new = c.show_files.new.out;
+      after = c.show_files.new.err;
+      writer = c.new-out-in-Show.ensures.inner;
+      no_write = c.new-out-in-Show.ensures.faults;
+      shows = c.show_files.ensures.shows;
+    })
+
 pub returns-in-Diff : goal.returns-in-Diff
 returns-in-Diff g c =
     let tells = rw c.deref.ensures.value at c.diff-answer.ensures.tells in

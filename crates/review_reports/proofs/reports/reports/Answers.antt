@@ -10,7 +10,7 @@ returns-in-Err g c =
     let names : List (List ℕ) = map {A = Bor (List ℕ)} {B = List ℕ} (λ s. s.now) xs in
     let h = c.in-Err.ensures.cut in
     let told = stops_at (g.S.Shelf.holds c.args.shelf.now) g.R.Read.remaining g.W.Write.contents c.args.kind c.args.asked.now.form names c.args.input.now c.args.out.now {X = Bor (List ℕ)} (λ s. s.now) xs c.files.name-index _ c.files-test.true
-    c.files.input c.report.new.input c.files.out c.report.new.out c.files.status _ _ c.files.invariant.on (record { text = h.text; status = h.status; has = h.has; broke = h.broke; is = refl }) (c.tell_bare.ensures ∙ ap fault_status h.is) c.greater.ensures in
+    c.files.input c.report.new.input c.files.out c.report.new.out c.files.status _ _ c.files.invariant.on (record { text = h.text; status = h.status; has = h.has; broke = h.broke; is = refl }) (c.tell_bare.ensures.status ∙ ap fault_status h.is) c.greater.ensures in
     record {
       tells =
           subst
