@@ -190,3 +190,15 @@ IsTimedWarning here told = IfSome told (λ why. is_timed_warning here why ≡ tr
 abbrev pub IsOlder : Option Older → Kind → Option Older → Type 0
 IsOlder (Some why) here told = told ≡ Some why
 IsOlder None here told = IsTimedWarning here told
+
+-- ---- the words of a warning
+
+abbrev pub kind_words : Kind → List ℕ
+kind_words kinds.Null = codes "a null"
+kind_words kinds.Bool = codes "a bool"
+kind_words kinds.Int = codes "an int"
+kind_words kinds.Float = codes "a float"
+kind_words kinds.Str = codes "a string"
+kind_words kinds.Merge = codes "a merge"
+kind_words kinds.Timestamp = codes "a timestamp"
+kind_words kinds.Default = codes "a default value"

@@ -1,5 +1,5 @@
 //! The source line of a place, and a caret under its column.
-ghost use Rattle.std.specs.Prelude.{◌≡◌, ◌++◌, string_bytes, OnOk};
+ghost use Rattle.std.specs.Prelude.{◌≡◌, ◌++◌, string_bytes, OnOk, IfErr};
 ghost use Rattle.review_text.specs.Terminal.{is_unprinted, is_printed, terminal_char, terminal};
 
 use std::alloc::Global;
@@ -44,7 +44,8 @@ fn shown(c: char) -> char
 
 /// Writes a text with `?` for what a terminal would not print.
 pub fn put_shown(out: &mut String, text: &str) -> Result<(), Fault>
-    ensures { OnOk result (string_bytes out.new ≡ string_bytes out.old ++ terminal text.now) }
+    ensures ok { OnOk result (string_bytes out.new ≡ string_bytes out.old ++ terminal text.now) }
+    ensures err { IfErr result (λ fault. fault ≡ Fault.OutOfMemory) }
 {
     'chars: for c in text.chars() {
         out.push(shown(c))?;

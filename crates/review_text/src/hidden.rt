@@ -1,5 +1,5 @@
 //! Texts in which a terminal shows each character.
-ghost use Rattle.std.specs.Prelude.{◌≡◌, ◌<◌, ◌++◌, string_bytes, OnOk};
+ghost use Rattle.std.specs.Prelude.{◌≡◌, ◌<◌, ◌++◌, string_bytes, OnOk, IfErr};
 ghost use Rattle.std.specs.Str.{encode_utf8_all};
 ghost use Rattle.review_text.specs.Hidden.{is_hidden_low, is_hidden_high, is_hidden, two_digits, escape_text, visible_char, visible};
 
@@ -40,7 +40,8 @@ fn is_hidden(c: char) -> bool
 /// Writes the two digits of a byte.
 fn put_digits(out: &mut String, byte: u32) -> Result<(), Fault>
     requires { byte < 256 }
-    ensures { OnOk result (string_bytes out.new ≡ string_bytes out.old ++ encode_utf8_all (two_digits byte)) }
+    ensures ok { OnOk result (string_bytes out.new ≡ string_bytes out.old ++ encode_utf8_all (two_digits byte)) }
+    ensures err { IfErr result (λ fault. fault ≡ Fault.OutOfMemory) }
 {
     out.push(char::from(hex_digit(byte / 16)))?;
     out.push(char::from(hex_digit(byte % 16)))?;
@@ -50,7 +51,8 @@ fn put_digits(out: &mut String, byte: u32) -> Result<(), Fault>
 /// Writes the escape of a character by its number.
 fn put_escape(out: &mut String, code: u32) -> Result<(), Fault>
     requires { code < 1114112 }
-    ensures { OnOk result (string_bytes out.new ≡ string_bytes out.old ++ encode_utf8_all (escape_text code)) }
+    ensures ok { OnOk result (string_bytes out.new ≡ string_bytes out.old ++ encode_utf8_all (escape_text code)) }
+    ensures err { IfErr result (λ fault. fault ≡ Fault.OutOfMemory) }
 {
     if code < 65_536 {
         out.push_str("\\u")?;
@@ -66,7 +68,8 @@ fn put_escape(out: &mut String, code: u32) -> Result<(), Fault>
 
 /// Writes a character, or its escape if it is hidden.
 fn put_char(out: &mut String, c: char) -> Result<(), Fault>
-    ensures { OnOk result (string_bytes out.new ≡ string_bytes out.old ++ encode_utf8_all (visible_char c)) }
+    ensures ok { OnOk result (string_bytes out.new ≡ string_bytes out.old ++ encode_utf8_all (visible_char c)) }
+    ensures err { IfErr result (λ fault. fault ≡ Fault.OutOfMemory) }
 {
     if is_hidden(c) {
         put_escape(out, u32::from(c))
@@ -79,7 +82,8 @@ fn put_char(out: &mut String, c: char) -> Result<(), Fault>
 /// Writes a text with the escape of each hidden character (YAML 1.2.2, 5.7). In the text of a node these stand between double quotes
 /// alone, where the escape is read as the character.
 pub fn put_visible(out: &mut String, text: &str) -> Result<(), Fault>
-    ensures { OnOk result (string_bytes out.new ≡ string_bytes out.old ++ visible text.now) }
+    ensures ok { OnOk result (string_bytes out.new ≡ string_bytes out.old ++ visible text.now) }
+    ensures err { IfErr result (λ fault. fault ≡ Fault.OutOfMemory) }
 {
     'chars: for c in text.chars() {
         put_char(out, c)?;

@@ -1,5 +1,5 @@
 //! Objects of JSON, one a line.
-ghost use Rattle.std.specs.Prelude.{◌≡◌, ◌++◌, map, option_map, string_bytes, OnOk, IfOk};
+ghost use Rattle.std.specs.Prelude.{◌≡◌, ◌++◌, map, option_map, string_bytes, OnOk, IfOk, IfErr};
 ghost use Rattle.serde_json.specs.Data.{object, no_members};
 ghost use Rattle.serde_json.specs.View.{view};
 ghost use Rattle.review_text.specs.Objects.{place_data, said_data, with_members, object_line};
@@ -30,7 +30,8 @@ pub fn text_of(text: &Option<String>) -> Option<&str>
 
 /// A place as JSON.
 fn place_value(alloc: Global, place: Option<Place>) -> Result<Value, Fault>
-    ensures { IfOk result (λ value. view value ≡ place_data place) }
+    ensures ok { IfOk result (λ value. view value ≡ place_data place) }
+    ensures err { IfErr result (λ fault. fault ≡ Fault.OutOfMemory) }
 {
     match place {
         Some(place) => {
@@ -44,7 +45,8 @@ fn place_value(alloc: Global, place: Option<Place>) -> Result<Value, Fault>
 }
 
 fn value_of(alloc: Global, said: Said<'_>) -> Result<Value, Fault>
-    ensures { IfOk result (λ value. view value ≡ said_data said.entry) }
+    ensures ok { IfOk result (λ value. view value ≡ said_data said.entry) }
+    ensures err { IfErr result (λ fault. fault ≡ Fault.OutOfMemory) }
 {
     match said {
         Said::Number(Some(number)) => Ok(Value::from(number)),
@@ -55,7 +57,8 @@ fn value_of(alloc: Global, said: Said<'_>) -> Result<Value, Fault>
 }
 
 fn object_of(alloc: Global, members: &[(&str, Said<'_>)]) -> Result<Value, Fault>
-    ensures { IfOk result (λ value. view value ≡ object (with_members (map (λ m. (m.0.now, said_data m.1)) members.now) no_members)) }
+    ensures ok { IfOk result (λ value. view value ≡ object (with_members (map (λ m. (m.0.now, said_data m.1)) members.now) no_members)) }
+    ensures err { IfErr result (λ fault. fault ≡ Fault.OutOfMemory) }
 {
     let mut object = Map::new(alloc);
     for member in members {
@@ -70,7 +73,8 @@ pub fn put_object(
     out: &mut String,
     members: &[(&str, Said<'_>)],
 ) -> Result<(), Fault>
-    ensures { OnOk result (string_bytes out.new ≡ string_bytes out.old ++ object_line (map (λ m. (m.0.now, said_data m.1)) members.now)) }
+    ensures ok { OnOk result (string_bytes out.new ≡ string_bytes out.old ++ object_line (map (λ m. (m.0.now, said_data m.1)) members.now)) }
+    ensures err { IfErr result (λ fault. fault ≡ Fault.OutOfMemory) }
 {
     let line = object_of(alloc, members)?.to_string(alloc)?;
     put_all(out, &[line.as_str(), "\n"])

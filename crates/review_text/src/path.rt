@@ -1,5 +1,5 @@
 //! Paths of differences as text.
-ghost use Rattle.std.specs.Prelude.{◌≡◌, ◌++◌, ◌==◌, length, string_bytes, OnOk, IfOk};
+ghost use Rattle.std.specs.Prelude.{◌≡◌, ◌++◌, ◌==◌, length, string_bytes, OnOk, IfOk, IfErr};
 ghost use Rattle.yaml_diff.specs.Lines.{step_of, way_of};
 ghost use Rattle.yaml_rank.specs.RanksView.{RanksAre};
 ghost use Rattle.review_text.specs.PathText.{place_text, first_text, step_text, start_text, path_text};
@@ -13,7 +13,8 @@ use yaml_text::fault::Fault;
 
 /// Writes where an item or a document stands: its place, or two places where it has another on the right.
 fn put_places(out: &mut String, places: Places) -> Result<(), Fault>
-    ensures { OnOk result (string_bytes out.new ≡ string_bytes out.old ++ place_text places) }
+    ensures ok { OnOk result (string_bytes out.new ≡ string_bytes out.old ++ place_text places) }
+    ensures err { IfErr result (λ fault. fault ≡ Fault.OutOfMemory) }
 {
     match places {
         Places::Both(left, right) if left != right => write!(out, "{left}:{right}")?,
@@ -27,7 +28,8 @@ fn put_places(out: &mut String, places: Places) -> Result<(), Fault>
 /// Writes the step that leads to a document.
 fn put_first(alloc: Global, out: &mut String, both: &Both<'_>, step: Step) -> Result<(), Fault>
     requires ranked { RanksAre both.now.graph both.now.ranks }
-    ensures { OnOk result (string_bytes out.new ≡ string_bytes out.old ++ first_text (step_of both.now.graph step)) }
+    ensures ok { OnOk result (string_bytes out.new ≡ string_bytes out.old ++ first_text (step_of both.now.graph step)) }
+    ensures err { IfErr result (λ fault. fault ≡ Fault.OutOfMemory) }
 {
     match step {
         Step::Item(places) => put_places(out, places),
@@ -38,7 +40,8 @@ fn put_first(alloc: Global, out: &mut String, both: &Both<'_>, step: Step) -> Re
 /// Writes a step that leads to a part of a node.
 fn put_step(alloc: Global, out: &mut String, both: &Both<'_>, step: Step) -> Result<(), Fault>
     requires ranked { RanksAre both.now.graph both.now.ranks }
-    ensures { OnOk result (string_bytes out.new ≡ string_bytes out.old ++ step_text (step_of both.now.graph step)) }
+    ensures ok { OnOk result (string_bytes out.new ≡ string_bytes out.old ++ step_text (step_of both.now.graph step)) }
+    ensures err { IfErr result (λ fault. fault ≡ Fault.OutOfMemory) }
 {
     match step {
         Step::Item(places) => {
@@ -62,7 +65,8 @@ fn put_start(
     numbered: bool,
 ) -> Result<(), Fault>
     requires ranked { RanksAre both.now.graph both.now.ranks }
-    ensures { OnOk result (string_bytes out.new ≡ string_bytes out.old ++ start_text numbered alone (step_of both.now.graph step)) }
+    ensures ok { OnOk result (string_bytes out.new ≡ string_bytes out.old ++ start_text numbered alone (step_of both.now.graph step)) }
+    ensures err { IfErr result (λ fault. fault ≡ Fault.OutOfMemory) }
 {
     if numbered {
         return put_first(alloc, out, both, step);
@@ -81,7 +85,8 @@ pub fn path_text(
     numbered: bool,
 ) -> Result<String, Fault>
     requires ranked { RanksAre both.now.graph both.now.ranks }
-    ensures { IfOk result (λ s. string_bytes s ≡ path_text numbered (way_of both.now.graph path.now)) }
+    ensures ok { IfOk result (λ s. string_bytes s ≡ path_text numbered (way_of both.now.graph path.now)) }
+    ensures err { IfErr result (λ fault. fault ≡ Fault.OutOfMemory) }
 {
     let mut out = String::new(alloc);
     let Some((document, steps)) = path.split_last() else {

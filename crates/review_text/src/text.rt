@@ -1,5 +1,5 @@
 //! The text of a node: that of the canonical text, with aliases in place.
-ghost use Rattle.std.specs.Prelude.{◌≡◌, ◌<◌, ◌≤◌, ◌++◌, ◌∷◌, ◌&&◌, [], length, map, flat_map, cond, bytes_eq, codes, string_bytes, OnOk, IfOk, MatchOption, MatchBool};
+ghost use Rattle.std.specs.Prelude.{◌≡◌, ◌<◌, ◌≤◌, ◌++◌, ◌∷◌, ◌&&◌, [], length, map, flat_map, cond, bytes_eq, codes, string_bytes, OnOk, IfOk, MatchOption, MatchBool, IfErr};
 ghost use Rattle.std.specs.List.{All, list_all};
 ghost use Rattle.std.specs.Str.{encode_utf8_all};
 ghost use Rattle.yaml_definitions.specs.model.Tag.{str_tag};
@@ -75,7 +75,8 @@ fn is_named(tag: &str, content: &str) -> bool
 
 /// Writes texts one behind another.
 pub fn put_all(out: &mut String, texts: &[&str]) -> Result<(), Fault>
-    ensures { OnOk result (string_bytes out.new ≡ string_bytes out.old ++ flat_map (λ text. text.now) texts.now) }
+    ensures ok { OnOk result (string_bytes out.new ≡ string_bytes out.old ++ flat_map (λ text. text.now) texts.now) }
+    ensures err { IfErr result (λ fault. fault ≡ Fault.OutOfMemory) }
 {
     for text in texts {
         out.push_str(text)?;
@@ -85,7 +86,8 @@ pub fn put_all(out: &mut String, texts: &[&str]) -> Result<(), Fault>
 
 /// A byte of a tag: as it is where it is a URI character, else percent-encoded.
 fn put_byte(out: &mut String, byte: u8) -> Result<(), Fault>
-    ensures { OnOk result (string_bytes out.new ≡ string_bytes out.old ++ encode_utf8_all (spell_byte byte)) }
+    ensures ok { OnOk result (string_bytes out.new ≡ string_bytes out.old ++ encode_utf8_all (spell_byte byte)) }
+    ensures err { IfErr result (λ fault. fault ≡ Fault.OutOfMemory) }
 {
     let c = char::from(byte);
     if is_uri(c) {
@@ -98,7 +100,8 @@ fn put_byte(out: &mut String, byte: u8) -> Result<(), Fault>
 
 /// A tag's bytes, percent-encoded.
 fn put_encoded(out: &mut String, tag: &str) -> Result<(), Fault>
-    ensures { OnOk result (string_bytes out.new ≡ string_bytes out.old ++ encode_utf8_all (encoded tag.now [])) }
+    ensures ok { OnOk result (string_bytes out.new ≡ string_bytes out.old ++ encode_utf8_all (encoded tag.now [])) }
+    ensures err { IfErr result (λ fault. fault ≡ Fault.OutOfMemory) }
 {
     for byte in tag.as_bytes() {
         put_byte(out, *byte)?;
@@ -108,7 +111,8 @@ fn put_encoded(out: &mut String, tag: &str) -> Result<(), Fault>
 
 /// A tag and a space. A kind's own tag is not written.
 fn put_tag(out: &mut String, tag: &str, own: &str) -> Result<(), Fault>
-    ensures { OnOk result (string_bytes out.new ≡ string_bytes out.old ++ encode_utf8_all (cond (bytes_eq tag.now own.now) [] (full_text tag.now))) }
+    ensures ok { OnOk result (string_bytes out.new ≡ string_bytes out.old ++ encode_utf8_all (cond (bytes_eq tag.now own.now) [] (full_text tag.now))) }
+    ensures err { IfErr result (λ fault. fault ≡ Fault.OutOfMemory) }
 {
     if tag == own {
         return Ok(());
@@ -139,7 +143,8 @@ fn long_front(text: &str, room: usize) -> &str
 
 /// A scalar of this tag and content, of which little more is spelled than may be shown.
 pub fn put_scalar(out: &mut String, tag: &str, content: &str, room: usize) -> Result<(), Fault>
-    ensures { OnOk result (Fills room (string_bytes out.old) (string_bytes out.new) (text_of (scalar tag.now content.now))) }
+    ensures ok { OnOk result (Fills room (string_bytes out.old) (string_bytes out.new) (text_of (scalar tag.now content.now))) }
+    ensures err { IfErr result (λ fault. fault ≡ Fault.OutOfMemory) }
 {
     put_tag(out, tag, core_tag::STR)?;
     spell_into(long_front(content, room), out)
@@ -154,7 +159,8 @@ fn is_full(text: &str, room: usize) -> bool
 
 /// What is shown of a text: one of more bytes than there is room for is cut at the end of a character, and ends with `...`.
 fn cut(alloc: Global, text: String, room: usize) -> Result<String, Fault>
-    ensures { IfOk result (λ s. string_bytes s ≡ shown room (string_bytes text)) }
+    ensures ok { IfOk result (λ s. string_bytes s ≡ shown room (string_bytes text)) }
+    ensures err { IfErr result (λ fault. fault ≡ Fault.OutOfMemory) }
 {
     if !is_full(&text, room) {
         return Ok(text);
@@ -166,7 +172,8 @@ fn cut(alloc: Global, text: String, room: usize) -> Result<String, Fault>
 
 /// A step in brackets.
 fn put_bracketed(out: &mut String, text: &str) -> Result<(), Fault>
-    ensures { OnOk result (string_bytes out.new ≡ string_bytes out.old ++ bracketed text.now) }
+    ensures ok { OnOk result (string_bytes out.new ≡ string_bytes out.old ++ bracketed text.now) }
+    ensures err { IfErr result (λ fault. fault ≡ Fault.OutOfMemory) }
 {
     put_all(out, &["[", text, "]"])
 }
@@ -178,7 +185,8 @@ pub fn put_scalar_key(
     tag: &str,
     content: &str,
 ) -> Result<(), Fault>
-    ensures { OnOk result (string_bytes out.new ≡ string_bytes out.old ++ key_text (scalar tag.now content.now)) }
+    ensures ok { OnOk result (string_bytes out.new ≡ string_bytes out.old ++ key_text (scalar tag.now content.now)) }
+    ensures err { IfErr result (λ fault. fault ≡ Fault.OutOfMemory) }
 {
     if is_named(tag, content) {
         return put_all(out, &[".", content]);
@@ -189,7 +197,8 @@ pub fn put_scalar_key(
 }
 /// What stands before the part at this place.
 fn put_separator(out: &mut String, place: usize) -> Result<(), Fault>
-    ensures { OnOk result (string_bytes out.new ≡ string_bytes out.old ++ encode_utf8_all (separator place)) }
+    ensures ok { OnOk result (string_bytes out.new ≡ string_bytes out.old ++ encode_utf8_all (separator place)) }
+    ensures err { IfErr result (λ fault. fault ≡ Fault.OutOfMemory) }
 {
     if place == 0 {
         return Ok(());
@@ -202,7 +211,8 @@ fn put_separator(out: &mut String, place: usize) -> Result<(), Fault>
 #[cycle(node)]
 fn put_node(both: &Both<'_>, id: NodeId, room: usize, out: &mut String) -> Result<(), Fault>
     requires { RanksAre both.now.graph both.now.ranks }
-    ensures { OnOk result (Fills room (string_bytes out.old) (string_bytes out.new) (text_of (tree both.now.graph id.0))) }
+    ensures ok { OnOk result (Fills room (string_bytes out.old) (string_bytes out.new) (text_of (tree both.now.graph id.0))) }
+    ensures err { IfErr result (λ fault. fault ≡ Fault.OutOfMemory) }
 {
     if is_full(out, room) {
         return Ok(());
@@ -236,7 +246,8 @@ fn put_items(
 ) -> Result<(), Fault>
     requires ranked { RanksAre both.now.graph both.now.ranks }
     requires below { All (λ i. i.0 < owner.0) items.now }
-    ensures { OnOk result (Fills room (string_bytes out.old) (string_bytes out.new) (encode_utf8_all (91 ∷ items_text [] (items_out (trees (map (λ i. arranged (tree both.now.graph i.0)) items.now))) []))) }
+    ensures ok { OnOk result (Fills room (string_bytes out.old) (string_bytes out.new) (encode_utf8_all (91 ∷ items_text [] (items_out (trees (map (λ i. arranged (tree both.now.graph i.0)) items.now))) []))) }
+    ensures err { IfErr result (λ fault. fault ≡ Fault.OutOfMemory) }
 {
     out.push('[')?;
     for (place, item) in items.iter().enumerate() {
@@ -261,7 +272,8 @@ fn put_entries(
 ) -> Result<(), Fault>
     requires ranked { RanksAre both.now.graph both.now.ranks }
     requires below { All (λ p. (p.0.0 < owner.0) × (p.1.0 < owner.0)) entries.now }
-    ensures { OnOk result (Fills room (string_bytes out.old) (string_bytes out.new) (encode_utf8_all (123 ∷ pairs_text [] (pairs_out (pairs (map (key_pair both.now.graph) entries.now))) []))) }
+    ensures ok { OnOk result (Fills room (string_bytes out.old) (string_bytes out.new) (encode_utf8_all (123 ∷ pairs_text [] (pairs_out (pairs (map (key_pair both.now.graph) entries.now))) []))) }
+    ensures err { IfErr result (λ fault. fault ≡ Fault.OutOfMemory) }
 {
     out.push('{')?;
     for (place, entry) in entries.iter().enumerate() {
@@ -282,7 +294,8 @@ fn put_entries(
 /// A whole text ends with `"`, `]` or `}`, so a `.` at the end tells a cut.
 pub fn node_text(alloc: Global, both: &Both<'_>, id: NodeId, room: usize) -> Result<String, Fault>
     requires { RanksAre both.now.graph both.now.ranks }
-    ensures { IfOk result (λ s. string_bytes s ≡ shown room (text_of (tree both.now.graph id.0))) }
+    ensures ok { IfOk result (λ s. string_bytes s ≡ shown room (text_of (tree both.now.graph id.0))) }
+    ensures err { IfErr result (λ fault. fault ≡ Fault.OutOfMemory) }
 {
     let mut text = String::new(alloc);
     put_node(both, id, room, &mut text)?;
@@ -311,7 +324,8 @@ fn name_of<'b>(both: &'b Both<'_>, key: NodeId) -> Option<&'b str>
 /// The text of a step to the value of a key.
 pub fn put_key(alloc: Global, out: &mut String, both: &Both<'_>, key: NodeId) -> Result<(), Fault>
     requires { RanksAre both.now.graph both.now.ranks }
-    ensures { OnOk result (string_bytes out.new ≡ string_bytes out.old ++ key_text (tree both.now.graph key.0)) }
+    ensures ok { OnOk result (string_bytes out.new ≡ string_bytes out.old ++ key_text (tree both.now.graph key.0)) }
+    ensures err { IfErr result (λ fault. fault ≡ Fault.OutOfMemory) }
 {
     match name_of(both, key) {
         Some(name) => put_all(out, &[".", name]),

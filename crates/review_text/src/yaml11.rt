@@ -24,8 +24,13 @@ pub enum Kind {
 }
 
 impl Kind {
+    ghost use Rattle.std.specs.Prelude.{◌≡◌};
+    ghost use Rattle.review_text.specs.Yaml11.{kind_words};
+
     /// The name of the kind, with its article.
-    pub fn words(self) -> &'static str {
+    pub fn words(self) -> &'static str
+        ensures { result.now ≡ kind_words self }
+    {
         match self {
             Kind::Null => "a null",
             Kind::Bool => "a bool",

@@ -10,4 +10,4 @@ returns c =
     let front = string_bytes c.push_str.new.self in
     let shown = string_bytes c.put_shown.new.out in
     let end = string_bytes c.push_str-2.new.self in
-    then_more o front end (codes "yamlreview: ") (name ++ codes ": ") c.in_ok-push_str.ensures.bytes (then_more front shown end name (codes ": ") c.in_ok-put_shown.ensures c.in_ok-push_str-2.ensures.bytes)
+    then_more o front end (codes "yamlreview: ") (name ++ codes ": ") c.in_ok-push_str.ensures.bytes (then_more front shown end name (codes ": ") c.in_ok-put_shown.ensures.ok c.in_ok-push_str-2.ensures.bytes)

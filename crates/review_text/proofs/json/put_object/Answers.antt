@@ -3,7 +3,7 @@ use Rattle.review_text.proofs.LineLaws.{said_float, object_put}
 use Rattle.review_text.proofs.Pieces.{on_ok}
 use Rattle.review_text.proofs.json.put_object.Goals as goal
 
-pub returns : goal.returns
-returns c =
-    on_ok c.put_all.result c.put_all.ensures
-    (λ h. object_put (λ m. (m.0.now, said_data m.1)) (λ m. said_float m.1) c.args.members.now _ _ _ _ c.in_ok-object_of.ensures c.in_ok-line.ensures.text (rw c.as_str.ensures.value at h))
+pub returns-clause-ok : goal.returns-clause-ok
+returns-clause-ok c =
+    on_ok c.put_all.result c.put_all.ensures.ok
+    (λ h. object_put (λ m. (m.0.now, said_data m.1)) (λ m. said_float m.1) c.args.members.now _ _ _ _ c.in_ok-object_of.ensures.ok c.in_ok-line.ensures.text (rw c.as_str.ensures.value at h))

@@ -4,6 +4,6 @@ use Rattle.review_text.proofs.NodeLaws.{scalar_filled}
 use Rattle.review_text.proofs.Pieces.{on_ok}
 use Rattle.review_text.proofs.text.put_scalar.Goals as goal
 
-pub returns : goal.returns
+pub returns-clause-ok : goal.returns-clause-ok
 unfolding core_tag
-returns c = on_ok c.spell_into.result c.spell_into.ensures.ok (λ h. scalar_filled c.args.room c.args.tag.now _ c.args.content.now _ _ _ _ refl c.long_front.ensures c.in_ok-put_tag.ensures h)
+returns-clause-ok c = on_ok c.spell_into.result c.spell_into.ensures.ok (λ h. scalar_filled c.args.room c.args.tag.now _ c.args.content.now _ _ _ _ refl c.long_front.ensures c.in_ok-put_tag.ensures.ok h)

@@ -13,5 +13,5 @@ returns-in_err-node_text-in-None c =
 pub returns-in_ok-node_text-in-None : goal.returns-in_ok-node_text-in-None
 unfolding unnamed_json
 returns-in_ok-node_text-in-None c =
-    let e = ap key_object (c.deref.ensures ∙ c.in_ok-node_text-in-None.ensures) ∙ sym c.in-None.ensures in
+    let e = ap key_object (c.deref.ensures ∙ c.in_ok-node_text-in-None.ensures.ok) ∙ sym c.in-None.ensures in
     on_ok c.put_key_object.result c.put_key_object.ensures (λ h. h ∙ ap (λ z. string_bytes c.args.out.now ++ z) e)
