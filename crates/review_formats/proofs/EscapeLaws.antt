@@ -1,5 +1,5 @@
 -- A text that is escaped character by character.
-use Rattle.std.proofs.Common.{◌≡◌, ◌<◌, ◌≤◌, ℕ, ◌/◌, ◌%◌, ◌||◌, Bool, true, false, cond, nat_lt, List, [], ◌∷◌, ◌++◌, length, get_or, refl, sym, ◌∙◌, ap, subst, arith}
+use Rattle.std.proofs.Common.{◌≡◌, ◌<◌, ◌≤◌, ℕ, ◌/◌, ◌%◌, ◌||◌, Bool, true, false, nat_lt, List, [], ◌∷◌, ◌++◌, get_or, refl, sym, ◌∙◌, ap, subst, arith}
 use Rattle.std.specs.List.{flat_map}
 use Rattle.std.specs.Char.{encode_utf8}
 use Rattle.std.specs.Str.{IsUtf8, chars, encode_utf8_all, NoCharPasses}
@@ -10,7 +10,7 @@ use Rattle.std.proofs.lemmas.Str.{chars_past_char, chars-nil, encodes-append, No
 use Rattle.yaml_definitions.specs.canonical.CharText.{hex_digit}
 use Rattle.review_formats.specs.declared.escape.Escape.{Escape}
 use Rattle.review_formats.specs.declared.escape.Escape.TheVariants.{Html, Markdown, Message, Property}
-use Rattle.review_formats.specs.Escaped.{is_plain, is_of_reference, is_markup, is_of_escape, reference, percent, escape_of, escaped_char, escaped, HasNoMarkup}
+use Rattle.review_formats.specs.Escaped.{is_plain, is_markup, is_of_escape, reference, percent, escape_of, escaped_char, escaped, HasNoMarkup}
 
 -- ---- what is written
 

@@ -1,2 +1,3 @@
 mod EscapeLaws
 mod PieceLaws
+mod SarifLaws

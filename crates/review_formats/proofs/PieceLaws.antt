@@ -1,12 +1,13 @@
 -- Pieces, one behind the other.
 use Rattle.std.proofs.Common.{◌≡◌, ℕ, ◌+◌, ◌<◌, ◌≤◌, List, ◌∷◌, ◌++◌, drop, length, get_or, sym, ◌∙◌, ap, add-one}
+use Rattle.std.specs.List.{flat_map}
 use Rattle.std.proofs.Math.Seq.{drop-cons}
 use Rattle.std.proofs.Math.ListN.{drop_of_length-le}
 use Rattle.std.proofs.lemmas.List.{append_assoc, append-nil}
 use Rattle.review_formats.specs.declared.piece.Piece.{Piece}
 use Rattle.review_formats.specs.Pieces.{piece_text, pieces_text}
 
-drop_next : {X : Type 0} (xs : List X) (i : ℕ) (d : X) → i < length xs → drop i xs ≡ get_or xs i d ∷ drop (i + 1) xs
+pub drop_next : {X : Type 0} (xs : List X) (i : ℕ) (d : X) → i < length xs → drop i xs ≡ get_or xs i d ∷ drop (i + 1) xs
 drop_next xs i d l = rw add-one (drop-cons xs i d l)
 
 -- one piece more is written
@@ -17,3 +18,24 @@ pieces_next ps i d o a whole l h e =
 
 pub pieces_all : (ps : List Piece) (i : ℕ) (o whole : List ℕ) → length ps ≤ i → o ++ pieces_text (drop i ps) ≡ whole → o ≡ whole
 pieces_all ps i o whole l h = sym (append-nil o) ∙ ap (λ z. o ++ pieces_text z) (sym (drop_of_length-le ps l)) ∙ h
+
+-- ---- lists, one behind the other, of which one more is written
+
+pub flat_next : {X Y : Type 0} (f : X → List Y) (xs : List X) (i : ℕ) (d : X) (o a whole : List Y) → i < length xs → o ++ flat_map f (drop i xs) ≡ whole → a ≡ o ++ f (get_or xs i d) → a ++ flat_map f (drop (i + 1) xs) ≡ whole
+flat_next f xs i d o a whole l h e =
+    let r = flat_map f (drop (i + 1) xs) in
+    ap (λ z. z ++ r) e ∙ append_assoc o (f (get_or xs i d)) r ∙ ap (λ z. o ++ flat_map f z) (sym (drop_next xs i d l)) ∙ h
+
+pub flat_all : {X Y : Type 0} (f : X → List Y) (xs : List X) (i : ℕ) (o whole : List Y) → length xs ≤ i → o ++ flat_map f (drop i xs) ≡ whole → o ≡ whole
+flat_all f xs i o whole l h = sym (append-nil o) ∙ ap (λ z. o ++ flat_map f z) (sym (drop_of_length-le xs l)) ∙ h
+
+-- ---- some texts, one behind the other
+
+pub two_put : (o a b e f : List ℕ) → a ≡ o ++ e → b ≡ a ++ f → b ≡ o ++ (e ++ f)
+two_put o a b e f h k = k ∙ ap (λ z. z ++ f) h ∙ append_assoc o e f
+
+pub three_put : (o a b c e f g : List ℕ) → a ≡ o ++ e → b ≡ a ++ f → c ≡ b ++ g → c ≡ o ++ (e ++ (f ++ g))
+three_put o a b c e f g h k l = two_put o a c e (f ++ g) h (two_put a b c f g k l)
+
+pub four_put : (o a b c d e f g i : List ℕ) → a ≡ o ++ e → b ≡ a ++ f → c ≡ b ++ g → d ≡ c ++ i → d ≡ o ++ (e ++ (f ++ (g ++ i)))
+four_put o a b c d e f g i h k l m = two_put o a d e (f ++ (g ++ i)) h (three_put a b c d f g i k l m)

@@ -1,5 +1,5 @@
 //! Texts of files in pages, tables and commands.
-ghost use Rattle.std.specs.Prelude.{◌≡◌, ◌<◌, ◌++◌, ◌||◌, string_bytes, OnOk};
+ghost use Rattle.std.specs.Prelude.{◌≡◌, ◌<◌, ◌++◌, ◌||◌, string_bytes, OnOk, IfErr};
 ghost use Rattle.std.specs.Str.{encode_utf8_all};
 ghost use Rattle.review_formats.specs.Escaped.{is_plain, is_of_reference, reference, percent, escape_of, escaped_char, escaped, HasNoMarkup};
 
@@ -74,7 +74,8 @@ impl Escape {
 /// Writes a reference to a character.
 fn put_reference(out: &mut String, code: u32) -> Result<(), Fault>
     requires { code < 256 }
-    ensures { OnOk result (string_bytes out.new ≡ string_bytes out.old ++ encode_utf8_all (reference code)) }
+    ensures ok { OnOk result (string_bytes out.new ≡ string_bytes out.old ++ encode_utf8_all (reference code)) }
+    ensures err { IfErr result (λ fault. fault ≡ Fault.OutOfMemory) }
 {
     out.push_str("&#x")?;
     out.push(char::from(hex_digit(code / 16)))?;
@@ -86,7 +87,8 @@ fn put_reference(out: &mut String, code: u32) -> Result<(), Fault>
 /// Writes a percent sign and the digits of a character.
 fn put_percent(out: &mut String, code: u32) -> Result<(), Fault>
     requires { code < 256 }
-    ensures { OnOk result (string_bytes out.new ≡ string_bytes out.old ++ encode_utf8_all (percent code)) }
+    ensures ok { OnOk result (string_bytes out.new ≡ string_bytes out.old ++ encode_utf8_all (percent code)) }
+    ensures err { IfErr result (λ fault. fault ≡ Fault.OutOfMemory) }
 {
     out.push('%')?;
     out.push(char::from(hex_digit(code / 16)))?;
@@ -97,7 +99,8 @@ fn put_percent(out: &mut String, code: u32) -> Result<(), Fault>
 /// Writes the escape of a character of ASCII.
 fn put_escape(out: &mut String, c: char, escape: Escape) -> Result<(), Fault>
     requires { c < 128 }
-    ensures { OnOk result (string_bytes out.new ≡ string_bytes out.old ++ encode_utf8_all (escape_of escape c)) }
+    ensures ok { OnOk result (string_bytes out.new ≡ string_bytes out.old ++ encode_utf8_all (escape_of escape c)) }
+    ensures err { IfErr result (λ fault. fault ≡ Fault.OutOfMemory) }
 {
     match escape {
         Escape::Html | Escape::Markdown => put_reference(out, u32::from(c)),
@@ -107,7 +110,8 @@ fn put_escape(out: &mut String, c: char, escape: Escape) -> Result<(), Fault>
 
 /// Writes a character, or its escape where it would be markup or part of an escape.
 fn put_char(out: &mut String, c: char, escape: Escape) -> Result<(), Fault>
-    ensures { OnOk result (string_bytes out.new ≡ string_bytes out.old ++ encode_utf8_all (escaped_char escape c)) }
+    ensures ok { OnOk result (string_bytes out.new ≡ string_bytes out.old ++ encode_utf8_all (escaped_char escape c)) }
+    ensures err { IfErr result (λ fault. fault ≡ Fault.OutOfMemory) }
 {
     if escape.escapes(c) {
         put_escape(out, c, escape)
@@ -122,6 +126,7 @@ fn put_char(out: &mut String, c: char, escape: Escape) -> Result<(), Fault>
 pub fn put_escaped(out: &mut String, text: &str, escape: Escape) -> Result<(), Fault>
     ensures told { OnOk result (string_bytes out.new ≡ string_bytes out.old ++ escaped escape text.now) }
     ensures clean { HasNoMarkup escape (escaped escape text.now) }
+    ensures err { IfErr result (λ fault. fault ≡ Fault.OutOfMemory) }
 {
     'chars: for c in text.chars() {
         put_char(out, c, escape)?;

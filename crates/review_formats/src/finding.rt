@@ -1,4 +1,7 @@
 //! What is found in files.
+ghost use Rattle.std.specs.Prelude.{◌≡◌, option_map, string_bytes};
+ghost use Rattle.review_formats.specs.Findings.{sign_word, sign_mark, sign_says, are_whole};
+
 use yaml_place::Place;
 
 /// How much something that is found matters.
@@ -23,7 +26,9 @@ pub enum Sign {
 
 impl Sign {
     /// What it is called.
-    pub fn word(self) -> &'static str {
+    pub fn word(self) -> &'static str
+        ensures { result.now ≡ sign_word self }
+    {
         match self {
             Sign::Changed => "changed",
             Sign::Left => "left",
@@ -33,7 +38,9 @@ impl Sign {
     }
 
     /// One character for it.
-    pub fn mark(self) -> &'static str {
+    pub fn mark(self) -> &'static str
+        ensures { result.now ≡ sign_mark self }
+    {
         match self {
             Sign::Changed => "~",
             Sign::Left => "-",
@@ -43,7 +50,9 @@ impl Sign {
     }
 
     /// What it says of the two sides.
-    pub fn says(self) -> &'static str {
+    pub fn says(self) -> &'static str
+        ensures { result.now ≡ sign_says self }
+    {
         match self {
             Sign::Changed => "changed",
             Sign::Left => "only on the left",
@@ -120,13 +129,17 @@ impl Findings {
     }
 
     /// Whether all that was found is listed.
-    pub(crate) fn is_whole(&self) -> bool {
+    pub(crate) fn is_whole(&self) -> bool
+        ensures { result ≡ are_whole self.now.parts.items }
+    {
         self.parts.iter().all(|part| part.whole)
     }
 }
 
 /// The text, if there is one.
-pub(crate) fn text_of(text: &Option<String>) -> Option<&str> {
+pub(crate) fn text_of(text: &Option<String>) -> Option<&str>
+    ensures { option_map (λ told. told.now) result ≡ option_map string_bytes text.now }
+{
     match text {
         Some(text) => Some(text.as_str()),
         None => None,

@@ -1,4 +1,6 @@
 //! One page of HTML.
+ghost use Rattle.std.specs.Prelude.{◌≡◌, IfErr};
+
 use crate::escape::Escape;
 use crate::finding::{Finding, Findings, Level, Part, Sides, Sign, text_of};
 use crate::lines::put_lines;
@@ -33,7 +35,9 @@ fn mark_of(finding: &Finding) -> &'static str {
 }
 
 /// Writes what a finding is called by: the path, or the file and the name of the fault.
-fn put_name(out: &mut String, finding: &Finding) -> Result<(), Fault> {
+fn put_name(out: &mut String, finding: &Finding) -> Result<(), Fault>
+    ensures err { IfErr result (λ fault. fault ≡ Fault.OutOfMemory) }
+{
     put_pieces(
         out,
         &[
@@ -67,7 +71,9 @@ fn put_name(out: &mut String, finding: &Finding) -> Result<(), Fault> {
 }
 
 /// Writes the link to a finding.
-fn put_link(out: &mut String, number: usize, finding: &Finding) -> Result<(), Fault> {
+fn put_link(out: &mut String, number: usize, finding: &Finding) -> Result<(), Fault>
+    ensures err { IfErr result (λ fault. fault ≡ Fault.OutOfMemory) }
+{
     put_pieces(
         out,
         &[
@@ -86,7 +92,9 @@ fn put_link(out: &mut String, number: usize, finding: &Finding) -> Result<(), Fa
 }
 
 /// Writes the name of the file that a part is of, if there are several.
-fn put_file(out: &mut String, part: &Part) -> Result<(), Fault> {
+fn put_file(out: &mut String, part: &Part) -> Result<(), Fault>
+    ensures err { IfErr result (λ fault. fault ≡ Fault.OutOfMemory) }
+{
     match &part.name {
         Some(name) => put_pieces(
             out,
@@ -101,7 +109,9 @@ fn put_file(out: &mut String, part: &Part) -> Result<(), Fault> {
 }
 
 /// Writes the links to all findings.
-fn put_links(out: &mut String, parts: &[Part]) -> Result<(), Fault> {
+fn put_links(out: &mut String, parts: &[Part]) -> Result<(), Fault>
+    ensures err { IfErr result (λ fault. fault ≡ Fault.OutOfMemory) }
+{
     let mut number: usize = 0;
     out.push_str("<nav aria-label=\"All that is found\">\n")?;
     for part in parts {
@@ -118,7 +128,9 @@ fn put_links(out: &mut String, parts: &[Part]) -> Result<(), Fault> {
 }
 
 /// Writes a place, as a link to its line.
-fn put_place(out: &mut String, side: Side, place: Option<Place>) -> Result<(), Fault> {
+fn put_place(out: &mut String, side: Side, place: Option<Place>) -> Result<(), Fault>
+    ensures err { IfErr result (λ fault. fault ≡ Fault.OutOfMemory) }
+{
     let Some(place) = place else {
         return Ok(());
     };
@@ -142,7 +154,9 @@ fn put_side(
     side: Side,
     place: Option<Place>,
     value: Option<&str>,
-) -> Result<(), Fault> {
+) -> Result<(), Fault>
+    ensures err { IfErr result (λ fault. fault ≡ Fault.OutOfMemory) }
+{
     let title = if side.is_left { "left" } else { "right" };
     put_pieces(
         out,
@@ -178,7 +192,9 @@ fn line_class(line: &str) -> &'static str {
 }
 
 /// Writes the changed lines of two strings.
-fn put_changes(out: &mut String, changes: &str) -> Result<(), Fault> {
+fn put_changes(out: &mut String, changes: &str) -> Result<(), Fault>
+    ensures err { IfErr result (λ fault. fault ≡ Fault.OutOfMemory) }
+{
     out.push_str("<pre class=\"changes\">")?;
     for line in changes.strip_suffix('\n').unwrap_or(changes).split('\n') {
         let shown = line.strip_prefix('\t').unwrap_or(line);
@@ -198,7 +214,9 @@ fn put_changes(out: &mut String, changes: &str) -> Result<(), Fault> {
 }
 
 /// Writes what both sides have, of a part of this number.
-fn put_sides(out: &mut String, sides: &Sides, part: usize) -> Result<(), Fault> {
+fn put_sides(out: &mut String, sides: &Sides, part: usize) -> Result<(), Fault>
+    ensures err { IfErr result (λ fault. fault ≡ Fault.OutOfMemory) }
+{
     let left = Side {
         is_left: true,
         part,
@@ -229,12 +247,9 @@ fn put_sides(out: &mut String, sides: &Sides, part: usize) -> Result<(), Fault> 
 }
 
 /// Writes a finding of a part of this number.
-fn put_finding(
-    out: &mut String,
-    number: usize,
-    finding: &Finding,
-    part: usize,
-) -> Result<(), Fault> {
+fn put_finding(out: &mut String, number: usize, finding: &Finding, part: usize) -> Result<(), Fault>
+    ensures err { IfErr result (λ fault. fault ≡ Fault.OutOfMemory) }
+{
     put_pieces(
         out,
         &[
@@ -258,7 +273,9 @@ fn put_finding(
 }
 
 /// Writes what is said of a fault or a warning, and its line.
-fn put_said(out: &mut String, finding: &Finding) -> Result<(), Fault> {
+fn put_said(out: &mut String, finding: &Finding) -> Result<(), Fault>
+    ensures err { IfErr result (λ fault. fault ≡ Fault.OutOfMemory) }
+{
     out.push_str("<p>")?;
     if let Some(path) = &finding.path {
         put_pieces(
@@ -277,7 +294,9 @@ fn put_said(out: &mut String, finding: &Finding) -> Result<(), Fault> {
 }
 
 /// Writes what the page is about, and how much is found.
-fn put_header(out: &mut String, found: &Findings) -> Result<(), Fault> {
+fn put_header(out: &mut String, found: &Findings) -> Result<(), Fault>
+    ensures err { IfErr result (λ fault. fault ≡ Fault.OutOfMemory) }
+{
     out.push_str("<header><h1>yamlreview ")?;
     out.push_str(found.command)?;
     out.push_str("</h1>\n")?;
@@ -320,7 +339,9 @@ fn put_files(
     part: &Part,
     number: usize,
     before: usize,
-) -> Result<(), Fault> {
+) -> Result<(), Fault>
+    ensures err { IfErr result (λ fault. fault ≡ Fault.OutOfMemory) }
+{
     let Some((left, right)) = &part.shown else {
         return Ok(());
     };
@@ -340,7 +361,9 @@ fn put_files(
 }
 
 /// Writes what is found in each part, and the lines of its files.
-fn put_parts(alloc: Global, out: &mut String, parts: &[Part]) -> Result<(), Fault> {
+fn put_parts(alloc: Global, out: &mut String, parts: &[Part]) -> Result<(), Fault>
+    ensures err { IfErr result (λ fault. fault ≡ Fault.OutOfMemory) }
+{
     let mut before: usize = 0;
     for (at, part) in parts.iter().enumerate() {
         let number = match part.name {
@@ -359,7 +382,9 @@ fn put_parts(alloc: Global, out: &mut String, parts: &[Part]) -> Result<(), Faul
 }
 
 /// What is found as one page, which asks for nothing else and runs no script, with the lines of the files around what differs.
-pub fn html_text(alloc: Global, found: &Findings) -> Result<String, Fault> {
+pub fn html_text(alloc: Global, found: &Findings) -> Result<String, Fault>
+    ensures err { IfErr result (λ fault. fault ≡ Fault.OutOfMemory) }
+{
     let mut out = String::new(alloc);
     out.push_str(HEAD)?;
     out.push_str(STYLE)?;

@@ -1,4 +1,6 @@
 //! The lines of a file, with links from those that differ.
+ghost use Rattle.std.specs.Prelude.{◌≡◌, IfErr};
+
 use crate::finding::{Finding, Shown};
 use crate::html::text;
 use crate::piece::{Piece, put_pieces};
@@ -32,7 +34,9 @@ fn marks_of(
     side: Side,
     list: &[Finding],
     before: usize,
-) -> Result<Vec<usize>, Fault> {
+) -> Result<Vec<usize>, Fault>
+    ensures err { IfErr result (λ fault. fault ≡ Fault.OutOfMemory) }
+{
     let mut marks = vec![in alloc; 0usize; lines]?;
     for (number, finding) in list.iter().enumerate() {
         let Some(place) = place_on(finding, side) else {
@@ -66,7 +70,9 @@ fn front(line: &str) -> &str {
 }
 
 /// Writes a line: its number, which leads to the first finding at it if there is one, and its text.
-fn put_line(out: &mut String, side: Side, at: usize, line: &str, mark: usize) -> Result<(), Fault> {
+fn put_line(out: &mut String, side: Side, at: usize, line: &str, mark: usize) -> Result<(), Fault>
+    ensures err { IfErr result (λ fault. fault ≡ Fault.OutOfMemory) }
+{
     let number = at.saturating_add(1);
     out.push_str(if mark > 0 {
         "<li class=\"marked\" id=\""
@@ -108,7 +114,9 @@ fn put_line(out: &mut String, side: Side, at: usize, line: &str, mark: usize) ->
 }
 
 /// The lines of a text.
-fn split_lines(alloc: Global, content: &str) -> Result<Vec<&str>, Fault> {
+fn split_lines(alloc: Global, content: &str) -> Result<Vec<&str>, Fault>
+    ensures err { IfErr result (λ fault. fault ≡ Fault.OutOfMemory) }
+{
     let mut lines = Vec::new(alloc);
     for line in content.strip_suffix('\n').unwrap_or(content).split('\n') {
         for part in line.strip_suffix('\r').unwrap_or(line).split('\r') {
@@ -126,7 +134,9 @@ pub(crate) fn put_lines(
     shown: &Shown,
     list: &[Finding],
     before: usize,
-) -> Result<(), Fault> {
+) -> Result<(), Fault>
+    ensures err { IfErr result (λ fault. fault ≡ Fault.OutOfMemory) }
+{
     let lines = split_lines(alloc, &shown.text)?;
     let marks = marks_of(alloc, lines.len(), side, list, before)?;
     let all = lines.len() <= FEW;

@@ -1,4 +1,6 @@
 //! Tables in Markdown.
+ghost use Rattle.std.specs.Prelude.{◌≡◌, IfErr};
+
 use crate::escape::Escape;
 use crate::finding::{Finding, Findings, Part, Sides, text_of};
 use crate::piece::{Piece, put_pieces};
@@ -12,7 +14,9 @@ fn text(text: &str) -> Piece<'_> {
 }
 
 /// Writes a text as code. At each `@` the code begins anew, so that no reader takes a name or an address from it.
-fn put_code(out: &mut String, code: &str) -> Result<(), Fault> {
+fn put_code(out: &mut String, code: &str) -> Result<(), Fault>
+    ensures err { IfErr result (λ fault. fault ≡ Fault.OutOfMemory) }
+{
     out.push_str("<code>")?;
     for (number, part) in code.split('@').enumerate() {
         if number > 0 {
@@ -25,7 +29,9 @@ fn put_code(out: &mut String, code: &str) -> Result<(), Fault> {
 }
 
 /// Writes a cell with code, if there is any.
-fn put_cell(out: &mut String, code: Option<&str>) -> Result<(), Fault> {
+fn put_cell(out: &mut String, code: Option<&str>) -> Result<(), Fault>
+    ensures err { IfErr result (λ fault. fault ≡ Fault.OutOfMemory) }
+{
     if let Some(code) = code {
         out.push_str(" ")?;
         put_code(out, code)?;
@@ -35,7 +41,9 @@ fn put_cell(out: &mut String, code: Option<&str>) -> Result<(), Fault> {
 }
 
 /// Writes a cell with a line and a column, if there are.
-fn put_place(out: &mut String, place: Option<Place>) -> Result<(), Fault> {
+fn put_place(out: &mut String, place: Option<Place>) -> Result<(), Fault>
+    ensures err { IfErr result (λ fault. fault ≡ Fault.OutOfMemory) }
+{
     match place {
         Some(place) => put_pieces(
             out,
@@ -52,7 +60,9 @@ fn put_place(out: &mut String, place: Option<Place>) -> Result<(), Fault> {
 }
 
 /// Writes the row of a difference.
-fn put_difference(out: &mut String, finding: &Finding, sides: &Sides) -> Result<(), Fault> {
+fn put_difference(out: &mut String, finding: &Finding, sides: &Sides) -> Result<(), Fault>
+    ensures err { IfErr result (λ fault. fault ≡ Fault.OutOfMemory) }
+{
     put_pieces(
         out,
         &[
@@ -71,7 +81,9 @@ fn put_difference(out: &mut String, finding: &Finding, sides: &Sides) -> Result<
 }
 
 /// Writes the row of a fault or a warning.
-fn put_row(out: &mut String, finding: &Finding) -> Result<(), Fault> {
+fn put_row(out: &mut String, finding: &Finding) -> Result<(), Fault>
+    ensures err { IfErr result (λ fault. fault ≡ Fault.OutOfMemory) }
+{
     out.push_str("|")?;
     put_cell(out, Some(finding.file.as_str()))?;
     put_place(out, finding.place)?;
@@ -86,7 +98,9 @@ fn put_row(out: &mut String, finding: &Finding) -> Result<(), Fault> {
 }
 
 /// Writes the changed lines of two strings below the table.
-fn put_changes(out: &mut String, finding: &Finding) -> Result<(), Fault> {
+fn put_changes(out: &mut String, finding: &Finding) -> Result<(), Fault>
+    ensures err { IfErr result (λ fault. fault ≡ Fault.OutOfMemory) }
+{
     let Some(sides) = &finding.sides else {
         return Ok(());
     };
@@ -110,7 +124,9 @@ fn put_changes(out: &mut String, finding: &Finding) -> Result<(), Fault> {
 }
 
 /// Writes what was compared.
-fn put_head(out: &mut String, found: &Findings) -> Result<(), Fault> {
+fn put_head(out: &mut String, found: &Findings) -> Result<(), Fault>
+    ensures err { IfErr result (λ fault. fault ≡ Fault.OutOfMemory) }
+{
     out.push_str("**yamlreview ")?;
     out.push_str(found.command)?;
     out.push_str("**")?;
@@ -137,7 +153,9 @@ fn head_of(sides: bool) -> &'static str {
 }
 
 /// Writes the rows of a part that have two sides, or those that have none, if there are such.
-fn put_table(out: &mut String, list: &[Finding], sides: bool) -> Result<(), Fault> {
+fn put_table(out: &mut String, list: &[Finding], sides: bool) -> Result<(), Fault>
+    ensures err { IfErr result (λ fault. fault ≡ Fault.OutOfMemory) }
+{
     if !list.iter().any(|finding| finding.sides.is_some() == sides) {
         return Ok(());
     }
@@ -153,7 +171,9 @@ fn put_table(out: &mut String, list: &[Finding], sides: bool) -> Result<(), Faul
 }
 
 /// Writes a part: the name of the file if there are several, a table, and changed lines below it.
-fn put_part(out: &mut String, part: &Part) -> Result<(), Fault> {
+fn put_part(out: &mut String, part: &Part) -> Result<(), Fault>
+    ensures err { IfErr result (λ fault. fault ≡ Fault.OutOfMemory) }
+{
     if let Some(name) = &part.name {
         out.push_str("\n")?;
         put_code(out, name)?;
@@ -168,7 +188,9 @@ fn put_part(out: &mut String, part: &Part) -> Result<(), Fault> {
 }
 
 /// What is found as tables in Markdown, each with changed lines below it.
-pub fn markdown_text(alloc: Global, found: &Findings) -> Result<String, Fault> {
+pub fn markdown_text(alloc: Global, found: &Findings) -> Result<String, Fault>
+    ensures err { IfErr result (λ fault. fault ≡ Fault.OutOfMemory) }
+{
     let mut out = String::new(alloc);
     put_head(&mut out, found)?;
     for part in &found.parts {

@@ -1,5 +1,5 @@
 //! Pieces of which a page is made.
-ghost use Rattle.std.specs.Prelude.{◌≡◌, ◌++◌, string_bytes, OnOk};
+ghost use Rattle.std.specs.Prelude.{◌≡◌, ◌++◌, string_bytes, OnOk, IfErr};
 ghost use Rattle.review_formats.specs.Pieces.{piece_text, pieces_text};
 
 use crate::escape::{Escape, put_escaped};
@@ -17,7 +17,8 @@ pub enum Piece<'p> {
 
 /// Writes a piece.
 fn put_piece(out: &mut String, piece: Piece<'_>) -> Result<(), Fault>
-    ensures { OnOk result (string_bytes out.new ≡ string_bytes out.old ++ piece_text piece.entry) }
+    ensures ok { OnOk result (string_bytes out.new ≡ string_bytes out.old ++ piece_text piece.entry) }
+    ensures err { IfErr result (λ fault. fault ≡ Fault.OutOfMemory) }
 {
     match piece {
         Piece::Raw(text) => {
@@ -34,7 +35,8 @@ fn put_piece(out: &mut String, piece: Piece<'_>) -> Result<(), Fault>
 
 /// Writes pieces, one behind the other.
 pub fn put_pieces(out: &mut String, pieces: &[Piece<'_>]) -> Result<(), Fault>
-    ensures { OnOk result (string_bytes out.new ≡ string_bytes out.old ++ pieces_text pieces.now) }
+    ensures ok { OnOk result (string_bytes out.new ≡ string_bytes out.old ++ pieces_text pieces.now) }
+    ensures err { IfErr result (λ fault. fault ≡ Fault.OutOfMemory) }
 {
     for piece in pieces {
         put_piece(out, *piece)?;

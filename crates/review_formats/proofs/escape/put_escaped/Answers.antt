@@ -9,7 +9,7 @@ chars-preserved c =
     let s = c.in-Some.ensures.steps.0 in
     record {
       utf8 = IsUtf8-past_char _ _ c.in-Some.c v.utf8 s;
-      put = escaped_next _ _ _ c.in-Some.c _ _ _ v.utf8 s v.put c.in_ok-put_char.ensures;
+      put = escaped_next _ _ _ c.in-Some.c _ _ _ v.utf8 s v.put c.in_ok-put_char.ensures.ok;
     }
 
 pub returns-clause-told : goal.returns-clause-told
