@@ -7,4 +7,5 @@ pub mod OctalLaws
 mod PathLaws
 pub mod Pieces
 mod ShownLaws
+mod TagLaws
 mod TerminalLaws

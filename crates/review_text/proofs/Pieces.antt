@@ -13,6 +13,9 @@ on_ok (Err e) h f = h
 pub then_more : (o x y p q : List ℕ) → x ≡ o ++ p → y ≡ x ++ q → y ≡ o ++ (p ++ q)
 then_more o x y p q e h = h ∙ ap (λ z. z ++ q) e ∙ append_assoc o p q
 
+pub five_put : (o s a b c d x1 x2 x3 x4 x5 : List ℕ) → x1 ≡ o ++ s → x2 ≡ x1 ++ a → x3 ≡ x2 ++ b → x4 ≡ x3 ++ c → x5 ≡ x4 ++ d → x5 ≡ o ++ (s ++ (a ++ (b ++ (c ++ d))))
+five_put o s a b c d x1 x2 x3 x4 x5 h1 h2 h3 h4 h5 = then_more o x1 x5 s _ h1 (then_more x1 x2 x5 a _ h2 (then_more x2 x3 x5 b _ h3 (then_more x3 x4 x5 c d h4 h5)))
+
 pub six_put : (o s a b c d e x1 x2 x3 x4 x5 x6 : List ℕ) → x1 ≡ o ++ s → x2 ≡ x1 ++ a → x3 ≡ x2 ++ b → x4 ≡ x3 ++ c → x5 ≡ x4 ++ d → x6 ≡ x5 ++ e → x6 ≡ o ++ (s ++ (a ++ (b ++ (c ++ (d ++ e)))))
 six_put o s a b c d e x1 x2 x3 x4 x5 x6 h1 h2 h3 h4 h5 h6 =
     then_more o x1 x6 s _ h1 (then_more x1 x2 x6 a _ h2 (then_more x2 x3 x6 b _ h3 (then_more x3 x4 x6 c _ h4 (then_more x4 x5 x6 d e h5 h6))))

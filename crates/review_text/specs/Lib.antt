@@ -4,5 +4,7 @@ pub mod NodeText
 pub mod Objects
 pub mod PathText
 pub mod Shown
+pub mod TagWords
 pub mod Terminal
+pub mod Window
 pub mod Yaml11

@@ -1,5 +1,5 @@
 -- What a plain text is in YAML 1.1, and where the core schema of YAML 1.2 (1.2.2, 10.3.2) reads it otherwise. The patterns are those by which PyYAML resolves a plain scalar, in its order: bool, float, int, merge, null, timestamp, value. Two things are otherwise: `y` and `n` are a bool too, as YAML 1.1 has it, and `<<` is a merge as a key alone. A pattern is in the line above its definition. A `[..]*` or `[..]+` takes as much as there is: what follows it begins with another byte.
-use Rattle.std.specs.Prelude.{◌≡◌, ◌==◌, ◌||◌, ◌&&◌, ◌+◌, ◌*◌, ◌-◌, ℕ, Bool, true, false, not, cond, if◌then◌else◌, List, [], ◌∷◌, codes, Option, Some, None, IfSome, bytes_eq, unwrap_or}
+use Rattle.std.specs.Prelude.{◌≡◌, ◌==◌, ◌||◌, ◌&&◌, ◌+◌, ◌*◌, ◌-◌, ℕ, Bool, true, false, not, cond, if◌then◌else◌, List, [], ◌∷◌, ◌++◌, take, codes, Option, Some, None, IfSome, bytes_eq, unwrap_or}
 use Rattle.std.specs.List.{list_all, list_any, ends_with}
 use Rattle.yaml_core.specs.declared.kind.PlainKind.{PlainKind}
 use Rattle.yaml_core.specs.declared.kind.PlainKind.TheVariants as plain
@@ -202,3 +202,13 @@ kind_words kinds.Str = codes "a string"
 kind_words kinds.Merge = codes "a merge"
 kind_words kinds.Timestamp = codes "a timestamp"
 kind_words kinds.Default = codes "a default value"
+
+-- the number without zeros at its end, and without a point there: the text up to a byte
+abbrev pub SaysShorter : List ℕ → List ℕ → Type 0
+SaysShorter text words = (n : ℕ) × (m : ℕ) × (words ≡ codes "a float, " ++ take m (take n text))
+
+-- What is said of a text that is warned of. Of an octal nothing is said here.
+abbrev pub SaysOlder : Older → List ℕ → List ℕ → Type 0
+SaysOlder (olders.Kinds here there) text words = words ≡ kind_words here ++ (codes " here, " ++ (kind_words there ++ codes " in YAML 1.1"))
+SaysOlder olders.Octal text words = Unit {0}
+SaysOlder olders.Shorter text words = SaysShorter text words

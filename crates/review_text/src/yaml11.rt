@@ -1,7 +1,7 @@
 //! What a plain text is in YAML 1.1, and where the core schema of YAML 1.2 (1.2.2, 10.3.2) reads it otherwise.
 
-ghost use Rattle.std.specs.Prelude.{◌≡◌, option_map};
-ghost use Rattle.review_text.specs.Yaml11.{after_one, all_of, some_of, behind_all, unsigned, octal, prefixed, is_bool_word, is_null_word, is_float_word, old_exponent, old_fraction, old_decimal, pointed, is_old_float, spaced, is_old_int, long_fraction, trailing_zero, old_kind, new_kind, are_same, older_of, IsTimedWarning, IsOlder};
+ghost use Rattle.std.specs.Prelude.{◌≡◌, ◌++◌, option_map, codes, string_bytes, IfOk, IfErr};
+ghost use Rattle.review_text.specs.Yaml11.{after_one, all_of, some_of, behind_all, unsigned, octal, prefixed, is_bool_word, is_null_word, is_float_word, old_exponent, old_fraction, old_decimal, pointed, is_old_float, spaced, is_old_int, long_fraction, trailing_zero, old_kind, new_kind, are_same, older_of, SaysShorter, IsTimedWarning, IsOlder};
 
 use crate::timed::read_timed;
 use std::alloc::Global;
@@ -55,31 +55,62 @@ pub enum Older {
     Shorter,
 }
 
+/// That an int is one of base 10, and of base 8 in YAML 1.1.
+fn bases(alloc: Global) -> Result<String, Fault>
+    ensures ok { IfOk result (λ s. string_bytes s ≡ codes "an int of base 10 here, of base 8 in YAML 1.1") }
+    ensures err { IfErr result (λ fault. fault ≡ Fault.OutOfMemory) }
+{
+    Ok("an int of base 10 here, of base 8 in YAML 1.1".to_string(alloc)?)
+}
+
+/// Which number a text is by base 10, and which by base 8.
+fn numbers(alloc: Global, text: &str) -> Result<String, Fault>
+    ensures err { IfErr result (λ fault. fault ≡ Fault.OutOfMemory) }
+{
+    match i128::from_str_radix(text, 10) {
+        Ok(here) => match i128::from_str_radix(text, 8) {
+            Ok(there) => {
+                Ok(format!(in alloc; "the int {here} here, the int {there} in YAML 1.1")?)
+            }
+            Err(_) => bases(alloc),
+        },
+        Err(_) => bases(alloc),
+    }
+}
+
+/// What is left of a float whose zeros at the end are lost.
+fn shorter(alloc: Global, text: &str) -> Result<String, Fault>
+    ensures ok { IfOk result (λ s. SaysShorter text.now (string_bytes s)) }
+    ensures err { IfErr result (λ fault. fault ≡ Fault.OutOfMemory) }
+{
+    let short = text.trim_end_matches('0').trim_end_matches('.');
+    Ok(format!(in alloc; "a float, {short}")?)
+}
+
+/// Which two kinds a text is of.
+fn both_kinds(alloc: Global, here: &str, there: &str) -> Result<String, Fault>
+    ensures ok { IfOk result (λ s. string_bytes s ≡ here.now ++ (codes " here, " ++ (there.now ++ codes " in YAML 1.1"))) }
+    ensures err { IfErr result (λ fault. fault ≡ Fault.OutOfMemory) }
+{
+    Ok(format!(in alloc; "{here} here, {there} in YAML 1.1")?)
+}
+
 impl Older {
+    ghost use Rattle.std.specs.Prelude.{◌≡◌, string_bytes, IfOk, IfErr};
+    ghost use Rattle.review_text.specs.Yaml11.{SaysOlder};
+
     /// What the warning says of a text.
     ///
     /// # Errors
     /// `OutOfMemory`
-    pub fn words(self, alloc: Global, text: &str) -> Result<String, Fault> {
+    pub fn words(self, alloc: Global, text: &str) -> Result<String, Fault>
+        ensures ok { IfOk result (λ s. SaysOlder self text.now (string_bytes s)) }
+        ensures err { IfErr result (λ fault. fault ≡ Fault.OutOfMemory) }
+    {
         match self {
-            Older::Kinds(here, there) => {
-                let (here, there) = (here.words(), there.words());
-                Ok(format!(in alloc; "{here} here, {there} in YAML 1.1")?)
-            }
-            Older::Octal => {
-                let here = i128::from_str_radix(text, 10);
-                let there = i128::from_str_radix(text, 8);
-                match (here, there) {
-                    (Ok(here), Ok(there)) => {
-                        Ok(format!(in alloc; "the int {here} here, the int {there} in YAML 1.1")?)
-                    }
-                    _ => Ok("an int of base 10 here, of base 8 in YAML 1.1".to_string(alloc)?),
-                }
-            }
-            Older::Shorter => {
-                let short = text.trim_end_matches('0').trim_end_matches('.');
-                Ok(format!(in alloc; "a float, {short}")?)
-            }
+            Older::Kinds(here, there) => both_kinds(alloc, here.words(), there.words()),
+            Older::Octal => numbers(alloc, text),
+            Older::Shorter => shorter(alloc, text),
         }
     }
 }

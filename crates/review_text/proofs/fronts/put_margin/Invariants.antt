@@ -1,0 +1,13 @@
+use Rattle.std.proofs.Common.{◌≡◌, ◌++◌}
+use Rattle.std.specs.Str.{IsUtf8}
+use Rattle.std.specs.String.{string_bytes}
+use Rattle.review_text.specs.Window.{margin}
+use Rattle.review_text.proofs.fronts.put_margin.Given as goal
+
+abbrev pub invariant-chars : goal.invariant-chars
+invariant-chars l =
+    let rest = l.c-iterator.rest.now in
+    record {
+      utf8 : IsUtf8 rest;
+      put : string_bytes l.out ++ margin rest ≡ string_bytes l.fn.out ++ margin l.text;
+    }
