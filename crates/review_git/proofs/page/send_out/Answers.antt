@@ -1,4 +1,4 @@
-use Rattle.yaml_command.proofs.PageLaws.{unflushed}
+use Rattle.review_git.proofs.PageLaws.{unflushed}
 use Rattle.review_git.proofs.page.send_out.Goals as goal
 
 pub returns-in-Err-clause-err : goal.returns-in-Err-clause-err
