@@ -1,3 +1,4 @@
 mod RejectionLaws
+mod GitLaws
 mod RunLaws
 mod MergeLaws

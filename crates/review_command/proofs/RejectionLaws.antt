@@ -15,9 +15,9 @@ use Rattle.review_files.specs.Told.{TellsUnread, TellsAnswer, TellsBoth, TellsNo
 use Rattle.review_files.specs.declared.rejected.Named.{Named}
 use Rattle.review_files.specs.declared.unread.Unread.{Unread}
 use Rattle.review_files.specs.declared.unread.Unread.TheVariants as unread
-use Rattle.review_command.specs.Diffs.{DiffTells}
-use Rattle.review_command.specs.Runs.{DiffEnds}
-use Rattle.review_command.specs.Rejections.{TellsRejected, Refuses, DiffRefuses, no_diff_status}
+use Rattle.review_command.specs.Diffs.{DiffTells, DiffShows}
+use Rattle.review_command.specs.Runs.{DiffEnds, PageEnds}
+use Rattle.review_command.specs.Rejections.{TellsRejected, Refuses, DiffRefuses, PageRefuses, no_diff_status}
 use Rattle.review_command.specs.declared.diff.NoDiff.{NoDiff}
 use Rattle.review_command.specs.declared.diff.NoDiff.TheVariants as no
 
@@ -86,3 +86,9 @@ pub diff_ends : {R W E : Type 0} (holds : List ℕ → Option (List ℕ)) (remai
     → DiffEnds holds remaining contents told asked ignored input old new status
 diff_ends holds remaining contents told asked ignored input old new (Ok s) status t r e f = inl (subst (DiffTells holds (remaining input) contents asked ignored old new) (sym e) t)
 diff_ends holds remaining contents told asked ignored input old new (Err none) status t r e f = inr (none, r, f)
+
+pub page_ends : {R W E : Type 0} (holds : List ℕ → Option (List ℕ)) (remaining : R → Option (List ℕ)) (contents : W → Option (List ℕ)) (told : E → Option (List ℕ)) (asked : Diff) (ignored : List Pattern) (input : R) (old new : Counted W) (answer : Result ℕ NoDiff) (status : ℕ)
+    → IfOk answer (DiffShows holds (remaining input) contents asked ignored old new) → IfErr answer (PageRefuses holds (remaining input) contents asked ignored old new) → IfOk answer (λ s. status ≡ s) → IfErr answer (λ none. status ≡ no_diff_status none)
+    → PageEnds holds remaining contents told asked ignored input old new status
+page_ends holds remaining contents told asked ignored input old new (Ok s) status t r e f = inl (subst (DiffShows holds (remaining input) contents asked ignored old new) (sym e) t)
+page_ends holds remaining contents told asked ignored input old new (Err none) status t r e f = inr (none, r, f)

@@ -1,3 +1,4 @@
 pub mod Diffs
+pub mod Gits
 pub mod Rejections
 pub mod Runs

@@ -7,8 +7,9 @@ use Rattle.review_args.specs.declared.words.Asked.TheVariants as asks
 use Rattle.review_args.specs.declared.words.Diff.{Diff}
 use Rattle.review_args.specs.declared.words.Report.{Report}
 use Rattle.review_patterns.specs.declared.pattern.Pattern.{Pattern}
-use Rattle.review_command.specs.Diffs.{DiffTells}
-use Rattle.review_command.specs.Rejections.{DiffRefuses, no_diff_status}
+use Rattle.review_command.specs.Diffs.{DiffTells, DiffShows}
+use Rattle.review_command.specs.Gits.{GitEnds}
+use Rattle.review_command.specs.Rejections.{DiffRefuses, PageRefuses, no_diff_status}
 use Rattle.review_command.specs.declared.diff.NoDiff.{NoDiff}
 use Rattle.review_args.specs.declared.words.Merge.{Merge}
 use Rattle.review_args.specs.declared.words.Sum.{Sum}
@@ -89,6 +90,27 @@ module _ {R W E : Type 0} (holds : List ℕ → Option (List ℕ)) (remaining : 
     pub no_write : faults_of old ≡ 0
     pub ends : DiffEnds asked ignored input old new status
 
+  -- the same of a page
+  abbrev pub PageEnds : Diff → List Pattern → R → Counted W → Counted W → ℕ → Type 0
+  PageEnds asked ignored input old new status =
+      DiffShows holds (remaining input) contents asked ignored old new status
+      ⊎ ((none : NoDiff) × PageRefuses holds (remaining input) contents asked ignored old new none × (status ≡ no_diff_status none))
+
+  pub record PageRuns (asked : Diff) (ignored : List Pattern) (input : R) (out : W) (status : ℕ) : Type 0 where
+    pub old : Counted W
+    pub new : Counted W
+    pub writer : inner_of old ≡ out
+    pub no_write : faults_of old ≡ 0
+    pub ends : PageEnds asked ignored input old new status
+
+  -- what git asks for is written
+  pub record GitRuns (words : List (List ℕ)) (out : W) (status : ℕ) : Type 0 where
+    pub old : Counted W
+    pub new : Counted W
+    pub writer : inner_of old ≡ out
+    pub no_write : faults_of old ≡ 0
+    pub ends : GitEnds holds contents words old new status
+
   -- It is said whether two changes can be merged, or whether a file is the merge. Else the status is 2 or more.
   pub record MergeRuns (asked : Merge) (input : R) (out : W) (status : ℕ) : Type 0 where
     pub names : Names
@@ -100,14 +122,15 @@ module _ {R W E : Type 0} (holds : List ℕ → Option (List ℕ)) (remaining : 
     pub no_write : faults_of old ≡ 0
     pub ends : MergeTells holds remaining contents names input end old new status ⊎ (2 ≤ status)
 
-  -- What `diff`, `faults`, `warn`, `show`, `sum` and `merge3` do; of the other commands nothing is said here.
+  -- What the commands do.
   abbrev pub Does : Asked → R → W → E → ℕ → Type 0
   Does (asks.Diff asked ignored) input out err status = DiffRuns asked ignored.items input out status
+  Does (asks.DiffPage page asked ignored) input out err status = PageRuns asked ignored.items input out status
   Does (asks.Faults asked) input out err status = ReportsTell Faults asked input out status
   Does (asks.Warn asked warn) input out err status = (kind : Kind) × AsksWarnings warn kind × ReportsTell kind asked input out status
   Does (asks.FaultsPage page asked) input out err status = PagesTell Faults asked input out status
   Does (asks.WarnPage page asked warn) input out err status = (kind : Kind) × AsksWarnings warn kind × PagesTell kind asked input out status
   Does (asks.Show asked) input out err status = ShowRuns asked input out err status
+  Does (asks.Git words) input out err status = GitRuns (map (λ s. s.now) words.items) out status
   Does (asks.Sum asked) input out err status = (is : SumAsked) × AsksSum asked is × SumRuns is input out err status
   Does (asks.Merge asked) input out err status = MergeRuns asked input out status
-  Does _ input out err status = Unit {0}

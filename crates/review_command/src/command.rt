@@ -1,12 +1,14 @@
 //! The commands.
-ghost use Rattle.std.specs.Prelude.{◌≡◌, IfOk, IfErr};
+ghost use Rattle.std.specs.Prelude.{◌≡◌, ◌<◌, ◌-◌, ◌^◌, map, IfOk, IfErr};
+ghost use Rattle.yaml_text.specs.CountedModel.{faults_of};
+ghost use Rattle.review_command.specs.Gits.{GitEnds};
 ghost use Rattle.review_command.specs.Rejections.{no_diff_status};
-ghost use Rattle.review_command.specs.Runs.{AsksSum, SumRuns, AsksMerge, Does};
+ghost use Rattle.review_command.specs.Runs.{DiffRuns, PageRuns, ReportsTell, PagesTell, MergeRuns, AsksSum, SumRuns, AsksMerge, Does};
 ghost use Rattle.review_merge.specs.Merges.{no_merge_status};
 
 use crate::diff::{NoDiff, diff, diff_page};
 use clap::Error;
-use review_args::{Asked, Diff, Merge, Page, Sum, in_order, read_keys, read_words};
+use review_args::{Asked, Diff, Merge, Page, Report, Sum, in_order, read_keys, read_words};
 use review_files::telling::{UNUSABLE, put_line, tell_bare, tell_unread, tell_usage};
 use review_files::unread::Unread;
 use review_folders::{Host, are_folders, folder_lines, folder_page, names_of};
@@ -41,17 +43,20 @@ fn git<S: Shelf, W: Write, E: Write>(
     shelf: &S,
     alloc: Global,
     words: &[&str],
-    out: &mut W,
+    out: &mut Counted<W>,
     err: &mut E,
-) -> u8 {
+) -> u8
+    requires { faults_of out.old < 2 ^ 64 - 1 }
+    ensures { GitEnds (S.holds shelf.now) W.contents (map (λ s. s.now) words.now) out.old out.new result }
+{
     let Some(asked) = git_asked(words) else {
         return tell_usage(GIT_WORDS, err);
     };
-    let written = match git_text(shelf, alloc, asked) {
-        Ok(text) => put_page(out, text.as_bytes()),
-        Err(fault) => Err(fault),
+    let text = match git_text(shelf, alloc, asked) {
+        Ok(text) => text,
+        Err(_) => return tell_bare(Fault::OutOfMemory, err),
     };
-    match written {
+    match put_page(out, text.as_bytes()) {
         Ok(()) => DONE,
         Err(fault) => tell_bare(fault, err),
     }
@@ -111,62 +116,133 @@ fn merge_status<E: Write>(answer: Result<u8, NoMerge>, err: &mut E) -> u8
     }
 }
 
+/// Compares two files, writes the lines of their differences, and answers the status.
+fn compare<S: Shelf, R: Read + Drop, W: Write + Drop, E: Write + Drop>(
+    shelf: &S,
+    alloc: Global,
+    asked: &Diff<'_>,
+    ignored: &[Pattern<'_>],
+    mut input: R,
+    out: W,
+    mut err: E,
+) -> u8
+    ensures { DiffRuns (S.holds shelf.now) R.remaining W.contents E.contents asked.now ignored.now input out result }
+{
+    let mut out = Counted::new(out);
+    let answer = diff(shelf, alloc, asked, ignored, &mut input, &mut out);
+    diff_status(answer, &mut err)
+}
+
+/// The same, of which the differences are written as a page.
+fn compare_as<S: Shelf, R: Read + Drop, W: Write + Drop, E: Write + Drop>(
+    shelf: &S,
+    alloc: Global,
+    told: (&Diff<'_>, Page),
+    ignored: &[Pattern<'_>],
+    mut input: R,
+    out: W,
+    mut err: E,
+) -> u8
+    ensures { PageRuns (S.holds shelf.now) R.remaining W.contents E.contents told.entry.0.now ignored.now input out result }
+{
+    let mut out = Counted::new(out);
+    let answer = diff_page(shelf, alloc, told, ignored, &mut input, &mut out);
+    diff_status(answer, &mut err)
+}
+
+/// Tells what is found in files, and answers the status.
+fn report<S: Shelf, R: Read + Drop, W: Write + Drop, E: Write + Drop>(
+    shelf: &S,
+    alloc: Global,
+    kind: Kind<'_>,
+    asked: &Report<'_>,
+    mut input: R,
+    out: W,
+    mut err: E,
+) -> u8
+    ensures { ReportsTell (S.holds shelf.now) R.remaining W.contents E.contents kind.entry asked.now input out result }
+{
+    let mut out = Counted::new(out);
+    reports(shelf, alloc, kind, asked, &mut input, &mut out, &mut err)
+}
+
+/// The same as a page.
+fn report_as<S: Shelf, R: Read + Drop, W: Write + Drop, E: Write + Drop>(
+    shelf: &S,
+    alloc: Global,
+    told: (Kind<'_>, Page),
+    asked: &Report<'_>,
+    mut input: R,
+    out: W,
+    mut err: E,
+) -> u8
+    ensures { PagesTell (S.holds shelf.now) R.remaining W.contents E.contents told.entry.0 asked.now input out result }
+{
+    let mut out = Counted::new(out);
+    pages(shelf, alloc, told, asked, &mut input, &mut out, &mut err)
+}
+
+/// Tells whether two changes can be merged, and answers the status.
+fn merge<S: Shelf, R: Read + Drop, W: Write + Drop, E: Write + Drop>(
+    shelf: &S,
+    alloc: Global,
+    asked: &Merge<'_>,
+    mut input: R,
+    out: W,
+    mut err: E,
+) -> u8
+    ensures { MergeRuns (S.holds shelf.now) R.remaining W.contents E.contents asked.now input out result }
+{
+    let names = merge_names(asked);
+    let mut out = Counted::new(out);
+    let answer = merge3(
+        shelf,
+        alloc,
+        &names,
+        merge_print(asked),
+        &mut input,
+        &mut out,
+    );
+    merge_status(answer, &mut err)
+}
+
 /// Does what is asked, and answers the status.
 fn run<S: Shelf, R: Read + Drop, W: Write + Drop, E: Write + Drop>(
     shelf: &S,
     alloc: Global,
     asked: Asked<'_>,
     mut input: R,
-    mut out: W,
+    out: W,
     mut err: E,
 ) -> u8
     ensures { Does (S.holds shelf.now) R.remaining W.contents E.contents asked.entry input out err result }
 {
     match asked {
-        Asked::Diff(asked, ignored) => {
-            let mut out = Counted::new(out);
-            let answer = diff(shelf, alloc, &asked, &ignored, &mut input, &mut out);
-            diff_status(answer, &mut err)
-        }
+        Asked::Diff(asked, ignored) => compare(shelf, alloc, &asked, &ignored, input, out, err),
         Asked::DiffPage(page, asked, ignored) => {
-            let mut out = Counted::new(out);
-            let drawn = (&asked, page);
-            let answer = diff_page(shelf, alloc, drawn, &ignored, &mut input, &mut out);
-            diff_status(answer, &mut err)
+            compare_as(shelf, alloc, (&asked, page), &ignored, input, out, err)
         }
+        Asked::Faults(asked) => report(shelf, alloc, Kind::Faults, &asked, input, out, err),
         Asked::FaultsPage(page, asked) => {
-            let mut out = Counted::new(out);
-            let told = (Kind::Faults, page);
-            pages(shelf, alloc, told, &asked, &mut input, &mut out, &mut err)
-        }
-        Asked::WarnPage(page, asked, warn) => {
-            let mut out = Counted::new(out);
-            let told = (Kind::Warnings(&warn), page);
-            pages(shelf, alloc, told, &asked, &mut input, &mut out, &mut err)
-        }
-        Asked::Faults(asked) => {
-            let mut out = Counted::new(out);
-            let kind = Kind::Faults;
-            reports(shelf, alloc, kind, &asked, &mut input, &mut out, &mut err)
+            report_as(shelf, alloc, (Kind::Faults, page), &asked, input, out, err)
         }
         Asked::Warn(asked, warn) => {
-            let mut out = Counted::new(out);
-            let kind = Kind::Warnings(&warn);
-            reports(shelf, alloc, kind, &asked, &mut input, &mut out, &mut err)
+            report(shelf, alloc, Kind::Warnings(&warn), &asked, input, out, err)
+        }
+        Asked::WarnPage(page, asked, warn) => {
+            let told = (Kind::Warnings(&warn), page);
+            report_as(shelf, alloc, told, &asked, input, out, err)
         }
         Asked::Show(asked) => {
             let mut out = Counted::new(out);
             show_files(shelf, alloc, &asked, &mut input, &mut out, &mut err)
         }
-        Asked::Git(words) => git(shelf, alloc, &words, &mut out, &mut err),
-        Asked::Sum(asked) => sum(shelf, alloc, sum_asked(&asked), input, out, err),
-        Asked::Merge(asked) => {
-            let names = merge_names(&asked);
+        Asked::Git(words) => {
             let mut out = Counted::new(out);
-            let print = merge_print(&asked);
-            let answer = merge3(shelf, alloc, &names, print, &mut input, &mut out);
-            merge_status(answer, &mut err)
+            git(shelf, alloc, &words, &mut out, &mut err)
         }
+        Asked::Sum(asked) => sum(shelf, alloc, sum_asked(&asked), input, out, err),
+        Asked::Merge(asked) => merge(shelf, alloc, &asked, input, out, err),
     }
 }
 

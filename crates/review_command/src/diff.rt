@@ -3,7 +3,7 @@ ghost use Rattle.std.specs.Prelude.{◌≡◌, ◌<◌, ◌-◌, ◌^◌, ℕ, L
 ghost use Rattle.yaml_text.specs.CountedModel.{faults_of};
 ghost use Rattle.review_files.specs.Named.{AreNamed, AreNotBoth};
 ghost use Rattle.review_command.specs.Diffs.{DiffTells, DiffShows};
-ghost use Rattle.review_command.specs.Rejections.{Refuses, DiffRefuses};
+ghost use Rattle.review_command.specs.Rejections.{Refuses, DiffRefuses, PageRefuses};
 ghost use Rattle.review_command.specs.declared.diff.NoDiff.TheVariants.{Fault as NoText};
 ghost use Rattle.yaml_text.specs.declared.fault.Fault.TheVariants.{OutOfMemory};
 
@@ -155,6 +155,7 @@ pub fn diff_page<S: Shelf, R: Read, W: Write>(
 ) -> Result<u8, NoDiff>
     requires { faults_of out.old < 2 ^ 64 - 1 }
     ensures shows { IfOk result (DiffShows (S.holds shelf.now) (R.remaining input.old) W.contents told.entry.0.now ignored.now out.old out.new) }
+    ensures refuses { IfErr result (PageRefuses (S.holds shelf.now) (R.remaining input.old) W.contents told.entry.0.now ignored.now out.old out.new) }
 {
     let (asked, page) = told;
     let (left, right) = match read_both(shelf, alloc, asked.left, asked.right, input) {
@@ -167,7 +168,7 @@ pub fn diff_page<S: Shelf, R: Read, W: Write>(
     };
     let text = match listed_text(alloc, asked, page, &listed, &left, &right) {
         Ok(text) => text,
-        Err(fault) => return Err(NoDiff::Fault(fault)),
+        Err(_) => return Err(NoDiff::Fault(Fault::OutOfMemory)),
     };
     match write_out(out, text.as_bytes()) {
         Ok(()) => Ok(status_of(listed.same)),
