@@ -1,5 +1,4 @@
-use Rattle.std.proofs.Common.{Bor, refl, sym, subst}
-use Rattle.review_args.specs.declared.words.Warn.{Warn}
+use Rattle.std.proofs.Common.{refl, sym, subst}
 use Rattle.review_command.specs.Runs.{Does}
 use Rattle.review_command.proofs.RunLaws.{warns, warns_page}
 use Rattle.review_command.proofs.command.run.Goals as goal
@@ -26,15 +25,13 @@ returns-in-FaultsPage g c =
 
 pub returns-in-Warn : goal.returns-in-Warn
 returns-in-Warn g c =
-    let w : Bor Warn = record { ref_ptr = (0, 0); now = c.in-Warn.warn } in
     subst (λ z. Does (g.S.Shelf.holds c.args.shelf.now) g.R.Read.remaining g.W.Write.contents g.E.Write.contents z c.args.input c.args.out c.args.err c.report-in-Warn.result) (sym c.in-Warn.is)
-    (warns (g.S.Shelf.holds c.args.shelf.now) g.R.Read.remaining g.W.Write.contents g.E.Write.contents c.in-Warn.asked c.in-Warn.warn w c.args.input c.args.out c.report-in-Warn.result refl c.report-in-Warn.ensures)
+    (warns (g.S.Shelf.holds c.args.shelf.now) g.R.Read.remaining g.W.Write.contents g.E.Write.contents c.in-Warn.asked c.in-Warn.warn _ c.args.input c.args.out c.report-in-Warn.result refl c.report-in-Warn.ensures)
 
 pub returns-in-WarnPage : goal.returns-in-WarnPage
 returns-in-WarnPage g c =
-    let w : Bor Warn = record { ref_ptr = (0, 0); now = c.in-WarnPage.warn } in
     subst (λ z. Does (g.S.Shelf.holds c.args.shelf.now) g.R.Read.remaining g.W.Write.contents g.E.Write.contents z c.args.input c.args.out c.args.err c.report_as-in-WarnPage.result) (sym c.in-WarnPage.is)
-    (warns_page (g.S.Shelf.holds c.args.shelf.now) g.R.Read.remaining g.W.Write.contents g.E.Write.contents c.in-WarnPage.asked c.in-WarnPage.warn w c.args.input c.args.out c.report_as-in-WarnPage.result refl c.report_as-in-WarnPage.ensures)
+    (warns_page (g.S.Shelf.holds c.args.shelf.now) g.R.Read.remaining g.W.Write.contents g.E.Write.contents c.in-WarnPage.asked c.in-WarnPage.warn _ c.args.input c.args.out c.report_as-in-WarnPage.result refl c.report_as-in-WarnPage.ensures)
 
 pub returns-in-Show : goal.returns-in-Show
 returns-in-Show g c =
