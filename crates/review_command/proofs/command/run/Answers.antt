@@ -38,11 +38,11 @@ returns-in-Show g c =
     subst (λ z. Does (g.S.Shelf.holds c.args.shelf.now) g.R.Read.remaining g.W.Write.contents g.E.Write.contents z c.args.input c.args.out c.args.err c.show_files.result) (sym c.in-Show.is)
     (record {
       end = c.show_files.new.input;
-      old = c.new-out-in-Show.result;
+      old = c.new-out.result;
       new = c.show_files.new.out;
       after = c.show_files.new.err;
-      writer = c.new-out-in-Show.ensures.inner;
-      no_write = c.new-out-in-Show.ensures.faults;
+      writer = c.new-out.ensures.inner;
+      no_write = c.new-out.ensures.faults;
       shows = c.show_files.ensures.shows;
     })
 
