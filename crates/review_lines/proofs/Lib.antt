@@ -4,3 +4,4 @@ mod ListLaws
 mod SameLaws
 mod SideLaws
 mod StringLaws
+pub mod MoveLaws
