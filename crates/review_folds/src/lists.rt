@@ -72,13 +72,11 @@ impl Numbers {
     fn number(&self, path: &[Step]) -> Option<usize>
         ensures { result ≡ number_of (below_of ⟦<Key as Ord>⟧.cmp self.now.below) path.now }
     {
-        match path.split_first() {
-            Some((step, rest)) => {
-                let above = self.number(rest)?;
-                self.below(above, *step)
-            }
-            None => Some(0),
-        }
+        let Some((step, rest)) = path.split_first() else {
+            return Some(0);
+        };
+        let above = self.number(rest)?;
+        self.below(above, *step)
     }
 }
 
@@ -115,13 +113,12 @@ fn note(numbers: &Numbers, spans: &mut Vec<Span>, path: &[Step], number: usize) 
     ensures wider { IsWider spans.old.items spans.new.items }
     ensures notes { Notes (below_of ⟦<Key as Ord>⟧.cmp numbers.now.below) path.now number spans.new.items }
 {
-    let list = match path.split_first() {
-        Some((step, rest)) => {
-            let above = note(numbers, spans, rest, number)?;
-            numbers.below(above, *step)?
-        }
-        None => 0,
+    let Some((step, rest)) = path.split_first() else {
+        widen(spans, 0, number);
+        return Some(0);
     };
+    let above = note(numbers, spans, rest, number)?;
+    let list = numbers.below(above, *step)?;
     widen(spans, list, number);
     Some(list)
 }

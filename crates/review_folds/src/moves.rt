@@ -94,7 +94,22 @@ fn whole_end(lists: &Lists, found: &Found, first: usize) -> Option<usize>
     }
 }
 
+/// The end of the moves of neighbours that moved together, if ranges are told, or else of this one alone.
+fn range_or_one(ranges: bool, moves: &[Move], first: usize) -> usize
+    requires { first < length moves.now }
+    ensures some { first < result }
+    ensures within { result ≤ length moves.now }
+    ensures range { IsRange moves.now first result }
+    ensures told { suc first < result → ranges ≡ true }
+{
+    if ranges {
+        return range_end(moves, first);
+    }
+    first + 1
+}
+
 /// The moves that one line tells, from this one on.
+#[tactic(auto, using(crate::proofs::MoveLaws::tells_whole, crate::proofs::MoveLaws::tells_range))]
 fn group_at(ranges: bool, lists: &Lists, found: &Found, first: usize) -> Group
     requires lists { Covers ⟦<Key as Ord>⟧.cmp found.now lists.now }
     requires within { first < length found.now.moves.items }
@@ -103,22 +118,20 @@ fn group_at(ranges: bool, lists: &Lists, found: &Found, first: usize) -> Group
     ensures within { result.end ≤ length found.now.moves.items }
     ensures tells { Tells true ranges found.now result.whole first result.end }
 {
-    let end = if ranges {
-        range_end(&found.moves, first)
-    } else {
-        first + 1
-    };
-    match whole_end(lists, found, first) {
-        Some(all) if end < all => Group {
-            first,
-            end: all,
-            whole: true,
-        },
-        _ => Group {
-            first,
-            end,
-            whole: false,
-        },
+    let end = range_or_one(ranges, &found.moves, first);
+    if let Some(all) = whole_end(lists, found, first) {
+        if end < all {
+            return Group {
+                first,
+                end: all,
+                whole: true,
+            };
+        }
+    }
+    Group {
+        first,
+        end,
+        whole: false,
     }
 }
 
