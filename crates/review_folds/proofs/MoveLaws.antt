@@ -1,8 +1,7 @@
 -- Groups of moves, one move or group after another.
 use Rattle.std.proofs.Common.{◌≡◌, ℕ, zero, suc, ◌+◌, ◌-◌, ◌<◌, ◌≤◌, ◌&&◌, Bool, true, false, ◌⊎◌, inl, inr, List, [], ◌∷◌, ◌++◌, length, get_or, refl, sym, ◌∙◌, ap, subst, arith}
-use Rattle.std.specs.Prelude.{Some, None}
+use Rattle.std.specs.Prelude.{Option, Some, None, IfSome}
 use Rattle.std.specs.List.{slice_get}
-use Rattle.std.proofs.lemmas.Option.{slice_get-get_or}
 use Rattle.yaml_path.specs.declared.places.Places.{Places}
 use Rattle.yaml_path.specs.declared.places.Places.TheVariants.{Both, Left, Right}
 use Rattle.yaml_diff.specs.declared.difference.Step.{Step}
@@ -10,16 +9,10 @@ use Rattle.yaml_diff.specs.declared.difference.Difference.{Difference}
 use Rattle.yaml_diff.specs.declared.difference.Move.{Move}
 use Rattle.yaml_diff.specs.declared.difference.Found.{Found}
 use Rattle.review_folds.specs.Lists.{IsBelow, IsSpan}
-use Rattle.review_folds.specs.Moves.{places_up, IsRange, OfOneList, IsWhole, Tells, Groups}
+use Rattle.review_folds.specs.Moves.{places_up, IsRange, OfOneList, IsSpanOf, IsWhole, Tells, Groups}
 use Rattle.review_folds.specs.declared.lists.Span.{Span}
+use Rattle.review_folds.proofs.ListLaws.{at_index, near, some-is}
 use Rattle.review_folds.specs.declared.moves.Group.{Group}
-
-some-is : {X : Type 0} {x y : X} → Some x ≡ Some y → x ≡ y
-some-is e = cc
-
--- the element that is read at an index
-pub at_index : {X : Type 0} (xs : List X) (k : ℕ) (x : X) → k < length xs → x ≡ get_or xs k x → slice_get xs k ≡ Some x
-at_index xs k x l e = slice_get-get_or xs k x l ∙ ap Some (sym e)
 
 -- ---- neighbours
 
@@ -55,12 +48,6 @@ range_more moves first next p q l hp hq path places r n a b m h k = by (next - 1
           let u : n ≡ i + 1 = omega (arith, e, l, c) in
           (ap (λ z. z.path.items) is ∙ path ∙ before.0, ap (λ z. z.places) is ∙ places ∙ ap (places_up 1) before.1 ∙ up-more i n a.places u)
     ]
-      where
-        near : (x y : ℕ) → x < y + 1 → (x < y) ⊎ (x ≡ y)
-        near zero zero g = inr refl
-        near zero (suc y) g = inl (omega arith)
-        near (suc x) zero g = absurd (omega (arith, g))
-        near (suc x) (suc y) g = elim (near x y (omega (arith, g))) [ inl f ↦ inl (omega (arith, f)) | inr f ↦ inr (ap suc f) ]
 
 -- ---- moves of one list
 
@@ -75,28 +62,29 @@ one_more moves first number p q hp hq e o k a b l m h g = elim (near k number m)
       let y : b ≡ q = some-is (sym g ∙ ap (slice_get moves) c ∙ hq) in
       ap (λ z. z.path.items) y ∙ e ∙ ap (λ z. z.path.items) (sym x)
 ]
-  where
-    near : (x y : ℕ) → x < y + 1 → (x < y) ⊎ (x ≡ y)
-    near zero zero g = inr refl
-    near zero (suc y) g = inl (omega arith)
-    near (suc x) zero g = absurd (omega (arith, g))
-    near (suc x) (suc y) g = elim (near x y (omega (arith, g))) [ inl f ↦ inl (omega (arith, f)) | inr f ↦ inr (ap suc f) ]
+
+-- the span of the list of a move that is read
+pub span_moved : (f : Found) (path : List Step) (first : ℕ) (x : Move) (r : Option Span) → first < length f.moves.items → x ≡ get_or f.moves.items first x → path ≡ x.path.items → IfSome r (IsSpan f path) → IfSome r (IsSpanOf f first)
+span_moved f path first x None l e p h = tt
+span_moved f path first x (Some s) l e p h = λ a q.
+    let same : x ≡ a = some-is (sym (at_index f.moves.items first x l e) ∙ q) in
+    subst (λ z. IsSpan f z s) (p ∙ ap (λ z. z.path.items) same) h
 
 -- all that is at or below a list are these moves
-pub whole_is : (f : Found) (first end : ℕ) (a : Move) (s : Span) → slice_get f.moves.items first ≡ Some a → IsSpan f a.path.items s → f.whole ≡ true → s.first ≡ first → first < s.last → s.last < length f.moves.items → end ≡ s.last + 1 → OfOneList f.moves.items first end → IsWhole f first end
-whole_is f first end a s at span w front several last e one = record {
+pub whole_is : (f : Found) (first end : ℕ) (s : Span) → IsSpanOf f first s → f.whole ≡ true → s.first ≡ first → first < s.last → s.last < length f.moves.items → end ≡ s.last + 1 → OfOneList f.moves.items first end → IsWhole f first end
+whole_is f first end s span w front several last e one = record {
   all = w;
   several = omega (arith, several, e);
   one = one;
-  alone = λ k b c g h below.
-    let same : b ≡ a = some-is (sym g ∙ at) in
-    let in-span = span.moves k c h (subst (λ z. IsBelow c.path.items z.path.items) same below) in
-    (omega (arith, in-span.0, front), omega (arith, in-span.1, e));
-  calm = λ k b d g h below.
-    let same : b ≡ a = some-is (sym g ∙ at) in
-    let behind = span.differences k d h (subst (λ z. IsBelow d.path.items z.path.items) same below) in
-    omega (arith, behind, last);
+  alone = λ k a b g h below. let in-span = (span a g).moves k b h below in (omega (arith, in-span.0, front), omega (arith, in-span.1, e));
+  calm = λ k a d g h below. let behind = (span a g).differences k d h below in omega (arith, behind, last);
 }
+
+pub range_at : (xs ys : List Move) (first end : ℕ) → xs ≡ ys → IsRange xs first end → IsRange ys first end
+range_at xs ys first end e h = subst (λ z. IsRange z first end) e h
+
+pub one_at : (xs ys : List Move) (first end : ℕ) → xs ≡ ys → OfOneList xs first end → OfOneList ys first end
+one_at xs ys first end e h = subst (λ z. OfOneList z first end) e h
 
 -- ---- groups
 
@@ -110,5 +98,5 @@ pub groups_more : (folds ranges : Bool) (f : Found) (from mid : ℕ) (gs new : L
 groups_more folds ranges f from mid gs new g h e l t q = subst (Groups folds ranges f from g.end) (sym q) (more from gs h)
   where
     more : (at : ℕ) (xs : List Group) → Groups folds ranges f at mid xs → Groups folds ranges f at g.end (xs ++ (g ∷ []))
-    more at [] i = (e ∙ sym i, (l, (t, refl)))
-    more at (x ∷ xs) i = (i.0, (i.1.0, (i.1.1.0, more x.end xs i.1.1.1)))
+    more at [] i = (e ∙ sym i, l, t, refl)
+    more at (x ∷ xs) i = (i.0, i.1, i.2, more x.end xs i.3)

@@ -46,8 +46,8 @@ abbrev pub HasNumber : List Span → ℕ → ℕ → Type 0
 HasNumber spans n k = (t : Span) → slice_get spans n ≡ Some t → (t.first ≤ k) × (k ≤ t.last)
 
 -- the spans of all lists at or above the end of a path have the number
-abbrev pub Notes : (ℕ → Step → Option ℕ) → List Step → ℕ → List Span → Type 0
-Notes below path k spans = (list : List Step) (n : ℕ) → IsBelow path list → number_of below list ≡ Some n → HasNumber spans n k
+pub record Notes (below : ℕ → Step → Option ℕ) (path : List Step) (k : ℕ) (spans : List Span) : Type 0 where
+  pub all : (list : List Step) (n : ℕ) → IsBelow path list → number_of below list ≡ Some n → HasNumber spans n k
 
 -- the same of moves, each with its own number
 abbrev pub NotesMoves : (ℕ → Step → Option ℕ) → List Move → List Span → Type 0

@@ -7,7 +7,8 @@ use Rattle.yaml_diff.specs.declared.difference.Step.{Step}
 use Rattle.yaml_diff.specs.declared.difference.Difference.{Difference}
 use Rattle.yaml_diff.specs.declared.difference.Move.{Move}
 use Rattle.yaml_diff.specs.declared.difference.Found.{Found}
-use Rattle.review_folds.specs.Lists.{IsBelow}
+use Rattle.review_folds.specs.Lists.{IsBelow, IsSpan}
+use Rattle.review_folds.specs.declared.lists.Span.{Span}
 use Rattle.review_folds.specs.declared.moves.Group.{Group}
 
 -- places of items so many behind
@@ -23,6 +24,10 @@ IsRange moves first end = (n : ℕ) (a b : Move) → first + n < end → slice_g
 -- the moves from the first one to the one before the end are of one list
 abbrev pub OfOneList : List Move → ℕ → ℕ → Type 0
 OfOneList moves first end = (k : ℕ) (a b : Move) → first ≤ k → k < end → slice_get moves first ≡ Some a → slice_get moves k ≡ Some b → b.path.items ≡ a.path.items
+
+-- the span is that of the list of this move
+abbrev pub IsSpanOf : Found → ℕ → Span → Type 0
+IsSpanOf f first s = (a : Move) → slice_get f.moves.items first ≡ Some a → IsSpan f a.path.items s
 
 -- All moves are known. Those from the first one to the one before the end are all of one list; there are several, no other move is of this list or of one below it, and no difference is at or below it. So only the order of the list changed.
 pub record IsWhole (f : Found) (first end : ℕ) : Type 0 where

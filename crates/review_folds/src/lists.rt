@@ -1,5 +1,6 @@
 //! The lists of which several items moved, and which differences and moves are at or below each of them.
 ghost use Rattle.std.specs.Prelude.{◌≡◌, true};
+ghost use Rattle.std.specs.List.{slice_get};
 ghost use Rattle.review_folds.specs.Lists.{key_of, below_of, number_of, IsWider, HasNumber, Notes, NotesMoves, NotesDifferences};
 
 use std::alloc::Global;
@@ -108,6 +109,7 @@ fn widen(spans: &mut Vec<Span>, list: usize, number: usize)
 }
 
 /// Widens the spans of all lists at or above the end of a path up to this number, and tells the number of the path, if it has one.
+#[tactic(auto, using(crate::proofs::ListLaws::notes_none, crate::proofs::ListLaws::notes_past, crate::proofs::ListLaws::wider_same, crate::proofs::ListLaws::wider_twice))]
 fn note(numbers: &Numbers, spans: &mut Vec<Span>, path: &[Step], number: usize) -> Option<usize>
     ensures at { result ≡ number_of (below_of ⟦<Key as Ord>⟧.cmp numbers.now.below) path.now }
     ensures wider { IsWider spans.old.items spans.new.items }
@@ -183,6 +185,13 @@ fn numbers_of(alloc: Global, moves: &[Move]) -> Result<Numbers, Fault> {
     Ok(numbers)
 }
 
+/// The span of this number, if there is one.
+fn span_at(spans: &[Span], number: usize) -> Option<Span>
+    ensures { result ≡ slice_get spans.now number }
+{
+    spans.get(number).copied()
+}
+
 /// Lists by numbers, and the span of what is at or below each of them.
 #[derive(Drop)]
 pub(crate) struct Lists {
@@ -211,6 +220,6 @@ impl Lists {
         ensures { IfSome result (IsSpan found.now path.now) }
     {
         let number = self.numbers.number(path)?;
-        self.spans.get(number).copied()
+        span_at(&self.spans, number)
     }
 }

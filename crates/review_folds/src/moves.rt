@@ -1,9 +1,9 @@
 //! Which moves one line tells: of neighbours that moved together, or of a list of which only the order changed.
-ghost use Rattle.std.specs.Prelude.{◌≡◌, ◌<◌, ◌≤◌, suc, true, length, IfOk, IfSome};
+ghost use Rattle.std.specs.Prelude.{◌≡◌, ◌<◌, ◌≤◌, suc, true, false, length, IfOk, IfSome};
 ghost use Rattle.review_folds.specs.Lists.{Covers};
-ghost use Rattle.review_folds.specs.Moves.{places_up, IsRange, OfOneList, IsWhole, Tells, Groups};
+ghost use Rattle.review_folds.specs.Moves.{places_up, IsRange, OfOneList, IsSpanOf, IsWhole, Tells, Groups};
 
-use crate::lists::{Key, Lists, are_same};
+use crate::lists::{Key, Lists, Span, are_same};
 use std::alloc::Global;
 use yaml_diff::{Found, Move};
 use yaml_path::places::Places;
@@ -53,7 +53,8 @@ fn range_end(moves: &[Move], first: usize) -> usize
     ensures range { IsRange moves.now first result }
 {
     'range: for next in first + 1..moves.len() {
-        if !follows(&moves[next - 1], &moves[next]) {
+        let before = next - 1;
+        if !follows(&moves[before], &moves[next]) {
             return next;
         }
     }
@@ -74,24 +75,43 @@ fn are_of_one_list(moves: &[Move], first: usize, end: usize) -> bool
     true
 }
 
+/// The span of the list of this move, if it has one.
+fn span_of(lists: &Lists, found: &Found, first: usize) -> Option<Span>
+    requires lists { Covers ⟦<Key as Ord>⟧.cmp found.now lists.now }
+    requires within { first < length found.now.moves.items }
+    ensures { IfSome result (IsSpanOf found.now first) }
+{
+    let moves = &found.moves;
+    lists.span(found, &moves[first].path)
+}
+
+/// Whether a span is of several moves, of which this is the first, and of no difference.
+fn is_of_moves(found: &Found, span: Span, first: usize) -> bool
+    ensures whole { result ≡ true → found.now.whole ≡ true }
+    ensures first { result ≡ true → span.first ≡ first }
+    ensures several { result ≡ true → first < span.last }
+    ensures within { result ≡ true → span.last < length found.now.moves.items }
+{
+    found.whole && span.first == first && first < span.last && span.last < found.moves.len()
+}
+
 /// The end of the moves of a list of which only the order changed, if this is its first one.
+#[tactic(auto, using(crate::proofs::MoveLaws::whole_is))]
 fn whole_end(lists: &Lists, found: &Found, first: usize) -> Option<usize>
     requires lists { Covers ⟦<Key as Ord>⟧.cmp found.now lists.now }
     requires within { first < length found.now.moves.items }
     ensures whole { IfSome result (IsWhole found.now first) }
     ensures within { IfSome result (λ end. end ≤ length found.now.moves.items) }
 {
-    let moves = &found.moves;
-    let span = lists.span(found, &moves[first].path)?;
-    if !found.whole || span.first != first || span.last <= first || moves.len() <= span.last {
+    let span = span_of(lists, found, first)?;
+    if !is_of_moves(found, span, first) {
         return None;
     }
     let end = span.last + 1;
-    if are_of_one_list(moves, first, end) {
-        Some(end)
-    } else {
-        None
+    if !are_of_one_list(&found.moves, first, end) {
+        return None;
     }
+    Some(end)
 }
 
 /// The end of the moves of neighbours that moved together, if ranges are told, or else of this one alone.
@@ -109,14 +129,13 @@ fn range_or_one(ranges: bool, moves: &[Move], first: usize) -> usize
 }
 
 /// The moves that one line tells, from this one on.
-#[tactic(auto, using(crate::proofs::MoveLaws::tells_whole, crate::proofs::MoveLaws::tells_range))]
 fn group_at(ranges: bool, lists: &Lists, found: &Found, first: usize) -> Group
     requires lists { Covers ⟦<Key as Ord>⟧.cmp found.now lists.now }
     requires within { first < length found.now.moves.items }
     ensures first { result.first ≡ first }
-    ensures some { first < result.end }
+    ensures some { result.first < result.end }
     ensures within { result.end ≤ length found.now.moves.items }
-    ensures tells { Tells true ranges found.now result.whole first result.end }
+    ensures tells { Tells true ranges found.now result.whole result.first result.end }
 {
     let end = range_or_one(ranges, &found.moves, first);
     if let Some(all) = whole_end(lists, found, first) {
@@ -167,17 +186,11 @@ fn single(alloc: Global, ranges: bool, found: &Found) -> Result<Vec<Group>, Faul
 
 /// The moves in groups, of which one line each tells. With folds, a list of which only the order changed has one line, and with ranges
 /// so have neighbours that moved together; without folds each move has one.
-pub fn groups(
-    alloc: Global,
-    folds: bool,
-    ranges: bool,
-    found: &Found,
-) -> Result<Vec<Group>, Fault>
+pub fn groups(alloc: Global, folds: bool, ranges: bool, found: &Found) -> Result<Vec<Group>, Fault>
     ensures { IfOk result (λ groups. Groups folds ranges found.now 0 (length found.now.moves.items) groups.items) }
 {
-    if folds {
-        folded(alloc, ranges, found)
-    } else {
-        single(alloc, ranges, found)
+    if !folds {
+        return single(alloc, ranges, found);
     }
+    folded(alloc, ranges, found)
 }

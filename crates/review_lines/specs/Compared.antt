@@ -174,13 +174,9 @@ is_plain Plain = true
 is_plain Jq = false
 is_plain JsonPointer = false
 
--- from this place to that one
-abbrev pub span_text : ℕ → ℕ → List ℕ
-span_text j m = decimal j ++ (codes "-" ++ decimal m)
-
 -- Where neighbours stand, by the step to the first of them and the places of the last one: on both sides alike, or on the left and on the right. Items that moved have both places.
 abbrev pub range_of : code.Step → Places → List ℕ
-range_of (Item (places.Both j k)) (places.Both m n) = span_text j m ++ cond (j == k) [] (codes ":" ++ span_text k n)
+range_of (Item (places.Both j k)) (places.Both m n) = decimal j ++ (codes "-" ++ (decimal m ++ cond (j == k) [] (codes ":" ++ (decimal k ++ (codes "-" ++ decimal n)))))
 range_of _ _ = []
 
 -- what the path to an item has before its last step
@@ -204,11 +200,11 @@ group_text paths numbered g false None (s ∷ w) = path_as paths numbered None N
 
 -- the places of the last move of a group, if it has several
 abbrev pub last_of : List Move → Group → Option Places
-last_of moves group = cond (nat_lt (suc group.first) group.end) (option_map (λ m. m.places) (slice_get moves (group.end - 1))) None
+last_of moves group = cond (nat_lt group.first (group.end - 1)) (option_map (λ m. m.places) (slice_get moves (group.end - 1))) None
 
 -- the difference has the path of the first move of the group, and no nodes
-abbrev pub IsFirst : List Move → Group → Difference → Type 0
-IsFirst moves group d = (m : Move) → slice_get moves group.first ≡ Some m → line_of d ≡ moved_line (move_line_of m)
+pub record IsFirst (moves : List Move) (group : Group) (d : Difference) : Type 0 where
+  pub is : (m : Move) → slice_get moves group.first ≡ Some m → line_of d ≡ moved_line (move_line_of m)
 
 -- One line tells the moves of a group: with their path and no texts. Of the label nothing is said.
 pub record TellsGroup (both : Both) (asked : Diff) (moves : List Move) (group : Group) (l : Line) : Type 0 where

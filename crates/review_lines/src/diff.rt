@@ -315,6 +315,16 @@ fn is_line(form: Form) -> bool
     }
 }
 
+/// Whether one line may tell several moves: in columns, if that is asked for.
+fn folds_moves(asked: &Diff<'_>) -> bool
+    ensures { result ≡ (is_line asked.now.form && asked.now.folds) }
+{
+    match asked.form {
+        Form::Line => asked.folds,
+        Form::Json => false,
+    }
+}
+
 /// The lines of listed differences and moves as text.
 fn text_of(
     alloc: Global,
@@ -330,7 +340,8 @@ fn text_of(
     let sides = if found.list.is_empty() { None } else { sides };
     let places = find_places(alloc, both, &found.list, sides)?;
     let lines = lines_of(alloc, both, &found.list, asked, asked.folds, &places)?;
-    let moves = lines_of_moves(alloc, both, asked, traced, found, is_line(asked.form))?;
+    let (folds, labels) = (folds_moves(asked), is_line(asked.form));
+    let moves = lines_of_moves(alloc, both, asked, traced, found, folds, labels)?;
     let mut text = String::new(alloc);
     put_each(alloc, &mut text, &lines, asked)?;
     put_each(alloc, &mut text, &moves, asked)?;

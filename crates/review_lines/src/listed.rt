@@ -43,7 +43,7 @@ fn lines_listed(
     let sides = if found.list.is_empty() { None } else { sides };
     let places = find_places(alloc, both, &found.list, sides)?;
     let lines = lines_of(alloc, both, &found.list, asked, false, &places)?;
-    let moves = lines_of_moves(alloc, both, asked, traced, found, false)?;
+    let moves = lines_of_moves(alloc, both, asked, traced, found, false, false)?;
     Ok(Listed {
         lines,
         moves,

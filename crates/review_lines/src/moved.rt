@@ -45,13 +45,18 @@ fn item_path(alloc: Global, one: &Move) -> Result<Vec<Step>, Fault>
 }
 
 /// The first move of a group as a difference that has no node on either side, and whose path leads to the items.
+#[tactic(auto, using(crate::proofs::MoveLaws::first_none, crate::proofs::MoveLaws::first_some))]
 fn first_of(alloc: Global, moves: &[Move], group: Group) -> Result<Difference, Fault>
     ensures { IfOk result (IsFirst moves.now group) }
 {
-    let path = match moves.get(group.first) {
-        Some(one) => item_path(alloc, one)?,
-        None => Vec::new(alloc),
+    let Some(one) = moves.get(group.first) else {
+        return Ok(Difference {
+            path: Vec::new(alloc),
+            left: None,
+            right: None,
+        });
     };
+    let path = item_path(alloc, one)?;
     Ok(Difference {
         path,
         left: None,
@@ -63,12 +68,11 @@ fn first_of(alloc: Global, moves: &[Move], group: Group) -> Result<Difference, F
 fn last_of(moves: &[Move], group: Group) -> Option<Places>
     ensures { result ≡ last_of moves.now group }
 {
-    if group.end == 0 || group.end - 1 <= group.first {
-        return None;
-    }
-    match moves.get(group.end - 1) {
-        Some(last) => Some(last.places),
-        None => None,
+    let last = group.end.saturating_sub(1);
+    if group.first < last {
+        moves.get(last).map(|one| one.places)
+    } else {
+        None
     }
 }
 
@@ -78,17 +82,19 @@ fn put_range(out: &mut String, first: Step, last: Places) -> Result<(), Fault>
 {
     match (first, last) {
         (Step::Item(Places::Both(left, right)), Places::Both(left_end, right_end)) => {
-            write!(out, "{left}-{left_end}")?;
-            if left != right {
-                write!(out, ":{right}-{right_end}")?;
+            if left == right {
+                write!(out, "{left}-{left_end}")?;
+            } else {
+                write!(out, "{left}-{left_end}:{right}-{right_end}")?;
             }
-            Ok(())
         }
-        _ => Ok(()),
+        _ => {}
     }
+    Ok(())
 }
 
 /// What a plain path to an item of a list has before the item's own step.
+#[tactic(auto, using(crate::proofs::MoveLaws::before_alone, crate::proofs::MoveLaws::before_path))]
 fn before_text(alloc: Global, both: &Both<'_>, list: &[Step]) -> Result<String, Fault>
     requires ranked { RanksAre both.now.graph both.now.ranks }
     ensures { IfOk result (λ s. string_bytes s ≡ before_text (is_numbered both.now) (way_of both.now.graph list.now)) }
@@ -101,6 +107,7 @@ fn before_text(alloc: Global, both: &Both<'_>, list: &[Step]) -> Result<String, 
 }
 
 /// The path of neighbours that moved together: that to their list, and their places.
+#[tactic(auto, using(crate::proofs::MoveLaws::range_empty, crate::proofs::MoveLaws::range_some))]
 fn range_path(
     alloc: Global,
     both: &Both<'_>,
@@ -142,6 +149,7 @@ fn path_of_both(
 
 /// The path of a group, where this one leads to its first items: that of the list of which only the order changed, that of neighbours
 /// that moved together, or that of the items alone.
+#[tactic(auto, using(crate::proofs::MoveLaws::group_none, crate::proofs::MoveLaws::group_whole, crate::proofs::MoveLaws::group_range, crate::proofs::MoveLaws::group_one))]
 fn group_path(
     alloc: Global,
     both: &Both<'_>,
@@ -183,6 +191,7 @@ fn label_if(
 }
 
 /// The line of a group, with these places of its first items.
+#[tactic(auto, using(crate::proofs::MoveLaws::group_told))]
 fn line_of_group(
     alloc: Global,
     both: &Both<'_>,
@@ -251,15 +260,20 @@ fn lines_of_groups(
     Ok(lines)
 }
 
-/// The keys that name items, where labels are told.
-fn keys_if(alloc: Global, both: &Both<'_>, is_told: bool) -> Result<Option<Keys>, Fault> {
-    if is_told {
+/// The keys that name items, where there are labels.
+fn keys_if(
+    alloc: Global,
+    both: &Both<'_>,
+    has_labels: bool,
+    groups: &[Group],
+) -> Result<Option<Keys>, Fault> {
+    if has_labels && !groups.is_empty() {
         return Ok(Some(Keys::new(alloc, both)?));
     }
     Ok(None)
 }
 
-/// The lines of pairs of items that moved. In columns each has a label, and one line may tell several pairs.
+/// The lines of pairs of items that moved, each with a label if that is asked for. With folds, one line may tell several pairs.
 #[tactic(auto, using(crate::proofs::CompareLaws::moves_told))]
 pub(crate) fn lines_of_moves(
     alloc: Global,
@@ -267,13 +281,14 @@ pub(crate) fn lines_of_moves(
     asked: &Diff<'_>,
     sides: Option<(Traced<'_>, Traced<'_>)>,
     found: &Found,
-    in_columns: bool,
+    folds: bool,
+    has_labels: bool,
 ) -> Result<Vec<Line>, Fault>
     requires ranked { RanksAre both.now.graph both.now.ranks }
-    ensures { IfOk result (λ lines. TellsMoves (in_columns && asked.now.folds) both.now asked.now found.now lines.items) }
+    ensures { IfOk result (λ lines. TellsMoves folds both.now asked.now found.now lines.items) }
 {
-    let folds = in_columns && asked.folds;
     let groups = groups(alloc, folds, is_plain(asked.paths), found)?;
-    let keys = keys_if(alloc, both, in_columns && !groups.is_empty())?;
-    lines_of_groups(alloc, both, asked, &found.moves, &groups, &keys, sides)
+    let keys = keys_if(alloc, both, has_labels, &groups)?;
+    let lines = lines_of_groups(alloc, both, asked, &found.moves, &groups, &keys, sides)?;
+    Ok(lines)
 }

@@ -13,12 +13,15 @@ const LETTERS: &[u8] = b"x: [a, b, c, d, e]\n";
 const TURNED: &[u8] = b"x: [d, e, a, b, c]\n";
 
 /// Items of which two are moved to the front, each by itself.
-const NAMED: &[u8] = b"- {name: a, v: 1}\n- {name: b, v: 1}\n- {name: c, v: 1}\n- {name: d, v: 1}\n";
+const NAMED: &[u8] =
+    b"- {name: a, v: 1}\n- {name: b, v: 1}\n- {name: c, v: 1}\n- {name: d, v: 1}\n";
 
-const SHUFFLED: &[u8] = b"- {name: d, v: 1}\n- {name: c, v: 1}\n- {name: a, v: 1}\n- {name: b, v: 1}\n";
+const SHUFFLED: &[u8] =
+    b"- {name: d, v: 1}\n- {name: c, v: 1}\n- {name: a, v: 1}\n- {name: b, v: 1}\n";
 
 /// Documents with a kind and a name.
-const OBJECTS: &[u8] = b"--- {apiVersion: v1, kind: K, metadata: {name: a}}\n--- {apiVersion: v1, kind: K, metadata: {name: b}}\n--- {apiVersion: v1, kind: K, metadata: {name: c}}\n--- {apiVersion: v1, kind: K, metadata: {name: d}}\n--- {apiVersion: v1, kind: K, metadata: {name: e}}\n";
+const OBJECTS: &[u8] =
+    b"--- {apiVersion: v1, kind: K, metadata: {name: a}}\n--- {apiVersion: v1, kind: K, metadata: {name: b}}\n--- {apiVersion: v1, kind: K, metadata: {name: c}}\n--- {apiVersion: v1, kind: K, metadata: {name: d}}\n--- {apiVersion: v1, kind: K, metadata: {name: e}}\n";
 
 pub static GROUPS: [Row; 20] = [
     Row {

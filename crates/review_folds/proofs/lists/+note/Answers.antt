@@ -1,0 +1,7 @@
+use Rattle.std.proofs.Common.{rules}
+use Rattle.review_folds.proofs.ListLaws.{notes_more}
+use Rattle.review_folds.proofs.lists.+note.Goals as goal
+
+pub returns-clause-notes : goal.returns-clause-notes
+returns-clause-notes t c =
+    notes_more _ c.args.path.now c.in-Some.rest.now c.in-Some.step.now c.args.number c.in_ok-above.above c.in_ok-list.list c.note.new.spans.items c.widen-2.new.spans.items (search rules) c.in_ok-above.ensures.at c.in_ok-list.ensures c.note.ensures.notes c.widen-2.ensures.wider c.widen-2.ensures.has
