@@ -340,7 +340,8 @@ fn text_of(
     let sides = if found.list.is_empty() { None } else { sides };
     let places = find_places(alloc, both, &found.list, sides)?;
     let lines = lines_of(alloc, both, &found.list, asked, asked.folds, &places)?;
-    let (folds, labels) = (folds_moves(asked), is_line(asked.form));
+    let folds = folds_moves(asked);
+    let labels = is_line(asked.form);
     let moves = lines_of_moves(alloc, both, asked, traced, found, folds, labels)?;
     let mut text = String::new(alloc);
     put_each(alloc, &mut text, &lines, asked)?;

@@ -1,5 +1,5 @@
 //! The lines of items that moved.
-ghost use Rattle.std.specs.Prelude.{◌≡◌, ◌&&◌, ◌++◌, ◌∷◌, None, string_bytes, OnOk, IfOk};
+ghost use Rattle.std.specs.Prelude.{◌≡◌, ◌++◌, ◌∷◌, None, string_bytes, OnOk, IfOk};
 ghost use Rattle.yaml_rank.specs.RanksView.{RanksAre};
 ghost use Rattle.yaml_diff.specs.Lines.{way_of};
 ghost use Rattle.yaml_diff.specs.declared.difference.Step.TheVariants.{Item};

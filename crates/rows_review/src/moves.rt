@@ -115,7 +115,7 @@ pub static GROUPS: [Row; 20] = [
         err: "",
     },
     Row {
-        name: "the same in JSON",
+        name: "a list of which only the order changed in JSON, which has each move",
         words: &["diff", "--no-places", "--format=json", "left", "right"],
         left: b"[a, b, c, d]\n",
         right: b"[d, c, a, b]\n",
