@@ -2,8 +2,10 @@
 #![tactic(auto)]
 
 pub mod diff;
+mod labels;
 pub mod lines;
 pub mod listed;
+mod moved;
 mod nodes;
 mod stat;
 mod strings;
