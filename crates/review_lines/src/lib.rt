@@ -2,7 +2,6 @@
 #![tactic(auto)]
 
 pub mod diff;
-mod labels;
 pub mod lines;
 pub mod listed;
 mod moved;

@@ -6,12 +6,12 @@ ghost use Rattle.yaml_diff.specs.declared.difference.Step.TheVariants.{Item};
 ghost use Rattle.review_lines.specs.Compared.{is_numbered, path_as, is_plain, last_of, range_of, before_text, range_path, group_text, IsFirst, TellsGroup, TellsGroups, TellsMoves};
 
 use crate::diff::{is_numbered, members_in, room_of};
-use crate::labels::{Keys, label_of};
 use crate::lines::Line;
 use crate::nodes::{find_places, place_at};
 use crate::strings::Budget;
 use review_args::{Diff, Paths};
 use review_folds::{Group, groups};
+use review_labels::{Keys, label_of};
 use review_paths::pasted;
 use review_places::trace::Traced;
 use review_text::both::Both;

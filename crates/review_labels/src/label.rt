@@ -1,4 +1,5 @@
 //! Which items moved, in words.
+ghost use Rattle.std.specs.Prelude.{◌≡◌, IfErr};
 ghost use Rattle.yaml_rank.specs.RanksView.{RanksAre};
 
 use review_folds::Group;
@@ -19,7 +20,7 @@ const METADATA: &str = "metadata";
 
 /// The ranks of the keys that name items, each where a node is this string.
 #[derive(Drop)]
-pub(crate) struct Keys {
+pub struct Keys {
     /// Those of the table, in its order.
     table: Vec<Option<usize>>,
     name: Option<usize>,
@@ -36,8 +37,15 @@ fn string_of<'b>(both: &'b Both<'_>, id: NodeId) -> Option<&'b str> {
 }
 
 impl Keys {
+    ghost use Rattle.std.specs.Prelude.{◌≡◌, IfErr};
+
     /// Those of the nodes of both streams.
-    pub(crate) fn new(alloc: Global, both: &Both<'_>) -> Result<Keys, Fault> {
+    ///
+    /// # Errors
+    /// `OutOfMemory`
+    pub fn new(alloc: Global, both: &Both<'_>) -> Result<Keys, Fault>
+        ensures err { IfErr result (λ fault. fault ≡ Fault.OutOfMemory) }
+    {
         let mut keys = Keys {
             table: vec![in alloc; None; TABLE.len()]?,
             name: None,
@@ -159,6 +167,7 @@ fn put_item(
     room: usize,
 ) -> Result<(), Fault>
     requires ranked { RanksAre both.now.graph both.now.ranks }
+    ensures err { IfErr result (λ fault. fault ≡ Fault.OutOfMemory) }
 {
     match name_of(both, keys, item) {
         Some((key, value)) => {
@@ -194,6 +203,7 @@ fn count_of(both: &Both<'_>, list: &[Step]) -> usize
 /// What is told of a list of which only the order changed.
 fn list_label(alloc: Global, both: &Both<'_>, list: &[Step]) -> Result<String, Fault>
     requires ranked { RanksAre both.now.graph both.now.ranks }
+    ensures err { IfErr result (λ fault. fault ≡ Fault.OutOfMemory) }
 {
     let count = count_of(both, list);
     let words = if list.is_empty() {
@@ -207,8 +217,11 @@ fn list_label(alloc: Global, both: &Both<'_>, list: &[Step]) -> Result<String, F
 }
 
 /// Which items moved, where this path leads to the first of them: what that is called, and how many others there are; or how many a
-/// list has of which only the order changed.
-pub(crate) fn label_of(
+/// list has of which only the order changed. A text of a node has at most `room` bytes, and `...` if it is cut.
+///
+/// # Errors
+/// `OutOfMemory`
+pub fn label_of(
     alloc: Global,
     both: &Both<'_>,
     keys: &Keys,
@@ -217,6 +230,7 @@ pub(crate) fn label_of(
     room: usize,
 ) -> Result<Option<String>, Fault>
     requires ranked { RanksAre both.now.graph both.now.ranks }
+    ensures err { IfErr result (λ fault. fault ≡ Fault.OutOfMemory) }
 {
     if group.whole {
         let list = path.get(1..).unwrap_or(&[]);
