@@ -7,7 +7,7 @@ use Rattle.yaml_diff.specs.declared.difference.Step.{Step}
 use Rattle.yaml_diff.specs.declared.difference.Difference.{Difference}
 use Rattle.yaml_diff.specs.declared.difference.Move.{Move}
 use Rattle.yaml_diff.specs.declared.difference.Found.{Found}
-use Rattle.review_folds.specs.Lists.{step_from, number_of, IsBelow, IsWider, HasNumber, Notes, NotesMoves, NotesDifferences, IsSpan}
+use Rattle.review_folds.specs.Lists.{step_from, number_of, IsWider, HasNumber, Notes, NotesMoves, NotesDifferences, IsSpan}
 use Rattle.review_folds.specs.declared.lists.Span.{Span}
 
 -- the element that is read at an index

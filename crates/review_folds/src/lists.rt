@@ -209,8 +209,9 @@ impl Lists {
     {
         let numbers = numbers_of(alloc, &found.moves)?;
         let mut spans = vec![in alloc; NONE; numbers.below.len().saturating_add(1)]?;
-        note_moves(&numbers, &mut spans, &found.moves);
-        note_differences(&numbers, &mut spans, &found.list, found.moves.len());
+        let moves: &[Move] = &found.moves;
+        note_moves(&numbers, &mut spans, moves);
+        note_differences(&numbers, &mut spans, &found.list, moves.len());
         Ok(Lists { numbers, spans })
     }
 

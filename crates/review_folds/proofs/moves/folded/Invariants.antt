@@ -1,4 +1,4 @@
-use Rattle.std.proofs.Common.{◌≡◌, ◌≤◌, ◌-◌, true, length}
+use Rattle.std.proofs.Common.{◌≤◌, ◌-◌, true, length}
 use Rattle.review_folds.specs.Moves.{Groups}
 use Rattle.review_folds.proofs.moves.folded.Given as goal
 

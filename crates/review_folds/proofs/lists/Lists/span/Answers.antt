@@ -1,5 +1,4 @@
 use Rattle.std.proofs.Common.{◌≡◌}
-use Rattle.std.specs.Prelude.{Some}
 use Rattle.std.specs.List.{slice_get}
 use Rattle.review_folds.specs.contracts.lists.KeyOrd.TheImpl.{ghosts}
 use Rattle.review_folds.specs.Lists.{below_of}
