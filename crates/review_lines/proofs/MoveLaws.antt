@@ -2,6 +2,7 @@
 use Rattle.std.proofs.Common.{◌≡◌, ◌==◌, ℕ, zero, suc, ◌<◌, ◌≤◌, Bool, true, false, cond, List, [], ◌∷◌, ◌++◌, length, map, reverse, refl, sym, ◌∙◌, ap, subst, arith}
 use Rattle.std.specs.Prelude.{Option, Some, None, codes, string_bytes}
 use Rattle.std.specs.List.{slice_get, flat_map}
+use Rattle.std.proofs.lemmas.Bool.{eqb-true}
 use Rattle.std.proofs.lemmas.List.{length-reverse, length-map}
 use Rattle.yaml_diff.specs.declared.difference.Found.{Found}
 use Rattle.yaml_diff.specs.declared.difference.Move.{Move}
@@ -24,11 +25,11 @@ use Rattle.review_lines.specs.declared.lines.Line.{Line}
 
 groups-rise : (folds ranges : Bool) (f : Found) (at end : ℕ) (gs : List Group) → Groups folds ranges f at end gs → at ≤ end
 groups-rise folds ranges f at end [] h = omega (arith, h)
-groups-rise folds ranges f at end (g ∷ gs) h = let r = groups-rise folds ranges f g.end end gs h.3 in omega (arith, h.0, h.1.0, r)
+groups-rise folds ranges f at end (g ∷ gs) h = let r = groups-rise folds ranges f g.end end gs h.3 in omega (arith, h.0, h.1, r)
 
 no-groups : (folds ranges : Bool) (f : Found) (end : ℕ) (gs : List Group) → end ≡ 0 → Groups folds ranges f 0 end gs → gs ≡ []
 no-groups folds ranges f end [] e h = refl
-no-groups folds ranges f end (g ∷ gs) e h = let r = groups-rise folds ranges f g.end end gs h.3 in absurd (omega (arith, e, h.0, h.1.0, r))
+no-groups folds ranges f end (g ∷ gs) e h = let r = groups-rise folds ranges f g.end end gs h.3 in absurd (omega (arith, e, h.0, h.1, r))
 
 no-lines : (both : Both) (asked : Diff) (moves : List Move) (ls : List Line) → TellsGroups both asked moves [] ls → ls ≡ []
 no-lines both asked moves [] h = refl
@@ -53,6 +54,10 @@ before_alone g steps numbered text l n e = e ∙ subst (λ z. [] ≡ before_text
     by (s ∷ []) q = refl
     by (s ∷ t ∷ w) q = absurd (omega (arith, q))
 
+not-alone : (b : Bool) → (b ≡ true → ⊥) → cond b (codes ".") [] ≡ []
+not-alone true h = absurd (h refl)
+not-alone false h = refl
+
 pub before_path : (g : Graph) (steps : List code.Step) (numbered : Bool) (text : List ℕ) → (length steps ≡ 1 → numbered ≡ false → ⊥) → text ≡ path_text numbered (way_of g steps) → text ≡ before_text numbered (way_of g steps)
 before_path g steps numbered text not e = e ∙ by numbered (way_of g steps) (λ q f. not (sym (way-length g steps) ∙ q) f)
   where
@@ -60,7 +65,7 @@ before_path g steps numbered text not e = e ∙ by numbered (way_of g steps) (λ
     by b [] h = refl
     by true (s ∷ w) h = refl
     by false (s ∷ []) h = absurd (h refl refl)
-    by false (s ∷ t ∷ w) h = refl
+    by false (s ∷ t ∷ w) h = ap (λ z. z ++ flat_map step_text (t ∷ w)) (not-alone (suc (length w) == 0) (λ q. let z = eqb-true (suc (length w)) 0 q in absurd (omega (arith, z))))
 
 pub range_empty : (g : Graph) (steps : List code.Step) (numbered : Bool) (s : code.Step) (z : Places) (before text : List ℕ) → steps ≡ [] → before ≡ before_text numbered (way_of g steps) → text ≡ before ++ range_of s z → text ≡ range_path numbered s z (way_of g steps)
 range_empty g steps numbered s z before text e b t =
