@@ -1,5 +1,5 @@
 -- The lines of moves.
-use Rattle.std.proofs.Common.{◌≡◌, ◌==◌, ℕ, zero, suc, ◌<◌, ◌≤◌, Bool, true, false, cond, List, [], ◌∷◌, ◌++◌, length, map, reverse, refl, sym, ◌∙◌, ap, subst, arith}
+use Rattle.std.proofs.Common.{◌≡◌, ◌==◌, ℕ, suc, ◌≤◌, Bool, true, false, cond, List, [], ◌∷◌, ◌++◌, length, map, refl, sym, ◌∙◌, ap, subst, arith}
 use Rattle.std.specs.Prelude.{Option, Some, None, codes, string_bytes}
 use Rattle.std.specs.List.{slice_get, flat_map}
 use Rattle.std.proofs.lemmas.Bool.{eqb-true}
@@ -16,10 +16,10 @@ use Rattle.yaml_path.specs.declared.places.Places.{Places}
 use Rattle.yaml_diff.specs.Lines.{way_of, step_of, line_of}
 use Rattle.yaml_diff.specs.Moves.{move_line_of, moved_line}
 use Rattle.yaml_diff.specs.declared.difference.Step as code
-use Rattle.yaml_diff.specs.declared.difference.Step.TheVariants.{Item, Value}
+use Rattle.yaml_diff.specs.declared.difference.Step.TheVariants.{Item}
 use Rattle.yaml_diff.specs.declared.difference.Difference.{Difference}
 use Rattle.review_args.specs.declared.words.Paths.{Paths}
-use Rattle.review_text.specs.PathText.{path_text, start_text, step_text, bracketed}
+use Rattle.review_text.specs.PathText.{path_text, step_text, bracketed}
 use Rattle.review_lines.specs.Compared.{is_numbered, path_as, TellsMembers, range_of, before_text, range_path, group_text, last_of, IsFirst, TellsGroup, TellsGroups, TellsMoves}
 use Rattle.review_lines.specs.declared.lines.Line.{Line}
 

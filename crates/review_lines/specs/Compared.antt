@@ -14,7 +14,7 @@ use Rattle.yaml_diff.specs.Lines.{way_of, line_of}
 use Rattle.yaml_diff.specs.Moves.{moved_line, move_line_of}
 use Rattle.yaml_diff.specs.Found.{FindsItems}
 use Rattle.yaml_diff.specs.declared.difference.Step as code
-use Rattle.yaml_diff.specs.declared.difference.Step.TheVariants.{Item, Value}
+use Rattle.yaml_diff.specs.declared.difference.Step.TheVariants.{Item}
 use Rattle.yaml_diff.specs.declared.difference.Move.{Move}
 use Rattle.yaml_diff.specs.declared.difference.Difference.{Difference}
 use Rattle.yaml_diff.specs.declared.difference.Found.{Found}

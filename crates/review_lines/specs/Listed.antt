@@ -1,5 +1,5 @@
 -- What is listed of two streams.
-use Rattle.std.specs.Prelude.{◌≡◌, ◌==◌, ◌&&◌, ℕ, false, take, drop, map, length, List}
+use Rattle.std.specs.Prelude.{◌≡◌, ◌==◌, ◌&&◌, false, take, drop, map, length, List}
 use Rattle.yaml_graph.specs.GraphView.{roots_of}
 use Rattle.yaml_diff.specs.Found.{FindsItems}
 use Rattle.yaml_diff.specs.declared.difference.Found.{Found}
