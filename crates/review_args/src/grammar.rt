@@ -105,7 +105,7 @@ const DIFF: [Row; 15] = [
     Row {
         id: "no-fold",
         takes: Takes::Flag,
-        help: "Print a line for each place at which aliases show one change",
+        help: "Print a line for each place at which aliases show one change, and for each pair that moved",
     },
     Row {
         id: "color",
@@ -322,7 +322,8 @@ const DIFF_STATUSES: &str =
     "Items of two lists are pairs if they are equal, or by the first of these names that stands once on each side:
   apiVersion (without its version), kind, metadata.namespace, metadata.name
   name, id, key, alert, uid, containerPort, path (not of documents)
-Then by what they have in common, and then in turn. A pair that moved has a line `>`.
+Then by what they have in common, and then in turn. A pair that moved has a line `>` with its name or its text. Neighbours
+that moved together have one line, and so has a list of which only the order changed.
 
 With --paths=jq and --paths=jsonpointer there are two columns of paths, the path in A and that in B. A side that has no such
 node has `-`. Of several documents the first step is the number of the document, as `jq --slurp` has it. Where a path has a

@@ -1,1 +1,3 @@
 mod FoldLaws
+mod ListLaws
+mod MoveLaws

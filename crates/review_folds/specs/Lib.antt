@@ -1,1 +1,3 @@
 pub mod Folds
+pub mod Lists
+pub mod Moves

@@ -1,14 +1,13 @@
 -- Streams that mean the same have no line.
-use Rattle.std.proofs.Common.{◌≡◌, ℕ, zero, suc, Bool, true, false, cond, ◌&&◌, ◌==◌, List, [], ◌∷◌, ◌++◌, length, map, refl, sym, ◌∙◌, ap, subst, arith}
+use Rattle.std.proofs.Common.{◌≡◌, ℕ, zero, suc, Bool, true, false, cond, ◌&&◌, ◌==◌, List, [], ◌∷◌, ◌++◌, length, refl, sym, ◌∙◌, ap, subst, arith}
 use Rattle.std.proofs.lemmas.Bool.{eqb-true}
 use Rattle.yaml_definitions.proofs.Members.{and_both}
-use Rattle.yaml_diff.specs.Lines.{line_of}
-use Rattle.yaml_diff.specs.Moves.{move_line_of, moved_line}
 use Rattle.yaml_diff.specs.declared.difference.Found.{Found}
 use Rattle.review_args.specs.declared.words.Diff.{Diff}
 use Rattle.review_text.specs.declared.both.Both.{Both}
 use Rattle.review_lines.specs.Compared.{TellsEach, TellsFound, TellsAsked}
 use Rattle.review_lines.specs.Lines.{lines_text, more_text}
+use Rattle.review_lines.proofs.MoveLaws.{moves_none}
 use Rattle.review_lines.specs.declared.lines.Line.{Line}
 use Rattle.review_compare.specs.Compared.{DiffLines}
 
@@ -20,15 +19,10 @@ none_each : (both : Both) (asked : Diff) (ls : List Line) → TellsEach both ask
 none_each both asked [] h = refl
 none_each both asked (l ∷ ls) h = absurd h
 
-unmapped : {X Y : Type 0} (f : X → Y) (xs : List X) → map f xs ≡ [] → xs ≡ []
-unmapped f [] e = refl
-unmapped f (x ∷ xs) e = absurd (cc)
-
 none_found : (both : Both) (asked : Diff) (f : Found) (text : List ℕ) → f.whole ≡ true → f.list.items ≡ [] → f.moves.items ≡ [] → TellsFound both asked f text → text ≡ []
 none_found both asked f text w l m t =
     let lines = none_each both asked t.lines (subst (λ z. TellsEach both asked z t.lines) l t.each) in
-    let no_moves = unmapped line_of t.moves.moves (t.moves.are ∙ ap (λ z. map moved_line (map move_line_of z)) m) in
-    let moves = none_each both asked t.move_lines (subst (λ z. TellsEach both asked z t.move_lines) no_moves t.moves.each) in
+    let moves = moves_none _ both asked f t.move_lines m t.moves in
     let more = cond f.whole [] (more_text asked.form) in
     t.is ∙ (ap (λ z. (lines_text asked z ++ lines_text asked t.move_lines) ++ more) lines ∙ (ap (λ z. ([] ++ lines_text asked z) ++ more) moves ∙ ap (λ z. cond z [] (more_text asked.form)) w))
 

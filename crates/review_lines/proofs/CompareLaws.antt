@@ -9,8 +9,8 @@ use Rattle.review_lines.specs.Lines.{line_text, lines_text, more_text}
 use Rattle.review_lines.specs.declared.lines.Line.{Line}
 use Rattle.yaml_diff.specs.declared.difference.Found.{Found}
 use Rattle.yaml_diff.specs.declared.difference.Move.{Move}
-use Rattle.yaml_diff.specs.Lines.{line_of}
-use Rattle.yaml_diff.specs.Moves.{moved_line, move_line_of}
+use Rattle.review_folds.specs.Moves.{Groups}
+use Rattle.review_folds.specs.declared.moves.Group.{Group}
 use Rattle.review_lines.specs.Listed.{ListsFound}
 use Rattle.review_lines.specs.declared.listed.Listed.{Listed}
 use Rattle.std.proofs.lemmas.List.{take_more, take_all}
@@ -18,7 +18,7 @@ use Rattle.yaml_graph.specs.declared.graph.Graph.{Graph}
 use Rattle.review_patterns.specs.declared.pattern.Pattern.{Pattern}
 use Rattle.review_ignore.specs.Ignored.{Keeps}
 use Rattle.review_folds.specs.Folds.{Folds}
-use Rattle.review_lines.specs.Compared.{TellsOne, TellsEach, TellsMoves, TellsFound, TellsAsked}
+use Rattle.review_lines.specs.Compared.{is_line, is_plain, TellsOne, TellsEach, TellsGroup, TellsGroups, TellsMoves, TellsFound, TellsAsked}
 
 -- one difference and its line more
 pub tells_more : (both : Both) (asked : Diff) (ds : List Difference) (ls : List Line) (d : Difference) (l : Line) → TellsEach both asked ds ls → TellsOne both asked d l → TellsEach both asked (ds ++ (d ∷ [])) (ls ++ (l ∷ []))
@@ -45,19 +45,32 @@ counts_whole ns ls i m h = h ∙ take_all i ns m
 pub folds_told : (folds : Bool) (ds : List Difference) (ns seen counts : List ℕ) → ns ≡ seen → seen ≡ counts → Folds folds ds counts → Folds folds ds ns
 folds_told folds ds ns seen counts e f h = subst (Folds folds ds) (sym (e ∙ f)) h
 
--- the lines of moves, of which a list is seen
-pub moves_told : (both : Both) (asked : Diff) (f : Found) (list seen : List Difference) (moves : List Move) (ls : List Line) → map line_of list ≡ map moved_line (map move_line_of moves) → moves ≡ f.moves.items → seen ≡ list
-    → TellsEach both asked seen ls → Folds false seen (map (λ l. l.count) ls) → TellsMoves both asked f ls
-moves_told both asked f list seen moves ls e m s h k = record {
-  moves = list;
-  are = e ∙ ap (λ z. map moved_line (map move_line_of z)) m;
-  each = subst (λ z. TellsEach both asked z ls) s h;
-  alone = subst (λ z. Folds false z (map (λ l. l.count) ls)) s k;
+-- a line for each group of moves
+pub groups_more : (both : Both) (asked : Diff) (moves : List Move) (gs : List Group) (ls : List Line) (g : Group) (l : Line) → TellsGroups both asked moves gs ls → TellsGroup both asked moves g l → TellsGroups both asked moves (gs ++ (g ∷ [])) (ls ++ (l ∷ []))
+groups_more both asked moves [] [] g l h k = (k, tt)
+groups_more both asked moves [] (m ∷ ls) g l h k = absurd h
+groups_more both asked moves (e ∷ gs) [] g l h k = absurd h
+groups_more both asked moves (e ∷ gs) (m ∷ ls) g l h k = (h.0, groups_more both asked moves gs ls g l h.1 k)
+
+pub groups_next : (both : Both) (asked : Diff) (moves : List Move) (gs : List Group) (ls new : List Line) (i : ℕ) (d e : Group) (l : Line) → i < length gs → e ≡ get_or gs i d → TellsGroups both asked moves (take i gs) ls → TellsGroup both asked moves e l → new ≡ ls ++ (l ∷ []) → TellsGroups both asked moves (take (i + 1) gs) new
+groups_next both asked moves gs ls new i d e l m q h k p =
+    subst (λ z. TellsGroups both asked moves z new) (sym (take_more gs i d m)) (subst (TellsGroups both asked moves (take i gs ++ (get_or gs i d ∷ []))) (sym p) (groups_more both asked moves (take i gs) ls (get_or gs i d) l h (subst (λ z. TellsGroup both asked moves z l) q k)))
+
+pub groups_all : (both : Both) (asked : Diff) (moves : List Move) (gs : List Group) (ls : List Line) (i : ℕ) → length gs ≤ i → TellsGroups both asked moves (take i gs) ls → TellsGroups both asked moves gs ls
+groups_all both asked moves gs ls i m h = subst (λ z. TellsGroups both asked moves z ls) (take_all i gs m) h
+
+-- the lines of moves, of whose groups a list is seen
+pub moves_told : (folds plain : Bool) (both : Both) (asked : Diff) (f : Found) (groups seen : List Group) (moves : List Move) (ls : List Line) → plain ≡ is_plain asked.paths → Groups folds plain f 0 (length f.moves.items) groups → seen ≡ groups → moves ≡ f.moves.items
+    → TellsGroups both asked moves seen ls → TellsMoves folds both asked f ls
+moves_told folds plain both asked f groups seen moves ls p g s m h = record {
+  groups = groups;
+  grouped = subst (λ z. Groups folds z f 0 (length f.moves.items) groups) p g;
+  each = subst (λ z. TellsGroups both asked z groups ls) m (subst (λ z. TellsGroups both asked moves z ls) s h);
 }
 
 -- the lines of a list
 pub found_listed : (both : Both) (asked : Diff) (f : Found) (listed : Listed) (seen : List Difference) → seen ≡ f.list.items → TellsEach both asked seen listed.lines.items → Folds false seen (map (λ l. l.count) listed.lines.items)
-    → TellsMoves both asked f listed.moves.items → listed.whole ≡ f.whole → listed.same ≡ ((f.whole && (length f.list.items == 0)) && (length f.moves.items == 0)) → ListsFound both asked f listed
+    → TellsMoves false both asked f listed.moves.items → listed.whole ≡ f.whole → listed.same ≡ ((f.whole && (length f.list.items == 0)) && (length f.moves.items == 0)) → ListsFound both asked f listed
 found_listed both asked f listed seen s h k m w n = record {
   each = subst (λ z. TellsEach both asked z listed.lines.items) s h;
   alone = subst (λ z. Folds false z (map (λ l. l.count) listed.lines.items)) s k;
@@ -78,7 +91,7 @@ lines_next f ls i d o a whole l h e =
 pub lines_all : (f : Diff) (ls : List Line) (i : ℕ) (o whole : List ℕ) → length ls ≤ i → o ++ lines_text f (drop i ls) ≡ whole → o ≡ whole
 lines_all f ls i o whole l h = sym (append-nil o) ∙ ap (λ z. o ++ lines_text f z) (sym (drop_of_length-le ls l)) ∙ h
 
-module _ (both : Both) (asked : Diff) (f : Found) (ls ms : List Line) (o a c : List ℕ) (each : TellsEach both asked f.list.items ls) (folds : Folds asked.folds f.list.items (map (λ l. l.count) ls)) (moves : TellsMoves both asked f ms) (empty : o ≡ []) (put : a ≡ o ++ lines_text asked ls) (more : c ≡ a ++ lines_text asked ms) where
+module _ (both : Both) (asked : Diff) (f : Found) (ls ms : List Line) (o a c : List ℕ) (each : TellsEach both asked f.list.items ls) (folds : Folds asked.folds f.list.items (map (λ l. l.count) ls)) (moves : TellsMoves (is_line asked.form && asked.folds) both asked f ms) (empty : o ≡ []) (put : a ≡ o ++ lines_text asked ls) (more : c ≡ a ++ lines_text asked ms) where
   all_put : c ≡ lines_text asked ls ++ lines_text asked ms
   all_put = more ∙ ap (λ z. z ++ lines_text asked ms) (put ∙ ap (λ z. z ++ lines_text asked ls) empty)
 

@@ -5,3 +5,4 @@ mod SameLaws
 mod SideLaws
 mod StatLaws
 mod StringLaws
+pub mod MoveLaws

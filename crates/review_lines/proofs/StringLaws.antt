@@ -78,12 +78,13 @@ script_told g context color d tag one other edits slice text l r s e h = record 
 }
 
 pub one_told : (both : Both) (asked : Diff) (d : Difference) (l : Line) (room : ℕ) → room ≡ room_of asked.whole → string_bytes l.path ≡ path_as asked.paths (is_numbered both) d.left d.right (way_of both.graph d.path.items) → ShowsBoth both.graph room d l.left l.right
-    → ShowsChanges both.graph asked.context asked.color d l.changes → TellsMembers asked.form both.graph d l.members → TellsOne both asked d l
-one_told both asked d l room m p b c v = record {
+    → ShowsChanges both.graph asked.context asked.color d l.changes → TellsMembers asked.form both.graph d l.members → l.label ≡ None → TellsOne both asked d l
+one_told both asked d l room m p b c v n = record {
   path = p;
   nodes = subst (λ z. ShowsBoth both.graph z d l.left l.right) m b;
   changes = c;
   members = v;
+  no_label = n;
 }
 
 -- a scalar of the tag of another

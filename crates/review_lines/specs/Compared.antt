@@ -1,14 +1,21 @@
 -- What is told of two streams as text.
-use Rattle.std.specs.Prelude.{◌≡◌, ◌⊎◌, ◌==◌, ◌&&◌, ◌||◌, ℕ, zero, suc, Bool, true, false, not, cond, nat_le, nat_lt, take, drop, map, length, List, [], ◌∷◌, ◌++◌, Option, Some, None, codes, string_bytes}
+use Rattle.std.specs.Prelude.{◌≡◌, ◌⊎◌, ◌==◌, ◌&&◌, ◌||◌, ℕ, zero, suc, ◌-◌, Bool, true, false, not, cond, nat_le, nat_lt, take, drop, map, length, List, [], ◌∷◌, ◌++◌, Option, Some, None, option_map, codes, string_bytes}
+use Rattle.std.specs.List.{slice_get, flat_map}
+use Rattle.std.specs.Fmt.{decimal}
 use Rattle.yaml_definitions.specs.model.Tree.{scalar}
 use Rattle.yaml_scalar.specs.Spelling.{quoted_bytes}
 use Rattle.yaml_graph.specs.GraphView.{roots_of, tree}
 use Rattle.yaml_graph.specs.declared.node.NodeId.{NodeId}
 use Rattle.yaml_graph.specs.declared.graph.Graph.{Graph}
 use Rattle.yaml_path.specs.Ways.{Way}
+use Rattle.yaml_path.specs.declared.places.Places.{Places}
+use Rattle.yaml_path.specs.declared.places.Places.TheVariants as places
 use Rattle.yaml_diff.specs.Lines.{way_of, line_of}
-use Rattle.yaml_diff.specs.Moves.{moved_line}
-use Rattle.yaml_diff.specs.Found.{FindsItems, moves_of}
+use Rattle.yaml_diff.specs.Moves.{moved_line, move_line_of}
+use Rattle.yaml_diff.specs.Found.{FindsItems}
+use Rattle.yaml_diff.specs.declared.difference.Step as code
+use Rattle.yaml_diff.specs.declared.difference.Step.TheVariants.{Item}
+use Rattle.yaml_diff.specs.declared.difference.Move.{Move}
 use Rattle.yaml_diff.specs.declared.difference.Difference.{Difference}
 use Rattle.yaml_diff.specs.declared.difference.Found.{Found}
 use Rattle.yaml_script.specs.Script.{IsScript}
@@ -20,9 +27,11 @@ use Rattle.review_args.specs.declared.words.Form.TheVariants as form
 use Rattle.review_patterns.specs.declared.pattern.Pattern.{Pattern}
 use Rattle.review_ignore.specs.Ignored.{Keeps}
 use Rattle.review_folds.specs.Folds.{Folds}
+use Rattle.review_folds.specs.Moves.{Groups}
+use Rattle.review_folds.specs.declared.moves.Group.{Group}
 use Rattle.review_text.specs.Shown.{front, shown}
 use Rattle.review_text.specs.NodeText.{text_of}
-use Rattle.review_text.specs.PathText.{path_text}
+use Rattle.review_text.specs.PathText.{bracketed, start_text, step_text, path_text}
 use Rattle.review_paths.specs.Pasted.{pasted}
 use Rattle.review_args.specs.declared.words.Paths.{Paths}
 use Rattle.review_args.specs.declared.words.Paths.TheVariants.{Plain, Jq, JsonPointer}
@@ -116,6 +125,11 @@ ShowsChanges g context color d (Some c) = ShowsScript g context color d (string_
 
 -- ---- what a program reads beside the texts
 
+-- differences and moves stand in columns
+abbrev pub is_line : Form → Bool
+is_line form.Line = true
+is_line form.Json = false
+
 -- Where JSON is written, the path and the values of the nodes.
 abbrev pub TellsMembers : Form → Graph → Difference → Option Members → Type 0
 TellsMembers form.Line g d m = m ≡ None
@@ -139,12 +153,13 @@ path_as Plain numbered left right w = path_text numbered w
 path_as Jq numbered left right w = pasted true numbered (has_left left right) (has_right left right) w
 path_as JsonPointer numbered left right w = pasted false numbered (has_left left right) (has_right left right) w
 
--- the line has the difference's path, what is shown of its nodes, and what a program reads of them
+-- the line has the difference's path, what is shown of its nodes, and what a program reads of them, and no label
 pub record TellsOne (both : Both) (asked : Diff) (d : Difference) (l : Line) : Type 0 where
   pub path : string_bytes l.path ≡ path_as asked.paths (is_numbered both) d.left d.right (way_of both.graph d.path.items)
   pub nodes : ShowsBoth both.graph (room_of asked.whole) d l.left l.right
   pub changes : ShowsChanges both.graph asked.context asked.color d l.changes
   pub members : TellsMembers asked.form both.graph d l.members
+  pub no_label : l.label ≡ None
 
 -- a line for each difference, in order
 abbrev pub TellsEach : Both → Diff → List Difference → List Line → Type 0
@@ -152,20 +167,76 @@ TellsEach both asked [] [] = Unit {0}
 TellsEach both asked (d ∷ ds) (l ∷ ls) = TellsOne both asked d l × TellsEach both asked ds ls
 TellsEach both asked _ _ = ⊥
 
--- a line for each pair of items that moved, in order: with the path of the items and no texts
-pub record TellsMoves (both : Both) (asked : Diff) (f : Found) (lines : List Line) : Type 0 where
-  pub moves : List Difference
-  pub are : map line_of moves ≡ map moved_line (moves_of f)
-  pub each : TellsEach both asked moves lines
-  pub alone : Folds false moves (map (λ l. l.count) lines)
+-- ---- paths of moves
 
--- The text is the lines of the differences that were found, and behind them those of the moves, and tells if there are more. Each difference has a line; one that is told by another line of the same nodes, if that is asked for, has one without a text.
+-- paths have the places of both sides in one step
+abbrev pub is_plain : Paths → Bool
+is_plain Plain = true
+is_plain Jq = false
+is_plain JsonPointer = false
+
+-- Where neighbours stand, by the step to the first of them and the places of the last one: on both sides alike, or on the left and on the right. Items that moved have both places.
+abbrev pub range_of : code.Step → Places → List ℕ
+range_of (Item (places.Both j k)) (places.Both m n) = decimal j ++ (codes "-" ++ (decimal m ++ cond (j == k) [] (codes ":" ++ (decimal k ++ (codes "-" ++ decimal n)))))
+range_of _ _ = []
+
+-- what the path to an item has before its last step
+abbrev pub before_text : Bool → Way → List ℕ
+before_text numbered [] = []
+before_text numbered (s ∷ w) = start_text numbered false s ++ flat_map step_text w
+
+-- documents stand without brackets
+abbrev pub range_path : Bool → code.Step → Places → Way → List ℕ
+range_path numbered first last [] = range_of first last
+range_path numbered first last (s ∷ w) = before_text numbered (s ∷ w) ++ bracketed (range_of first last)
+
+-- The path of a group, by the steps to its first items, the last one first: that of the list of which only the order changed; that of neighbours, of which the last one has these places; or that of one pair of items.
+abbrev pub group_text : Paths → Bool → Graph → Bool → Option Places → List code.Step → List ℕ
+group_text paths numbered g whole last [] = []
+group_text paths numbered g true last (s ∷ w) = path_as paths numbered None None (way_of g w)
+group_text paths numbered g false (Some z) (s ∷ w) = range_path numbered s z (way_of g w)
+group_text paths numbered g false None (s ∷ w) = path_as paths numbered None None (way_of g (s ∷ w))
+
+-- ---- lines of moves
+
+-- the places of the last move of a group, if it has several
+abbrev pub last_of : List Move → Group → Option Places
+last_of moves group = cond (nat_lt group.first (group.end - 1)) (option_map (λ m. m.places) (slice_get moves (group.end - 1))) None
+
+-- the difference has the path of the first move of the group, and no nodes
+pub record IsFirst (moves : List Move) (group : Group) (d : Difference) : Type 0 where
+  pub is : (m : Move) → slice_get moves group.first ≡ Some m → line_of d ≡ moved_line (move_line_of m)
+
+-- One line tells the moves of a group: with their path and no texts. Of the label nothing is said.
+pub record TellsGroup (both : Both) (asked : Diff) (moves : List Move) (group : Group) (l : Line) : Type 0 where
+  pub first : Difference
+  pub is_first : IsFirst moves group first
+  pub path : string_bytes l.path ≡ group_text asked.paths (is_numbered both) both.graph group.whole (last_of moves group) first.path.items
+  pub no_left : l.left ≡ None
+  pub no_right : l.right ≡ None
+  pub no_changes : l.changes ≡ None
+  pub members : TellsMembers asked.form both.graph first l.members
+  pub one : l.count ≡ 1
+
+-- a line for each group, in order
+abbrev pub TellsGroups : Both → Diff → List Move → List Group → List Line → Type 0
+TellsGroups both asked moves [] [] = Unit {0}
+TellsGroups both asked moves (g ∷ gs) (l ∷ ls) = TellsGroup both asked moves g l × TellsGroups both asked moves gs ls
+TellsGroups both asked moves _ _ = ⊥
+
+-- The moves that were found are in groups, in order, of one move each if they are not folded. Each group has a line.
+pub record TellsMoves (folds : Bool) (both : Both) (asked : Diff) (f : Found) (lines : List Line) : Type 0 where
+  pub groups : List Group
+  pub grouped : Groups folds (is_plain asked.paths) f 0 (length f.moves.items) groups
+  pub each : TellsGroups both asked f.moves.items groups lines
+
+-- The text is the lines of the differences that were found, and behind them those of the moves, and tells if there are more. Each difference has a line; one that is told by another line of the same nodes, if that is asked for, has one without a text. In columns, if that is asked for, a line may tell several moves.
 pub record TellsFound (both : Both) (asked : Diff) (f : Found) (text : List ℕ) : Type 0 where
   pub lines : List Line
   pub each : TellsEach both asked f.list.items lines
   pub folds : Folds asked.folds f.list.items (map (λ l. l.count) lines)
   pub move_lines : List Line
-  pub moves : TellsMoves both asked f move_lines
+  pub moves : TellsMoves (is_line asked.form && asked.folds) both asked f move_lines
   pub is : text ≡ (lines_text asked lines ++ lines_text asked move_lines) ++ cond f.whole [] (more_text asked.form)
 
 -- No line is written where none is asked for, whether or not there are differences.

@@ -37,9 +37,14 @@ place_text (Some p) = decimal p.line ++ (codes ":" ++ decimal p.column)
 abbrev pub column : List ℕ → List ℕ
 column text = codes "\t" ++ text
 
--- what the sides have: both texts or, of strings whose changed lines are printed below, how many lines there are and which are changed
+-- what stands where the left text does: the label in its place, if there is one
+abbrev pub label_or : Text → Text → List ℕ
+label_or (Some t) left = string_bytes t
+label_or None left = text_or_none left
+
+-- what the sides have: both texts or, of strings whose changed lines are printed below, how many lines there are and which are changed; of items that moved their label
 abbrev pub values : Option Changes → Line → List ℕ
-values None l = column (visible (text_or_none l.left)) ++ column (visible (text_or_none l.right))
+values None l = column (visible (label_or l.label l.left)) ++ column (visible (text_or_none l.right))
 values (Some c) l = column (visible (string_bytes c.summary))
 
 abbrev pub below : Option Changes → List ℕ

@@ -1,5 +1,5 @@
 -- What is listed of two streams.
-use Rattle.std.specs.Prelude.{◌≡◌, ◌==◌, ◌&&◌, ℕ, false, take, drop, map, length, List}
+use Rattle.std.specs.Prelude.{◌≡◌, ◌==◌, ◌&&◌, false, take, drop, map, length, List}
 use Rattle.yaml_graph.specs.GraphView.{roots_of}
 use Rattle.yaml_diff.specs.Found.{FindsItems}
 use Rattle.yaml_diff.specs.declared.difference.Found.{Found}
@@ -11,11 +11,11 @@ use Rattle.review_text.specs.declared.both.Both.{Both}
 use Rattle.review_lines.specs.Compared.{room_for, search_room, TellsEach, TellsMoves}
 use Rattle.review_lines.specs.declared.listed.Listed.{Listed}
 
--- A line for each difference that was found, in order, and one for each pair of items that moved: those that the text has.
+-- A line for each difference that was found, in order, and one for each pair of items that moved.
 pub record ListsFound (both : Both) (asked : Diff) (f : Found) (listed : Listed) : Type 0 where
   pub each : TellsEach both asked f.list.items listed.lines.items
   pub alone : Folds false f.list.items (map (λ l. l.count) listed.lines.items)
-  pub moves : TellsMoves both asked f listed.moves.items
+  pub moves : TellsMoves false both asked f listed.moves.items
   pub whole : listed.whole ≡ f.whole
   pub is_none : listed.same ≡ ((f.whole && (length f.list.items == 0)) && (length f.moves.items == 0))
 

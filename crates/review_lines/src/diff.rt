@@ -8,9 +8,10 @@ ghost use Rattle.yaml_diff.specs.Found.{FindsItems};
 ghost use Rattle.review_folds.specs.Folds.{Folds};
 ghost use Rattle.review_lines.specs.Lines.{lines_text};
 ghost use Rattle.review_lines.specs.Stat.{stat_text};
-ghost use Rattle.review_lines.specs.Compared.{room_of, room_for, search_room, is_numbered, has_left, has_right, path_as, ShowsNode, ShowsBoth, TellsMembers, TellsOne, TellsEach, TellsMoves, TellsFound, TellsAsked, TellsStreams};
+ghost use Rattle.review_lines.specs.Compared.{room_of, room_for, search_room, is_numbered, has_left, has_right, path_as, ShowsNode, ShowsBoth, is_line, TellsMembers, TellsOne, TellsEach, TellsFound, TellsAsked, TellsStreams};
 
 use crate::lines::{Line, put_more};
+use crate::moved::lines_of_moves;
 use crate::nodes::{Places, find_places, place_at};
 use crate::stat::stat_text;
 use crate::strings::{Budget, changed_lines, differing_parts};
@@ -25,7 +26,7 @@ use review_text::path::path_text;
 use review_text::text::{CUT, WHOLE, node_text};
 use review_values::{Members, members_of};
 use std::alloc::Global;
-use yaml_diff::{Difference, Found, as_differences, stream_differences};
+use yaml_diff::{Difference, Found, stream_differences};
 use yaml_graph::node::NodeId;
 use yaml_pair::Asked;
 use yaml_place::Place;
@@ -147,7 +148,7 @@ fn shown_both(
 }
 
 /// Whether paths tell the number of the document: unless each side has one document.
-fn is_numbered(both: &Both<'_>) -> bool
+pub(crate) fn is_numbered(both: &Both<'_>) -> bool
     ensures { result ≡ is_numbered both.now }
 {
     !(both.documents == 1 && both.graph.roots().len() == 2)
@@ -194,7 +195,7 @@ fn path_of(
 }
 
 /// What a program reads of a difference, where JSON is written.
-fn members_in(
+pub(crate) fn members_in(
     alloc: Global,
     both: &Both<'_>,
     difference: &Difference,
@@ -231,6 +232,7 @@ fn line_of(
     let members = members_in(alloc, both, difference, asked.form, budget)?;
     Ok(Line {
         path,
+        label: None,
         left: nodes.left,
         right: nodes.right,
         left_place: places.0,
@@ -298,29 +300,30 @@ fn put_each(alloc: Global, text: &mut String, lines: &[Line], asked: &Diff<'_>) 
 }
 
 /// How many bytes of a node are shown.
-fn room_of(whole: bool) -> usize
+pub(crate) fn room_of(whole: bool) -> usize
     ensures { result ≡ room_of whole }
 {
     if whole { WHOLE } else { CUT }
 }
 
-/// The lines of pairs of items that moved.
-#[tactic(auto, using(crate::proofs::CompareLaws::moves_told))]
-pub(crate) fn lines_of_moves(
-    alloc: Global,
-    both: &Both<'_>,
-    asked: &Diff<'_>,
-    sides: Option<(Traced<'_>, Traced<'_>)>,
-    found: &Found,
-) -> Result<Vec<Line>, Fault>
-    requires ranked { RanksAre both.now.graph both.now.ranks }
-    ensures { IfOk result (λ lines. TellsMoves both.now asked.now found.now lines.items) }
+/// Whether differences and moves stand in columns.
+fn is_line(form: Form) -> bool
+    ensures { result ≡ is_line form }
 {
-    let list = as_differences(alloc, &found.moves)?;
-    let sides = if list.is_empty() { None } else { sides };
-    let places = find_places(alloc, both, &list, sides)?;
-    let lines = lines_of(alloc, both, &list, asked, false, &places)?;
-    Ok(lines)
+    match form {
+        Form::Line => true,
+        Form::Json => false,
+    }
+}
+
+/// Whether one line may tell several moves: in columns, if that is asked for.
+fn folds_moves(asked: &Diff<'_>) -> bool
+    ensures { result ≡ (is_line asked.now.form && asked.now.folds) }
+{
+    match asked.form {
+        Form::Line => asked.folds,
+        Form::Json => false,
+    }
 }
 
 /// The lines of listed differences and moves as text.
@@ -338,7 +341,9 @@ fn text_of(
     let sides = if found.list.is_empty() { None } else { sides };
     let places = find_places(alloc, both, &found.list, sides)?;
     let lines = lines_of(alloc, both, &found.list, asked, asked.folds, &places)?;
-    let moves = lines_of_moves(alloc, both, asked, traced, found)?;
+    let folds = folds_moves(asked);
+    let labels = is_line(asked.form);
+    let moves = lines_of_moves(alloc, both, asked, traced, found, folds, labels)?;
     let mut text = String::new(alloc);
     put_each(alloc, &mut text, &lines, asked)?;
     put_each(alloc, &mut text, &moves, asked)?;

@@ -4,6 +4,7 @@
 pub mod diff;
 pub mod lines;
 pub mod listed;
+mod moved;
 mod nodes;
 mod stat;
 mod strings;

@@ -21,10 +21,12 @@ pub struct Changes {
     pub text: String,
 }
 
-/// One difference, or one pair of items that moved, as it is told.
+/// One difference, or items that moved, as they are told.
 #[derive(Drop)]
 pub struct Line {
     pub path: String,
+    /// What tells which items moved, in columns.
+    pub label: Option<String>,
     /// The texts of the two nodes, where there are nodes; none of both where a pair of items moved.
     pub left: Option<String>,
     pub right: Option<String>,
@@ -46,8 +48,8 @@ const MORE: &str = "...\n";
 const PLAIN: &str = "\u{1b}[0m";
 
 impl Line {
-    ghost use Rattle.std.specs.Prelude.{◌≡◌, ◌++◌, [], cond, option_map, string_bytes, OnOk};
-    ghost use Rattle.review_lines.specs.Lines.{sign, kind, color_text, plain_text, values, below, places_text, columns, told_text, left_value, right_value, steps_text, line_json, line_text};
+    ghost use Rattle.std.specs.Prelude.{◌≡◌, ◌++◌, [], cond, unwrap_or, option_map, string_bytes, OnOk};
+    ghost use Rattle.review_lines.specs.Lines.{sign, kind, color_text, plain_text, label_or, values, below, places_text, columns, told_text, left_value, right_value, steps_text, line_json, line_text};
 
     /// What the two sides have at the path: other things, or one of them nothing. Where both have no text, a pair of items moved.
     fn sign(&self) -> &'static str
@@ -84,14 +86,24 @@ impl Line {
         }
     }
 
-    /// Both texts or, of strings whose changed lines are printed below, what is said of these.
+    /// What stands where the left text does.
+    fn label(&self) -> Option<&str>
+        ensures { unwrap_or (option_map (λ told. told.now) result) [] ≡ label_or self.now.label self.now.left }
+    {
+        match &self.label {
+            Some(label) => Some(label.as_str()),
+            None => text_of(&self.left),
+        }
+    }
+
+    /// Both texts or, of strings whose changed lines are printed below, what is said of these; of items that moved their label.
     fn put_values(&self, out: &mut String) -> Result<(), Fault>
         ensures { OnOk result (string_bytes out.new ≡ string_bytes out.old ++ values self.now.changes self.now) }
     {
         match &self.changes {
             Some(changes) => put_column(out, Some(changes.summary.as_str())),
             None => {
-                put_column(out, text_of(&self.left))?;
+                put_column(out, self.label())?;
                 put_column(out, text_of(&self.right))
             }
         }

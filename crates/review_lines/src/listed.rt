@@ -5,8 +5,9 @@ ghost use Rattle.yaml_graph.specs.GraphView.{roots_of, tree};
 ghost use Rattle.yaml_rank.specs.RanksView.{RanksAre};
 ghost use Rattle.review_lines.specs.Listed.{ListsFound, ListsStreams};
 
-use crate::diff::{lines_of, lines_of_moves, list_of, lists_none, room_for, search_room};
+use crate::diff::{lines_of, list_of, lists_none, room_for, search_room};
 use crate::lines::Line;
+use crate::moved::lines_of_moves;
 use crate::nodes::find_places;
 use review_args::Diff;
 use review_ignore::kept;
@@ -42,7 +43,7 @@ fn lines_listed(
     let sides = if found.list.is_empty() { None } else { sides };
     let places = find_places(alloc, both, &found.list, sides)?;
     let lines = lines_of(alloc, both, &found.list, asked, false, &places)?;
-    let moves = lines_of_moves(alloc, both, asked, traced, found)?;
+    let moves = lines_of_moves(alloc, both, asked, traced, found, false, false)?;
     Ok(Listed {
         lines,
         moves,

@@ -156,7 +156,7 @@ pub static ROWS: [Row; 19] = [
         left: b"x: &a [p, q, r]\ny: *a\n",
         right: b"x: &a [r, p, q]\ny: *a\n",
         status: 1,
-        out: ">\t.x[2:0]\t\t\t1:14\t1:8\n>\t.y[2:0]\t\t\t1:14\t1:8\n",
+        out: ">\t.x[2:0]\t\"r\"\t\t1:14\t1:8\n>\t.y[2:0]\t\"r\"\t\t1:14\t1:8\n",
         err: "",
     },
     Row {

@@ -7,6 +7,205 @@ const CONTAINERS: &[u8] = b"- {name: a, image: x}\n- {name: b, image: y}\n- {nam
 
 const OTHERS: &[u8] = b"- {name: c, image: z}\n- {name: a, image: x}\n- {name: b, image: w}\n";
 
+/// Items of which the last two are moved to the front together.
+const LETTERS: &[u8] = b"x: [a, b, c, d, e]\n";
+
+const TURNED: &[u8] = b"x: [d, e, a, b, c]\n";
+
+/// Items of which two are moved to the front, each by itself.
+const NAMED: &[u8] =
+    b"- {name: a, v: 1}\n- {name: b, v: 1}\n- {name: c, v: 1}\n- {name: d, v: 1}\n";
+
+const SHUFFLED: &[u8] =
+    b"- {name: d, v: 1}\n- {name: c, v: 1}\n- {name: a, v: 1}\n- {name: b, v: 1}\n";
+
+/// Documents with a kind and a name.
+const OBJECTS: &[u8] =
+    b"--- {apiVersion: v1, kind: K, metadata: {name: a}}\n--- {apiVersion: v1, kind: K, metadata: {name: b}}\n--- {apiVersion: v1, kind: K, metadata: {name: c}}\n--- {apiVersion: v1, kind: K, metadata: {name: d}}\n--- {apiVersion: v1, kind: K, metadata: {name: e}}\n";
+
+pub static GROUPS: [Row; 20] = [
+    Row {
+        name: "neighbours that moved together",
+        words: &["diff", "left", "right"],
+        left: LETTERS,
+        right: TURNED,
+        status: 1,
+        out: ">\t.x[3-4:0-1]\t\"d\" and 1 more\t\t1:14\t1:5\n",
+        err: "",
+    },
+    Row {
+        name: "the same without folds",
+        words: &["diff", "--no-fold", "left", "right"],
+        left: LETTERS,
+        right: TURNED,
+        status: 1,
+        out: ">\t.x[3:0]\t\"d\"\t\t1:14\t1:5\n>\t.x[4:1]\t\"e\"\t\t1:17\t1:8\n",
+        err: "",
+    },
+    Row {
+        name: "the same with neither places nor folds",
+        words: &["diff", "--no-places", "--no-fold", "left", "right"],
+        left: LETTERS,
+        right: TURNED,
+        status: 1,
+        out: ">\t.x[3:0]\t\"d\"\t\n>\t.x[4:1]\t\"e\"\t\n",
+        err: "",
+    },
+    Row {
+        name: "the same as filters, which have no range",
+        words: &["diff", "--no-places", "--paths=jq", "left", "right"],
+        left: LETTERS,
+        right: TURNED,
+        status: 1,
+        out: ">\t.x\t.x\t5 items in another order, none changed\t\n",
+        err: "",
+    },
+    Row {
+        name: "neighbours of the list that is the document",
+        words: NO_PLACES,
+        left: b"[a, b, c, d, e]\n",
+        right: b"[d, e, a, b, c]\n",
+        status: 1,
+        out: ">\t[3-4:0-1]\t\"d\" and 1 more\t\n",
+        err: "",
+    },
+    Row {
+        name: "neighbours of a list in one of two documents",
+        words: NO_PLACES,
+        left: b"--- [a, b, c, d, e]\n--- z\n",
+        right: b"--- [d, e, a, b, c]\n--- z\n",
+        status: 1,
+        out: ">\t0[3-4:0-1]\t\"d\" and 1 more\t\n",
+        err: "",
+    },
+    Row {
+        name: "neighbours beside a difference",
+        words: NO_PLACES,
+        left: b"x: [a, b, c, d, e]\n",
+        right: b"x: [d, e, a, b, c, f]\n",
+        status: 1,
+        out: "+\t.x[5]\t\t\"f\"\n>\t.x[3-4:0-1]\t\"d\" and 1 more\t\n",
+        err: "",
+    },
+    Row {
+        name: "a list of which only the order changed",
+        words: NO_PLACES,
+        left: NAMED,
+        right: SHUFFLED,
+        status: 1,
+        out: ">\t.\t4 items in another order, none changed\t\n",
+        err: "",
+    },
+    Row {
+        name: "the same with places, which are those of the first item that moved",
+        words: &["diff", "left", "right"],
+        left: NAMED,
+        right: SHUFFLED,
+        status: 1,
+        out: ">\t.\t4 items in another order, none changed\t\t4:3\t1:3\n",
+        err: "",
+    },
+    Row {
+        name: "the same without folds",
+        words: &["diff", "--no-places", "--no-fold", "left", "right"],
+        left: NAMED,
+        right: SHUFFLED,
+        status: 1,
+        out: ">\t[3:0]\tname \"d\"\t\n>\t[2:1]\tname \"c\"\t\n",
+        err: "",
+    },
+    Row {
+        name: "a list of which only the order changed in JSON, which has each move",
+        words: &["diff", "--no-places", "--format=json", "left", "right"],
+        left: b"[a, b, c, d]\n",
+        right: b"[d, c, a, b]\n",
+        status: 1,
+        out: "{\"kind\":\"moved\",\"left\":null,\"left_place\":null,\"path\":\"[3:0]\",\"right\":null,\"right_place\":null,\"steps\":[{\"left\":0,\"right\":0},{\"left\":3,\"right\":0}]}\n{\"kind\":\"moved\",\"left\":null,\"left_place\":null,\"path\":\"[2:1]\",\"right\":null,\"right_place\":null,\"steps\":[{\"left\":0,\"right\":0},{\"left\":2,\"right\":1}]}\n",
+        err: "",
+    },
+    Row {
+        name: "a list of which not all moves are known",
+        words: &["diff", "--no-places", "--lines", "1", "left", "right"],
+        left: NAMED,
+        right: SHUFFLED,
+        status: 1,
+        out: ">\t[3:0]\tname \"d\"\t\n...\n",
+        err: "",
+    },
+    Row {
+        name: "a list of which the order changed, and an item",
+        words: NO_PLACES,
+        left: NAMED,
+        right: b"- {name: d, v: 1}\n- {name: c, v: 2}\n- {name: a, v: 1}\n- {name: b, v: 1}\n",
+        status: 1,
+        out: "~\t[2:1].v\t!!int \"1\"\t!!int \"2\"\n>\t[3:0]\tname \"d\"\t\n>\t[2:1]\tname \"c\"\t\n",
+        err: "",
+    },
+    Row {
+        name: "a list in an item of another list, of both of which the order changed",
+        words: NO_PLACES,
+        left: b"x: [{name: a, y: [1, 2, 3, 4]}, {name: b}, {name: c}, {name: d}]\n",
+        right: b"x: [{name: d}, {name: c}, {name: a, y: [4, 3, 1, 2]}, {name: b}]\n",
+        status: 1,
+        out: ">\t.x[0:2].y\t4 items in another order, none changed\t\n>\t.x[3:0]\tname \"d\"\t\n>\t.x[2:1]\tname \"c\"\t\n",
+        err: "",
+    },
+    Row {
+        name: "two lists of which only the order changed",
+        words: NO_PLACES,
+        left: b"{x: [a, b, c, d], y: [a, b, c, d]}\n",
+        right: b"{x: [d, c, a, b], y: [d, c, a, b]}\n",
+        status: 1,
+        out: ">\t.x\t4 items in another order, none changed\t\n>\t.y\t4 items in another order, none changed\t\n",
+        err: "",
+    },
+    Row {
+        name: "a list beside another key that changed",
+        words: NO_PLACES,
+        left: b"{x: [a, b, c, d], y: 1}\n",
+        right: b"{x: [d, c, a, b], y: 2}\n",
+        status: 1,
+        out: "~\t.y\t!!int \"1\"\t!!int \"2\"\n>\t.x\t4 items in another order, none changed\t\n",
+        err: "",
+    },
+    Row {
+        name: "documents of which only the order changed",
+        words: NO_PLACES,
+        left: OBJECTS,
+        right: b"--- {apiVersion: v1, kind: K, metadata: {name: e}}\n--- {apiVersion: v1, kind: K, metadata: {name: d}}\n--- {apiVersion: v1, kind: K, metadata: {name: a}}\n--- {apiVersion: v1, kind: K, metadata: {name: b}}\n--- {apiVersion: v1, kind: K, metadata: {name: c}}\n",
+        status: 1,
+        out: ">\t\t5 documents in another order, none changed\t\n",
+        err: "",
+    },
+    Row {
+        name: "documents that moved together",
+        words: NO_PLACES,
+        left: OBJECTS,
+        right: b"--- {apiVersion: v1, kind: K, metadata: {name: d}}\n--- {apiVersion: v1, kind: K, metadata: {name: e}}\n--- {apiVersion: v1, kind: K, metadata: {name: a}}\n--- {apiVersion: v1, kind: K, metadata: {name: b}}\n--- {apiVersion: v1, kind: K, metadata: {name: c}}\n",
+        status: 1,
+        out: ">\t3-4:0-1\tmetadata.name \"d\" and 1 more\t\n",
+        err: "",
+    },
+    Row {
+        name: "an item that has a number as its name",
+        words: NO_PLACES,
+        left: b"- {id: 1, path: /}\n- {id: 2, path: /}\n- {id: 3, path: /}\n",
+        right: b"- {id: 3, path: /}\n- {id: 1, path: /}\n- {id: 2, path: /}\n",
+        status: 1,
+        out: ">\t[2:0]\tid !!int \"3\"\t\n",
+        err: "",
+    },
+    Row {
+        name: "an item whose name is a list",
+        words: NO_PLACES,
+        left: b"- {name: [a], path: /a}\n- {name: [b], path: /b}\n- {name: [c], path: /c}\n",
+        right: b"- {name: [c], path: /c}\n- {name: [a], path: /a}\n- {name: [b], path: /b}\n",
+        status: 1,
+        out: ">\t[2:0]\tpath \"/c\"\t\n",
+        err: "",
+    },
+];
+
 pub static ROWS: [Row; 14] = [
     Row {
         name: "an item that moved, and one that changed",
@@ -14,7 +213,7 @@ pub static ROWS: [Row; 14] = [
         left: CONTAINERS,
         right: OTHERS,
         status: 1,
-        out: "~\t[1:2].image\t\"y\"\t\"w\"\t2:20\t3:20\n>\t[2:0]\t\t\t3:3\t1:3\n",
+        out: "~\t[1:2].image\t\"y\"\t\"w\"\t2:20\t3:20\n>\t[2:0]\tname \"c\"\t\t3:3\t1:3\n",
         err: "",
     },
     Row {
@@ -50,7 +249,7 @@ pub static ROWS: [Row; 14] = [
         left: b"x: [a, b, c]\n",
         right: b"x: [c, a, b]\n",
         status: 1,
-        out: ">\t.x[2:0]\t\t\n",
+        out: ">\t.x[2:0]\t\"c\"\t\n",
         err: "",
     },
     Row {
@@ -59,7 +258,7 @@ pub static ROWS: [Row; 14] = [
         left: b"- {name: a, v: 1}\n- {name: b, v: 2}\n",
         right: b"- {name: b, v: 3}\n- {name: a, v: 4}\n",
         status: 1,
-        out: "~\t[1:0].v\t!!int \"2\"\t!!int \"3\"\n~\t[0:1].v\t!!int \"1\"\t!!int \"4\"\n>\t[1:0]\t\t\n",
+        out: "~\t[1:0].v\t!!int \"2\"\t!!int \"3\"\n~\t[0:1].v\t!!int \"1\"\t!!int \"4\"\n>\t[1:0]\tname \"b\"\t\n",
         err: "",
     },
     Row {
@@ -77,7 +276,7 @@ pub static ROWS: [Row; 14] = [
         left: b"- {y: {host: a}, v: 1, w: 1}\n- {y: {host: b}, v: 2, w: 2}\n",
         right: b"- {y: {host: b}, v: 1, w: 1}\n- {y: {host: a}, v: 2, w: 2}\n",
         status: 1,
-        out: "~\t[1:0].v\t!!int \"2\"\t!!int \"1\"\n~\t[1:0].w\t!!int \"2\"\t!!int \"1\"\n~\t[0:1].v\t!!int \"1\"\t!!int \"2\"\n~\t[0:1].w\t!!int \"1\"\t!!int \"2\"\n>\t[1:0]\t\t\n",
+        out: "~\t[1:0].v\t!!int \"2\"\t!!int \"1\"\n~\t[1:0].w\t!!int \"2\"\t!!int \"1\"\n~\t[0:1].v\t!!int \"1\"\t!!int \"2\"\n~\t[0:1].w\t!!int \"1\"\t!!int \"2\"\n>\t[1:0]\t{\"v\" : !!int \"2\", \"w\" : !!int \"2\", \"y\" : {\"host\" : \"b\"}}\t\n",
         err: "",
     },
     Row {
@@ -95,7 +294,7 @@ pub static ROWS: [Row; 14] = [
         left: b"- {y: {host: a}, v: 1, w: 1}\n- {y: {host: b}, v: 2, w: 2}\n",
         right: b"- {y: {host: b}, v: 1, w: 1}\n- {y: {host: a}, v: 2, w: 2}\n",
         status: 1,
-        out: "~\t[1:0].v\t!!int \"2\"\t!!int \"1\"\n~\t[1:0].w\t!!int \"2\"\t!!int \"1\"\n~\t[0:1].v\t!!int \"1\"\t!!int \"2\"\n~\t[0:1].w\t!!int \"1\"\t!!int \"2\"\n>\t[1:0]\t\t\n",
+        out: "~\t[1:0].v\t!!int \"2\"\t!!int \"1\"\n~\t[1:0].w\t!!int \"2\"\t!!int \"1\"\n~\t[0:1].v\t!!int \"1\"\t!!int \"2\"\n~\t[0:1].w\t!!int \"1\"\t!!int \"2\"\n>\t[1:0]\t{\"v\" : !!int \"2\", \"w\" : !!int \"2\", \"y\" : {\"host\" : \"b\"}}\t\n",
         err: "",
     },
     Row {
@@ -104,7 +303,7 @@ pub static ROWS: [Row; 14] = [
         left: b"- {k: a, v: 1}\n- {k: b, v: 2}\n- {k: c, v: 3}\n",
         right: b"- {k: c, v: 9}\n- {k: a, v: 1}\n- {k: b, v: 2}\n",
         status: 1,
-        out: "~\t[2:0].v\t!!int \"3\"\t!!int \"9\"\n>\t[2:0]\t\t\n",
+        out: "~\t[2:0].v\t!!int \"3\"\t!!int \"9\"\n>\t[2:0]\t{\"k\" : \"c\", \"v\" : !!int \"3\"}\t\n",
         err: "",
     },
     Row {
@@ -131,7 +330,7 @@ pub static ROWS: [Row; 14] = [
         left: b"- {name: a, v: 1}\n- {name: a, v: 2}\n",
         right: b"- {name: a, v: 2}\n- {name: b, v: 1}\n",
         status: 1,
-        out: "~\t[0:1].name\t\"a\"\t\"b\"\n>\t[1:0]\t\t\n",
+        out: "~\t[0:1].name\t\"a\"\t\"b\"\n>\t[1:0]\tname \"a\"\t\n",
         err: "",
     },
     Row {

@@ -28,7 +28,7 @@ pub static ROWS: [Row; 12] = [
         left: CONTAINERS,
         right: OTHERS,
         status: 1,
-        out: "~\t.spec.containers[1].image\t.spec.containers[0].image\t\"y\"\t\"z\"\n>\t.spec.containers[1]\t.spec.containers[0]\t\t\n",
+        out: "~\t.spec.containers[1].image\t.spec.containers[0].image\t\"y\"\t\"z\"\n>\t.spec.containers[1]\t.spec.containers[0]\tname \"b\"\t\n",
         err: "",
     },
     Row {
@@ -37,7 +37,7 @@ pub static ROWS: [Row; 12] = [
         left: CONTAINERS,
         right: OTHERS,
         status: 1,
-        out: "~\t/spec/containers/1/image\t/spec/containers/0/image\t\"y\"\t\"z\"\n>\t/spec/containers/1\t/spec/containers/0\t\t\n",
+        out: "~\t/spec/containers/1/image\t/spec/containers/0/image\t\"y\"\t\"z\"\n>\t/spec/containers/1\t/spec/containers/0\tname \"b\"\t\n",
         err: "",
     },
     Row {
@@ -46,7 +46,7 @@ pub static ROWS: [Row; 12] = [
         left: b"[{name: a, v: 1}, {name: b, v: 2, w: 3}]\n",
         right: b"[{name: b, v: 2}, {name: a, v: 1}]\n",
         status: 1,
-        out: "-\t.[1].w\t-\t!!int \"3\"\t\n>\t.[1]\t.[0]\t\t\n",
+        out: "-\t.[1].w\t-\t!!int \"3\"\t\n>\t.[1]\t.[0]\tname \"b\"\t\n",
         err: "",
     },
     Row {

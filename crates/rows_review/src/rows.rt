@@ -33,11 +33,12 @@ fn is_told<T: Abort + AllocGlobal>(rt: &T, row: &Row) -> Result<(), Fail> {
 
 #[test]
 fn runs_over_two_files_are_told(rt: HostRuntime) -> Result<(), Fail> {
-    let tables: [&[Row]; 23] = [
+    let tables: [&[Row]; 24] = [
         &differences::ROWS,
         &ignored::ROWS,
         &strings::ROWS,
         &moves::ROWS,
+        &moves::GROUPS,
         &folds::ROWS,
         &pasted::ROWS,
         &empty_nodes::ROWS,

@@ -1,0 +1,123 @@
+-- The lines of moves.
+use Rattle.std.proofs.Common.{◌≡◌, ◌==◌, ℕ, suc, ◌≤◌, Bool, true, false, cond, List, [], ◌∷◌, ◌++◌, length, map, refl, sym, ◌∙◌, ap, subst, arith}
+use Rattle.std.specs.Prelude.{Option, Some, None, codes, string_bytes}
+use Rattle.std.specs.List.{slice_get, flat_map}
+use Rattle.std.proofs.lemmas.Bool.{eqb-true}
+use Rattle.std.proofs.lemmas.List.{length-reverse, length-map}
+use Rattle.yaml_diff.specs.declared.difference.Found.{Found}
+use Rattle.yaml_diff.specs.declared.difference.Move.{Move}
+use Rattle.review_args.specs.declared.words.Diff.{Diff}
+use Rattle.review_folds.specs.Moves.{Groups}
+use Rattle.review_folds.specs.declared.moves.Group.{Group}
+use Rattle.review_text.specs.declared.both.Both.{Both}
+use Rattle.yaml_graph.specs.declared.graph.Graph.{Graph}
+use Rattle.yaml_path.specs.Ways.{Way}
+use Rattle.yaml_path.specs.declared.places.Places.{Places}
+use Rattle.yaml_diff.specs.Lines.{way_of, step_of, line_of}
+use Rattle.yaml_diff.specs.Moves.{move_line_of, moved_line}
+use Rattle.yaml_diff.specs.declared.difference.Step as code
+use Rattle.yaml_diff.specs.declared.difference.Step.TheVariants.{Item}
+use Rattle.yaml_diff.specs.declared.difference.Difference.{Difference}
+use Rattle.review_args.specs.declared.words.Paths.{Paths}
+use Rattle.review_text.specs.PathText.{path_text, step_text, bracketed}
+use Rattle.review_lines.specs.Compared.{is_numbered, path_as, TellsMembers, range_of, before_text, range_path, group_text, last_of, IsFirst, TellsGroup, TellsGroups, TellsMoves}
+use Rattle.review_lines.specs.declared.lines.Line.{Line}
+
+groups-rise : (folds ranges : Bool) (f : Found) (at end : ℕ) (gs : List Group) → Groups folds ranges f at end gs → at ≤ end
+groups-rise folds ranges f at end [] h = omega (arith, h)
+groups-rise folds ranges f at end (g ∷ gs) h = let r = groups-rise folds ranges f g.end end gs h.3 in omega (arith, h.0, h.1, r)
+
+no-groups : (folds ranges : Bool) (f : Found) (end : ℕ) (gs : List Group) → end ≡ 0 → Groups folds ranges f 0 end gs → gs ≡ []
+no-groups folds ranges f end [] e h = refl
+no-groups folds ranges f end (g ∷ gs) e h = let r = groups-rise folds ranges f g.end end gs h.3 in absurd (omega (arith, e, h.0, h.1, r))
+
+no-lines : (both : Both) (asked : Diff) (moves : List Move) (ls : List Line) → TellsGroups both asked moves [] ls → ls ≡ []
+no-lines both asked moves [] h = refl
+no-lines both asked moves (l ∷ ls) h = absurd h
+
+pub moves_none : (folds : Bool) (both : Both) (asked : Diff) (f : Found) (ls : List Line) → f.moves.items ≡ [] → TellsMoves folds both asked f ls → ls ≡ []
+moves_none folds both asked f ls m t =
+    let none = no-groups folds _ f (length f.moves.items) t.groups (ap length m) t.grouped in
+    no-lines both asked f.moves.items ls (subst (λ z. TellsGroups both asked f.moves.items z ls) none t.each)
+
+-- ---- paths
+
+way-length : (g : Graph) (steps : List code.Step) → length (way_of g steps) ≡ length steps
+way-length g steps = length-reverse (map (step_of g) steps) ∙ length-map steps (step_of g)
+
+-- the document alone has nothing before the step to an item, where its number is not told
+pub before_alone : (g : Graph) (steps : List code.Step) (numbered : Bool) (text : List ℕ) → length steps ≡ 1 → numbered ≡ false → text ≡ [] → text ≡ before_text numbered (way_of g steps)
+before_alone g steps numbered text l n e = e ∙ subst (λ z. [] ≡ before_text z (way_of g steps)) (sym n) (by (way_of g steps) (way-length g steps ∙ l))
+  where
+    by : (w : Way) → length w ≡ 1 → [] ≡ before_text false w
+    by [] q = refl
+    by (s ∷ []) q = refl
+    by (s ∷ t ∷ w) q = absurd (omega (arith, q))
+
+not-alone : (b : Bool) → (b ≡ true → ⊥) → cond b (codes ".") [] ≡ []
+not-alone true h = absurd (h refl)
+not-alone false h = refl
+
+pub before_path : (g : Graph) (steps : List code.Step) (numbered : Bool) (text : List ℕ) → (length steps ≡ 1 → numbered ≡ false → ⊥) → text ≡ path_text numbered (way_of g steps) → text ≡ before_text numbered (way_of g steps)
+before_path g steps numbered text not e = e ∙ by numbered (way_of g steps) (λ q f. not (sym (way-length g steps) ∙ q) f)
+  where
+    by : (b : Bool) (w : Way) → (length w ≡ 1 → b ≡ false → ⊥) → path_text b w ≡ before_text b w
+    by b [] h = refl
+    by true (s ∷ w) h = refl
+    by false (s ∷ []) h = absurd (h refl refl)
+    by false (s ∷ t ∷ w) h = ap (λ z. z ++ flat_map step_text (t ∷ w)) (not-alone (suc (length w) == 0) (λ q. let z = eqb-true (suc (length w)) 0 q in absurd (omega (arith, z))))
+
+pub range_empty : (g : Graph) (steps : List code.Step) (numbered : Bool) (s : code.Step) (z : Places) (before text : List ℕ) → steps ≡ [] → before ≡ before_text numbered (way_of g steps) → text ≡ before ++ range_of s z → text ≡ range_path numbered s z (way_of g steps)
+range_empty g steps numbered s z before text e b t =
+    t ∙ ap (λ y. y ++ range_of s z) b ∙ subst (λ y. before_text numbered (way_of g y) ++ range_of s z ≡ range_path numbered s z (way_of g y)) (sym e) refl
+
+pub range_some : (g : Graph) (steps : List code.Step) (numbered : Bool) (s : code.Step) (z : Places) (before text : List ℕ) → (steps ≡ [] → ⊥) → before ≡ before_text numbered (way_of g steps) → text ≡ before ++ bracketed (range_of s z) → text ≡ range_path numbered s z (way_of g steps)
+range_some g steps numbered s z before text not b t = t ∙ ap (λ y. y ++ bracketed (range_of s z)) b ∙ by steps (way_of g steps) (way-length g steps) not
+  where
+    by : (xs : List code.Step) (w : Way) → length w ≡ length xs → (xs ≡ [] → ⊥) → before_text numbered w ++ bracketed (range_of s z) ≡ range_path numbered s z w
+    by [] w l n = absurd (n refl)
+    by (x ∷ xs) [] l n = absurd (omega (arith, l))
+    by (x ∷ xs) (t ∷ w) l n = refl
+
+module _ (paths : Paths) (numbered : Bool) (g : Graph) where
+  pub group_none : (whole : Bool) (last : Option Places) (path : List code.Step) (text : List ℕ) → path ≡ [] → text ≡ [] → text ≡ group_text paths numbered g whole last path
+  group_none whole last path text p e = e ∙ subst (λ z. [] ≡ group_text paths numbered g whole last z) (sym p) refl
+
+  pub group_whole : (whole : Bool) (last : Option Places) (path list : List code.Step) (s : code.Step) (text : List ℕ) → path ≡ s ∷ list → whole ≡ true → text ≡ path_as paths numbered None None (way_of g list) → text ≡ group_text paths numbered g whole last path
+  group_whole whole last path list s text p w e = e ∙ subst (λ z. path_as paths numbered None None (way_of g list) ≡ group_text paths numbered g z last path) (sym w) (subst (λ z. path_as paths numbered None None (way_of g list) ≡ group_text paths numbered g true last z) (sym p) refl)
+
+  pub group_range : (whole : Bool) (z : Places) (path list : List code.Step) (s : code.Step) (text : List ℕ) → path ≡ s ∷ list → whole ≡ false → text ≡ range_path numbered s z (way_of g list) → text ≡ group_text paths numbered g whole (Some z) path
+  group_range whole z path list s text p w e = e ∙ subst (λ y. range_path numbered s z (way_of g list) ≡ group_text paths numbered g y (Some z) path) (sym w) (subst (λ y. range_path numbered s z (way_of g list) ≡ group_text paths numbered g false (Some z) y) (sym p) refl)
+
+  pub group_one : (whole : Bool) (path list : List code.Step) (s : code.Step) (text : List ℕ) → path ≡ s ∷ list → whole ≡ false → text ≡ path_as paths numbered None None (way_of g path) → text ≡ group_text paths numbered g whole None path
+  group_one whole path list s text p w e = e ∙ subst (λ y. path_as paths numbered None None (way_of g path) ≡ group_text paths numbered g y None path) (sym w) (subst (λ y. path_as paths numbered None None (way_of g y) ≡ group_text paths numbered g false None y) (sym p) refl)
+
+-- ---- the first move of a group
+
+some-none : {X : Type 0} {x : X} → None ≡ Some x → ⊥
+some-none e = absurd (cc)
+
+some-is : {X : Type 0} {x y : X} → Some x ≡ Some y → x ≡ y
+some-is e = cc
+
+pub first_none : (moves : List Move) (group : Group) (d : Difference) → None ≡ slice_get moves group.first → IsFirst moves group d
+first_none moves group d n = record { is = λ m e. absurd (some-none (n ∙ e)) }
+
+pub first_some : (moves : List Move) (group : Group) (x : Move) (d : Difference) → Some x ≡ slice_get moves group.first → d.path.items ≡ Item x.places ∷ x.path.items → d.left ≡ None → d.right ≡ None → IsFirst moves group d
+first_some moves group x d s p l r = record { is = λ m e. pair ∙ ap (λ z. moved_line (move_line_of z)) (some-is (s ∙ e)) }
+  where
+    pair : line_of d ≡ moved_line (move_line_of x)
+    pair = ap (λ z. (z, (d.left, d.right))) p ∙ ap (λ z. (Item x.places ∷ x.path.items, (z, d.right))) l ∙ ap (λ z. (Item x.places ∷ x.path.items, (None, z))) r
+
+pub group_told : (both : Both) (asked : Diff) (moves : List Move) (group : Group) (d : Difference) (seen : List code.Step) (last : Option Places) (l : Line) → IsFirst moves group d → seen ≡ d.path.items → last ≡ last_of moves group
+    → string_bytes l.path ≡ group_text asked.paths (is_numbered both) both.graph group.whole last seen → l.left ≡ None → l.right ≡ None → l.changes ≡ None → TellsMembers asked.form both.graph d l.members → l.count ≡ 1 → TellsGroup both asked moves group l
+group_told both asked moves group d seen last l f s z p a b c m n = record {
+  first = d;
+  is_first = f;
+  path = p ∙ ap (group_text asked.paths (is_numbered both) both.graph group.whole last) s ∙ ap (λ y. group_text asked.paths (is_numbered both) both.graph group.whole y d.path.items) z;
+  no_left = a;
+  no_right = b;
+  no_changes = c;
+  members = m;
+  one = n;
+}

@@ -1,0 +1,294 @@
+//! The lines of items that moved.
+ghost use Rattle.std.specs.Prelude.{◌≡◌, ◌++◌, ◌∷◌, None, string_bytes, OnOk, IfOk};
+ghost use Rattle.yaml_rank.specs.RanksView.{RanksAre};
+ghost use Rattle.yaml_diff.specs.Lines.{way_of};
+ghost use Rattle.yaml_diff.specs.declared.difference.Step.TheVariants.{Item};
+ghost use Rattle.review_lines.specs.Compared.{is_numbered, path_as, is_plain, last_of, range_of, before_text, range_path, group_text, IsFirst, TellsGroup, TellsGroups, TellsMoves};
+
+use crate::diff::{is_numbered, members_in, room_of};
+use crate::lines::Line;
+use crate::nodes::{find_places, place_at};
+use crate::strings::Budget;
+use review_args::{Diff, Paths};
+use review_folds::{Group, groups};
+use review_labels::{Keys, label_of};
+use review_paths::pasted;
+use review_places::trace::Traced;
+use review_text::both::Both;
+use review_text::path::path_text;
+use std::alloc::Global;
+use yaml_diff::{Difference, Found, Move, Step};
+use yaml_path::places::Places;
+use yaml_place::Place;
+use yaml_text::fault::Fault;
+
+/// Whether paths are as the pages show them, with the places of both sides.
+fn is_plain(paths: Paths) -> bool
+    ensures { result ≡ is_plain paths }
+{
+    match paths {
+        Paths::Plain => true,
+        Paths::Jq | Paths::JsonPointer => false,
+    }
+}
+
+/// The path to the items of a move.
+fn item_path(alloc: Global, one: &Move) -> Result<Vec<Step>, Fault>
+    ensures { IfOk result (λ path. path.items ≡ Item one.now.places ∷ one.now.path.items) }
+{
+    let mut path = Vec::new(alloc);
+    path.push(Step::Item(one.places))?;
+    for step in &one.path {
+        path.push(*step)?;
+    }
+    Ok(path)
+}
+
+/// The first move of a group as a difference that has no node on either side, and whose path leads to the items.
+#[tactic(auto, using(crate::proofs::MoveLaws::first_none, crate::proofs::MoveLaws::first_some))]
+fn first_of(alloc: Global, moves: &[Move], group: Group) -> Result<Difference, Fault>
+    ensures { IfOk result (IsFirst moves.now group) }
+{
+    let Some(one) = moves.get(group.first) else {
+        return Ok(Difference {
+            path: Vec::new(alloc),
+            left: None,
+            right: None,
+        });
+    };
+    let path = item_path(alloc, one)?;
+    Ok(Difference {
+        path,
+        left: None,
+        right: None,
+    })
+}
+
+/// The places of the last move of a group, if it has several.
+fn last_of(moves: &[Move], group: Group) -> Option<Places>
+    ensures { result ≡ last_of moves.now group }
+{
+    let last = group.end.saturating_sub(1);
+    if group.first < last {
+        moves.get(last).map(|one| one.places)
+    } else {
+        None
+    }
+}
+
+/// Writes where neighbours stand on both sides: the places of the first one and of the last one.
+fn put_range(out: &mut String, first: Step, last: Places) -> Result<(), Fault>
+    ensures { OnOk result (string_bytes out.new ≡ string_bytes out.old ++ range_of first last) }
+{
+    match (first, last) {
+        (Step::Item(Places::Both(left, right)), Places::Both(left_end, right_end)) => {
+            if left == right {
+                write!(out, "{left}-{left_end}")?;
+            } else {
+                write!(out, "{left}-{left_end}:{right}-{right_end}")?;
+            }
+        }
+        _ => {}
+    }
+    Ok(())
+}
+
+/// What a plain path to an item of a list has before the item's own step.
+#[tactic(auto, using(crate::proofs::MoveLaws::before_alone, crate::proofs::MoveLaws::before_path))]
+fn before_text(alloc: Global, both: &Both<'_>, list: &[Step]) -> Result<String, Fault>
+    requires ranked { RanksAre both.now.graph both.now.ranks }
+    ensures { IfOk result (λ s. string_bytes s ≡ before_text (is_numbered both.now) (way_of both.now.graph list.now)) }
+{
+    let numbered = is_numbered(both);
+    if list.len() == 1 && !numbered {
+        return Ok(String::new(alloc));
+    }
+    path_text(alloc, both, list, numbered)
+}
+
+/// The path of neighbours that moved together: that to their list, and their places.
+#[tactic(auto, using(crate::proofs::MoveLaws::range_empty, crate::proofs::MoveLaws::range_some))]
+fn range_path(
+    alloc: Global,
+    both: &Both<'_>,
+    list: &[Step],
+    first: Step,
+    last: Places,
+) -> Result<String, Fault>
+    requires ranked { RanksAre both.now.graph both.now.ranks }
+    ensures { IfOk result (λ s. string_bytes s ≡ range_path (is_numbered both.now) first last (way_of both.now.graph list.now)) }
+{
+    let mut out = before_text(alloc, both, list)?;
+    if list.is_empty() {
+        put_range(&mut out, first, last)?;
+        return Ok(out);
+    }
+    out.push('[')?;
+    put_range(&mut out, first, last)?;
+    out.push(']')?;
+    Ok(out)
+}
+
+/// A path that both sides have, in the form that is asked for.
+fn path_of_both(
+    alloc: Global,
+    both: &Both<'_>,
+    paths: Paths,
+    path: &[Step],
+) -> Result<String, Fault>
+    requires ranked { RanksAre both.now.graph both.now.ranks }
+    ensures { IfOk result (λ s. string_bytes s ≡ path_as paths (is_numbered both.now) None None (way_of both.now.graph path.now)) }
+{
+    let numbered = is_numbered(both);
+    match paths {
+        Paths::Plain => path_text(alloc, both, path, numbered),
+        Paths::Jq => pasted(alloc, both, path, numbered, true, true, true),
+        Paths::JsonPointer => pasted(alloc, both, path, numbered, false, true, true),
+    }
+}
+
+/// The path of a group, where this one leads to its first items: that of the list of which only the order changed, that of neighbours
+/// that moved together, or that of the items alone.
+#[tactic(auto, using(crate::proofs::MoveLaws::group_none, crate::proofs::MoveLaws::group_whole, crate::proofs::MoveLaws::group_range, crate::proofs::MoveLaws::group_one))]
+fn group_path(
+    alloc: Global,
+    both: &Both<'_>,
+    paths: Paths,
+    whole: bool,
+    last: Option<Places>,
+    path: &[Step],
+) -> Result<String, Fault>
+    requires ranked { RanksAre both.now.graph both.now.ranks }
+    ensures { IfOk result (λ s. string_bytes s ≡ group_text paths (is_numbered both.now) both.now.graph whole last path.now) }
+{
+    let Some((first, list)) = path.split_first() else {
+        return Ok(String::new(alloc));
+    };
+    if whole {
+        return path_of_both(alloc, both, paths, list);
+    }
+    match last {
+        Some(last) => range_path(alloc, both, list, *first, last),
+        None => path_of_both(alloc, both, paths, path),
+    }
+}
+
+/// The label of a group, where labels are told.
+fn label_if(
+    alloc: Global,
+    both: &Both<'_>,
+    asked: &Diff<'_>,
+    keys: &Option<Keys>,
+    group: Group,
+    path: &[Step],
+) -> Result<Option<String>, Fault>
+    requires ranked { RanksAre both.now.graph both.now.ranks }
+{
+    match keys {
+        Some(keys) => label_of(alloc, both, keys, group, path, room_of(asked.whole)),
+        None => Ok(None),
+    }
+}
+
+/// The line of a group, with these places of its first items.
+#[tactic(auto, using(crate::proofs::MoveLaws::group_told))]
+fn line_of_group(
+    alloc: Global,
+    both: &Both<'_>,
+    asked: &Diff<'_>,
+    moves: &[Move],
+    group: Group,
+    keys: &Option<Keys>,
+    places: (Option<Place>, Option<Place>),
+) -> Result<Line, Fault>
+    requires ranked { RanksAre both.now.graph both.now.ranks }
+    ensures { IfOk result (TellsGroup both.now asked.now moves.now group) }
+{
+    let first = first_of(alloc, moves, group)?;
+    let last = last_of(moves, group);
+    let path = group_path(alloc, both, asked.paths, group.whole, last, &first.path)?;
+    let label = label_if(alloc, both, asked, keys, group, &first.path)?;
+    // There are no nodes, whose values alone take room.
+    let mut budget = Budget::new();
+    let members = members_in(alloc, both, &first, asked.form, &mut budget)?;
+    Ok(Line {
+        path,
+        label,
+        left: None,
+        right: None,
+        left_place: places.0,
+        right_place: places.1,
+        changes: None,
+        members,
+        count: 1,
+    })
+}
+
+/// The first move of each group as a difference.
+fn firsts(alloc: Global, moves: &[Move], groups: &[Group]) -> Result<Vec<Difference>, Fault> {
+    let mut list = Vec::new(alloc);
+    for group in groups {
+        list.push(first_of(alloc, moves, *group)?)?;
+    }
+    Ok(list)
+}
+
+/// The lines of groups, with places where both sides are given.
+fn lines_of_groups(
+    alloc: Global,
+    both: &Both<'_>,
+    asked: &Diff<'_>,
+    moves: &[Move],
+    groups: &[Group],
+    keys: &Option<Keys>,
+    sides: Option<(Traced<'_>, Traced<'_>)>,
+) -> Result<Vec<Line>, Fault>
+    requires ranked { RanksAre both.now.graph both.now.ranks }
+    ensures { IfOk result (λ lines. TellsGroups both.now asked.now moves.now groups.now lines.items) }
+{
+    let firsts = firsts(alloc, moves, groups)?;
+    let sides = if firsts.is_empty() { None } else { sides };
+    let places = find_places(alloc, both, &firsts, sides)?;
+    let mut lines = Vec::new(alloc);
+    for (number, group) in groups.iter().enumerate() {
+        let at = (
+            place_at(&places.left, number),
+            place_at(&places.right, number),
+        );
+        lines.push(line_of_group(alloc, both, asked, moves, *group, keys, at)?)?;
+    }
+    Ok(lines)
+}
+
+/// The keys that name items, where there are labels.
+fn keys_if(
+    alloc: Global,
+    both: &Both<'_>,
+    has_labels: bool,
+    groups: &[Group],
+) -> Result<Option<Keys>, Fault> {
+    if has_labels && !groups.is_empty() {
+        return Ok(Some(Keys::new(alloc, both)?));
+    }
+    Ok(None)
+}
+
+/// The lines of pairs of items that moved, each with a label if that is asked for. With folds, one line may tell several pairs.
+#[tactic(auto, using(crate::proofs::CompareLaws::moves_told))]
+pub(crate) fn lines_of_moves(
+    alloc: Global,
+    both: &Both<'_>,
+    asked: &Diff<'_>,
+    sides: Option<(Traced<'_>, Traced<'_>)>,
+    found: &Found,
+    folds: bool,
+    has_labels: bool,
+) -> Result<Vec<Line>, Fault>
+    requires ranked { RanksAre both.now.graph both.now.ranks }
+    ensures { IfOk result (λ lines. TellsMoves folds both.now asked.now found.now lines.items) }
+{
+    let groups = groups(alloc, folds, is_plain(asked.paths), found)?;
+    let keys = keys_if(alloc, both, has_labels, &groups)?;
+    let lines = lines_of_groups(alloc, both, asked, &found.moves, &groups, &keys, sides)?;
+    Ok(lines)
+}
