@@ -1,4 +1,8 @@
 //! The grammar of the program's words: its commands and their arguments.
+ghost use Rattle.std.specs.Prelude.{◌≡◌, false, IfOk, map};
+ghost use Rattle.clap.specs.Words.{app_of, new_rule, rule_of};
+ghost use Rattle.review_args.specs.Grammar.{IsLocal, app_for, command_with_globals, flag, letter, number, one_of, repeated, own, rule_for, shapes, program};
+
 use clap::builder::ValueParser;
 use clap::{Arg, ArgAction, Command};
 use std::alloc::{AllocError, Global};
@@ -26,21 +30,19 @@ enum Takes {
     Spelling,
     /// A number of lines.
     Lines,
-    /// One of two words, of which the first one is taken if none is given.
-    OneOf(&'static str, &'static [&'static str; 2]),
     /// The same, of which the default depends on other arguments.
     Most,
-    /// The form of what is found, of which the first one is taken if none is given.
+    /// The form of what is found.
     Form,
+    /// The form of what is shown.
+    Format,
     /// Words of a file, one with each use.
     Spelled,
     /// Keys.
     Keys,
-    /// A list of files, in place of files.
-    Names,
-    /// A list of digests, in place of files and of a list of them.
-    Digests,
-    /// All words, whatever they begin with.
+    /// The name of a list.
+    List,
+    /// All words.
     Words,
 }
 
@@ -156,7 +158,7 @@ const SHOW: [Row; 4] = [
     },
     Row {
         id: "format",
-        takes: Takes::OneOf("FORMAT", &FORMATS),
+        takes: Takes::Format,
         help: "YAML in block style, or a line of JSON for each document",
     },
     Row {
@@ -170,12 +172,12 @@ const SUM: [Row; 3] = [
     FILES,
     Row {
         id: "files-from",
-        takes: Takes::Names,
+        takes: Takes::List,
         help: "Take names from LIST, each ended by NUL or a line feed; `-` is standard input",
     },
     Row {
         id: "check",
-        takes: Takes::Digests,
+        takes: Takes::List,
         help: "Check the digests of LIST, which `sum` wrote",
     },
 ];
@@ -246,66 +248,85 @@ const FORM: Row = Row {
     help: "Lines of text, one JSON object a line, a page, a table, SARIF 2.1.0, or GitHub's annotations",
 };
 
-const FORMS: [&str; 6] = ["line", "json", "html", "markdown", "sarif", "github"];
+const FORMS: &[&str] = &["line", "json", "html", "markdown", "sarif", "github"];
 
-const FORMATS: [&str; 2] = ["yaml", "json"];
+const FORMATS: &[&str] = &["yaml", "json"];
 
-const COLORS: [&str; 3] = ["auto", "always", "never"];
+const COLORS: &[&str] = &["auto", "always", "never"];
 
-const SPELLINGS: [&str; 3] = ["plain", "jq", "jsonpointer"];
+const SPELLINGS: &[&str] = &["plain", "jq", "jsonpointer"];
+
+/// Whether an argument is given.
+fn flag<'a>(arg: Arg<'a>, id: &'a str) -> Arg<'a>
+    ensures rule { rule_of arg.entry ≡ new_rule id.entry.now → rule_of result ≡ flag id.entry.now }
+    ensures local { result.global ≡ arg.entry.global }
+{
+    arg.long(id).action(ArgAction::SetTrue)
+}
 
 /// A number of lines, at most so many.
-fn number<'a>(arg: Arg<'a>, row: &Row, most: u64) -> Arg<'a> {
-    arg.long(row.id)
+fn number<'a>(arg: Arg<'a>, id: &'a str, most: u64) -> Arg<'a>
+    ensures rule { rule_of arg.entry ≡ new_rule id.entry.now → rule_of result ≡ number id.entry.now most }
+    ensures local { result.global ≡ arg.entry.global }
+{
+    arg.long(id)
         .value_name("N")
         .value_parser(ValueParser::unsigned(0, most))
 }
 
-/// One of some words.
-fn one_of<'a>(arg: Arg<'a>, row: &Row, name: &'a str, words: &'a [&'a str]) -> Arg<'a> {
-    arg.long(row.id).value_name(name).value_parser(words)
+/// One of some words, of which one is taken if none is given.
+fn one_of<'a>(
+    arg: Arg<'a>,
+    id: &'a str,
+    name: &'a str,
+    words: &'a [&'a str],
+    taken: &'a str,
+) -> Arg<'a>
+    ensures rule { rule_of arg.entry ≡ new_rule id.entry.now → rule_of result ≡ one_of id.entry.now words.entry taken.entry.now }
+    ensures local { result.global ≡ arg.entry.global }
+{
+    arg.long(id)
+        .value_name(name)
+        .value_parser(words)
+        .default_value(taken)
 }
 
 /// A text, of which each use adds one.
-fn texts<'a>(arg: Arg<'a>, row: &Row, name: &'a str) -> Arg<'a> {
-    arg.long(row.id).value_name(name).action(ArgAction::Append)
+fn repeated<'a>(arg: Arg<'a>, id: &'a str, name: &'a str) -> Arg<'a>
+    ensures rule { rule_of arg.entry ≡ new_rule id.entry.now → rule_of result ≡ repeated id.entry.now }
+    ensures local { result.global ≡ arg.entry.global }
+{
+    arg.long(id).value_name(name).action(ArgAction::Append)
 }
 
 /// The argument that a row describes.
-fn arg_of<'a>(alloc: Global, row: &Row) -> Result<Arg<'a>, AllocError> {
+fn arg_of<'a>(alloc: Global, row: &Row) -> Arg<'a>
+    ensures rule { rule_of result ≡ rule_for row.now }
+    ensures local { result.global ≡ false }
+{
     let arg = Arg::new(alloc, row.id).help(row.help);
     match row.takes {
-        Takes::File => Ok(arg.required(true)),
-        Takes::LastFile => Ok(arg.required(false)),
-        Takes::Files => Ok(arg.num_args(0..).action(ArgAction::Append)),
-        Takes::Flag => Ok(arg.long(row.id).action(ArgAction::SetTrue)),
-        Takes::Letter(letter) => Ok(arg.long(row.id).short(letter).action(ArgAction::SetTrue)),
-        Takes::Lines => Ok(number(arg, row, 1_000_000).default_value("1000")),
-        Takes::Most => Ok(number(arg, row, 1_000_000)),
-        Takes::Around(letter) => Ok(number(arg, row, 1_000).short(letter).default_value("0")),
-        Takes::Color => Ok(one_of(arg, row, "WHEN", COLORS.as_slice()).default_value("auto")),
-        Takes::Paths => Ok(texts(arg, row, "PATH")),
-        Takes::Spelling => {
-            Ok(one_of(arg, row, "HOW", SPELLINGS.as_slice()).default_value(SPELLINGS[0]))
-        }
-        Takes::Spelled => Ok(texts(arg, row, "WORD")),
-        Takes::Form => Ok(one_of(arg, row, "FORM", FORMS.as_slice()).default_value(FORMS[0])),
-        Takes::OneOf(name, words) => {
-            Ok(one_of(arg, row, name, words.as_slice()).default_value(words[0]))
-        }
-        Takes::Keys => Ok(texts(arg, row, "KEYS")),
-        Takes::Names => arg.long(row.id).value_name("LIST").conflicts_with("FILE"),
-        Takes::Digests => arg
-            .long(row.id)
-            .value_name("LIST")
-            .conflicts_with_all(&["FILE", "files-from"]),
-        Takes::Words => Ok(
-            arg.required(true)
-                .num_args(1..)
-                .action(ArgAction::Append)
-                .trailing_var_arg(true)
-                .allow_hyphen_values(true),
-        ),
+        Takes::File => arg.required(true),
+        Takes::LastFile => arg.required(false),
+        Takes::Files => arg.num_args(0..).action(ArgAction::Append),
+        Takes::Flag => flag(arg, row.id),
+        Takes::Letter(letter) => flag(arg, row.id).short(letter),
+        Takes::Lines => number(arg, row.id, 1_000_000).default_value("1000"),
+        Takes::Most => number(arg, row.id, 1_000_000),
+        Takes::Around(letter) => number(arg, row.id, 1_000).short(letter).default_value("0"),
+        Takes::Color => one_of(arg, row.id, "WHEN", COLORS, "auto"),
+        Takes::Paths => repeated(arg, row.id, "PATH"),
+        Takes::Spelling => one_of(arg, row.id, "HOW", SPELLINGS, "plain"),
+        Takes::Spelled => repeated(arg, row.id, "WORD"),
+        Takes::Form => one_of(arg, row.id, "FORM", FORMS, "line"),
+        Takes::Format => one_of(arg, row.id, "FORMAT", FORMATS, "yaml"),
+        Takes::Keys => repeated(arg, row.id, "KEYS"),
+        Takes::List => arg.long(row.id).value_name("LIST"),
+        Takes::Words => arg
+            .required(true)
+            .num_args(1..)
+            .action(ArgAction::Append)
+            .trailing_var_arg(true),
     }
 }
 
@@ -421,10 +442,14 @@ const COMMANDS: [Entry; 7] = [
     },
 ];
 
-fn command_of<'a>(alloc: Global, entry: &Entry) -> Result<Command<'a>, AllocError> {
+/// A command with its arguments.
+fn command_of<'a>(alloc: Global, entry: &Entry) -> Result<Command<'a>, AllocError>
+    ensures app { IfOk result (λ c. app_of c ≡ app_for entry.now) }
+    ensures local { IfOk result IsLocal }
+{
     let mut args = Vec::new(alloc);
     for row in entry.rows {
-        args.push(arg_of(alloc, row)?)?;
+        args.push(arg_of(alloc, row))?;
     }
     Command::new(alloc, entry.name)
         .about(entry.about)
@@ -432,7 +457,10 @@ fn command_of<'a>(alloc: Global, entry: &Entry) -> Result<Command<'a>, AllocErro
         .args(args)
 }
 
-fn commands<'a>(alloc: Global) -> Result<Vec<Command<'a>>, AllocError> {
+/// The commands of the program.
+fn commands<'a>(alloc: Global) -> Result<Vec<Command<'a>>, AllocError>
+    ensures { IfOk result (λ list. map command_with_globals list.items ≡ map own shapes) }
+{
     let mut commands = Vec::new(alloc);
     for entry in &COMMANDS {
         commands.push(command_of(alloc, entry)?)?;
@@ -441,7 +469,9 @@ fn commands<'a>(alloc: Global) -> Result<Vec<Command<'a>>, AllocError> {
 }
 
 /// The grammar of the program's words.
-pub(crate) fn grammar<'a>(alloc: Global) -> Result<Command<'a>, AllocError> {
+pub(crate) fn grammar<'a>(alloc: Global) -> Result<Command<'a>, AllocError>
+    ensures { IfOk result (λ command. app_of command ≡ program) }
+{
     let commands = commands(alloc)?;
     Command::new(alloc, "yamlreview")
         .version("1.1.0 (yamlcanon-form-1)")
