@@ -1,13 +1,12 @@
 -- What a command has after arguments or subcommands are added in turn.
 use Rattle.std.proofs.Common.{◌≡◌, ◌∙◌, ◌||◌, Bool, true, false, List, [], ◌∷◌, map, fold, refl, sym, ap, ap₂, subst}
-use Rattle.clap.specs.Words.{AddsArg, AddsInTurn, AddsSubcommand, App, Rule, Shape, app_of, fields_of, is_simple_and_free, rule_of, shape_of, with_rule, with_subcommand}
+use Rattle.clap.specs.Words.{AddsArg, AddsInTurn, AddsSubcommand, App, Rule, Shape, app_of, is_simple_and_free, rule_of, shape_of, with_rule, with_subcommand}
 use Rattle.clap.specs.Simple.{is_simple}
 use Rattle.clap.specs.declared.builder.arg.Arg.{Arg}
 use Rattle.clap.specs.declared.builder.command.Command.{Command}
+use Rattle.clap.specs.declared.builder.command.Command.TheViews.{out-Command}
 use Rattle.clap.proofs.OnLiterals.{clap_on_literals}
-use Rattle.review_args.specs.declared.grammar.Entry.{Entry}
-use Rattle.review_args.specs.declared.grammar.TheConstants.{COMMANDS}
-use Rattle.review_args.specs.Grammar.{IsLocal, app_for, arg_with_global, command_with_globals, own, program, shapes}
+use Rattle.review_args.specs.Grammar.{Choices, IsLocal, IsProgram, arg_with_global, command_with_globals, own, program}
 
 pub args_added : (old new : Command) (args : List Arg) (rules : List Rule) → map arg_with_global args ≡ map own rules → AddsInTurn AddsArg old args new
     → app_of new ≡ fold with_rule (app_of old) rules
@@ -38,23 +37,23 @@ subcommands_added old new [] [] e h = ap app_of (sym h)
 subcommands_added old new [] (s ∷ all) e h = absurd (cc)
 subcommands_added old new (c ∷ commands) [] e h = absurd (cc)
 subcommands_added old new (c ∷ commands) (s ∷ all) e h =
-    let whole : (shape_of c, (fields_of c).has_globals) ∷ map command_with_globals commands ≡ (s, false) ∷ map own all = e in
-    let first : (shape_of c, (fields_of c).has_globals) ≡ (s, false) = cc in
+    let whole : (shape_of c, (out-Command c).has_globals) ∷ map command_with_globals commands ≡ (s, false) ∷ map own all = e in
+    let first : (shape_of c, (out-Command c).has_globals) ≡ (s, false) = cc in
     let rest : map command_with_globals commands ≡ map own all = cc in
     let one : app_of h.0 ≡ with_subcommand (app_of old) s = h.1.shape (ap (λ (p : Shape × Bool). p.1) first) ∙ ap (with_subcommand (app_of old)) (ap (λ (p : Shape × Bool). p.0) first) in
     subcommands_added h.0 new commands all rest h.2 ∙ ap (λ (app : App). fold with_subcommand app all) one
 
-abbrev pub shape_for : Entry → Shape
-shape_for entry = (app_for entry).top
-
--- the rows of the code are the table
-pub commands_are : map shape_for COMMANDS ≡ shapes
-commands_are = refl
-
-pub program_is_simple : is_simple program ≡ true
+program_is_simple : (choices : Choices) → is_simple (program choices) ≡ true
 unfolding clap_on_literals
-program_is_simple = refl
+program_is_simple choices = refl
 
-pub program_is_free : is_simple_and_free program ≡ true
+program_is_free : (choices : Choices) → is_simple_and_free (program choices) ≡ true
 unfolding clap_on_literals
-program_is_free = refl
+program_is_free choices = refl
+
+-- the grammar is one of which `clap` says what it makes of words
+pub is_read : (app : App) → IsProgram app → is_simple app ≡ true
+is_read app is = ap is_simple is.2 ∙ program_is_simple is.0
+
+pub is_judged : (app : App) → IsProgram app → is_simple_and_free app ≡ true
+is_judged app is = ap is_simple_and_free is.2 ∙ program_is_free is.0

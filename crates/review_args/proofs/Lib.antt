@@ -1,4 +1,4 @@
 mod Loops
 mod Adding
 mod Parsing
-mod Reading
+mod Getters

@@ -1,10 +1,12 @@
 -- From what `clap` answers to what the words ask for.
-use Rattle.std.proofs.Common.{◌≡◌, ◌∙◌, ◌⊎◌, Bool, List, [], Option, Some, None, Result, option_map, IfOk, IfErr, refl, sym, ap, inl, inr}
+use Rattle.std.proofs.Common.{◌≡◌, ◌∙◌, ◌⊎◌, Bool, List, [], Option, Some, None, Result, option_map, IfOk, IfErr, refl, sym, ap, inl, inr, subst}
 use Rattle.std.proofs.lemmas.Result.{IfErr-weaker, IfOk-weaker}
-use Rattle.clap.specs.Words.{HasKind, Row, Text, fault_of, kind_of, subcommand_of}
+use Rattle.clap.specs.Words.{App, IsAmong, Row, Text, fault_of, kind_of, subcommand_of}
 use Rattle.clap.specs.declared.error.Error.{Error}
+use Rattle.clap.specs.declared.error.kind.ErrorKind.{ErrorKind}
+use Rattle.clap.specs.declared.error.kind.ErrorKind.TheVariants as kind
 use Rattle.review_args.specs.declared.words.Asked.{Asked}
-use Rattle.review_args.specs.Grammar.{program}
+use Rattle.review_args.specs.Grammar.{IsProgram}
 use Rattle.review_args.specs.Words.{Asks, AsksIn, Finds, Refuses, RefusesCall, RefusesIn, git_words}
 
 -- the command below the top, by its name and its rows
@@ -20,20 +22,26 @@ pub none_entered : {B : Type 0} (f : B → Text) (g : B → List Row) (sub : Opt
 none_entered f g None a = refl
 none_entered f g (Some x) a = absurd (cc)
 
-module _ (words : List Text) (other : git_words words ≡ None) where
+module _ (words : List Text) (other : git_words words ≡ None) (app : App) (is : IsProgram app) where
   -- `clap` refuses the words
-  pub by_clap : (e : Error) → HasKind (fault_of program words) e → Refuses words (kind_of e)
-  by_clap e (inl memory) = inl memory
-  by_clap e (inr among) = inr (other, inl among)
+  pub by_clap : (k : ErrorKind) → (k ≡ kind.OutOfMemory) ⊎ IsAmong k (fault_of app words) → Refuses words k
+  by_clap k (inl memory) = inl memory
+  by_clap k (inr among) = inr (other, (app, (is, inl among)))
 
-  -- the words of a command
-  pub asked_in : (by : List Text) (is_terminal : Bool) (name : Text) (rows : List Row) → Finds words name rows → (r : Result Asked Error)
-      → IfOk r (AsksIn name rows by is_terminal) → IfOk r (Asks words by is_terminal)
-  asked_in by is_terminal name rows finds r h = IfOk-weaker r _ _ (λ asked is. inr (other, (name, (rows, (finds, is))))) h
+  module _ (accepted : fault_of app words ≡ []) where
+    -- the words of a command
+    pub asked_in : (by : List Text) (is_terminal : Bool) (name : Text) (rows : List Row) → subcommand_of app words ≡ Some (name, rows)
+        → (r : Result Asked Error) → IfOk r (AsksIn name rows by is_terminal) → IfOk r (Asks words by is_terminal)
+    asked_in by is_terminal name rows found r h =
+        let finds : Finds words name rows = record { app = app; is_program = is; accepted = accepted; found = found } in
+        IfOk-weaker r _ _ (λ asked asks. inr (other, (name, (rows, (finds, asks))))) h
 
-  pub refused_in : (name : Text) (rows : List Row) → Finds words name rows → (r : Result Asked Error)
-      → IfErr r (λ e. RefusesIn name rows (kind_of e)) → IfErr r (λ e. Refuses words (kind_of e))
-  refused_in name rows finds r h = IfErr-weaker r _ _ (λ e is. inr (other, inr (finds.accepted, rw finds.found is))) h
+    pub refused_in : (name : Text) (rows : List Row) → subcommand_of app words ≡ Some (name, rows) → (r : Result Asked Error)
+        → IfErr r (λ e. RefusesIn name rows (kind_of e)) → IfErr r (λ e. Refuses words (kind_of e))
+    refused_in name rows found r h = IfErr-weaker r _ _ (λ e refuses. refused (kind_of e) (Some (name, rows)) found refuses) h
+      where
+        refused : (k : ErrorKind) (o : Option (Text × List Row)) → subcommand_of app words ≡ o → RefusesCall o k → Refuses words k
+        refused k o e refuses = inr (other, (app, (is, inr (accepted, subst (λ (z : Option (Text × List Row)). RefusesCall z k) (sym e) refuses))))
 
-  pub refused_none : fault_of program words ≡ [] → subcommand_of program words ≡ None → (e : Error) → RefusesCall None (kind_of e) → Refuses words (kind_of e)
-  refused_none accepted none e is = inr (other, inr (accepted, rw none is))
+    pub refused_none : subcommand_of app words ≡ None → (k : ErrorKind) → RefusesCall None k → Refuses words k
+    refused_none none k refuses = inr (other, (app, (is, inr (accepted, subst (λ (z : Option (Text × List Row)). RefusesCall z k) (sym none) refuses))))

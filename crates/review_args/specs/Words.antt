@@ -3,14 +3,14 @@ use Rattle.std.specs.Prelude.{◌≡◌, ◌⊎◌, ℕ, ◌^◌, nat_lt, min, �
 use Rattle.std.specs.List.{list_any}
 use Rattle.std.specs.Str.{bytes_eq}
 use Rattle.std.specs.Str.Parse.{digits_value, without_leading_plus}
-use Rattle.clap.specs.Words.{IsAmong, Row, Text, all_of, fault_of, first_of, one_of, subcommand_of}
+use Rattle.clap.specs.Words.{App, IsAmong, Row, Text, all_of, fault_of, first_of, one_of, subcommand_of}
 use Rattle.clap.specs.Walk.{is_empty, texts}
 use Rattle.clap.specs.ValueTests.{is_numeral}
 use Rattle.clap.specs.declared.error.kind.ErrorKind.{ErrorKind}
 use Rattle.clap.specs.declared.error.kind.ErrorKind.TheVariants as kind
 use Rattle.review_patterns.specs.Patterns.{IsPattern, steps_of}
 use Rattle.review_patterns.specs.declared.pattern.Pattern.{Pattern}
-use Rattle.review_args.specs.Grammar.{program}
+use Rattle.review_args.specs.Grammar.{IsProgram}
 use Rattle.review_args.specs.declared.words.Asked.{Asked}
 use Rattle.review_args.specs.declared.words.Asked.TheVariants as asks
 use Rattle.review_args.specs.declared.words.Diff.{Diff}
@@ -205,8 +205,10 @@ AsksGit words _ = ⊥
 
 -- `clap` accepts the words, as those of the command of this name, and finds these rows
 pub record Finds (words : List Text) (name : Text) (rows : List Row) : Type 0 where
-  pub accepted : fault_of program words ≡ []
-  pub found : subcommand_of program words ≡ Some (name, rows)
+  pub app : App
+  pub is_program : IsProgram app
+  pub accepted : fault_of app words ≡ []
+  pub found : subcommand_of app words ≡ Some (name, rows)
 
 -- The words ask for this.
 abbrev pub Asks : List Text → List Text → Bool → Asked → Type 0
@@ -218,8 +220,9 @@ abbrev pub keys_in : Option (Text × List Row) → List Text
 keys_in None = []
 keys_in (Some command) = if bytes_eq command.0 (codes "diff") then texts_in (codes "by") command.1 else []
 
-abbrev pub keys_of : List Text → List Text
-keys_of words = keys_in (subcommand_of program words)
+-- these are they, if `clap` accepts the words
+abbrev pub HasKeys : List Text → List Text → Type 0
+HasKeys words keys = (app : App) × IsProgram app × (fault_of app words ≡ [] → keys ≡ keys_in (subcommand_of app words))
 
 -- ---- why they ask for nothing
 
@@ -249,8 +252,9 @@ abbrev pub RefusesCall : Option (Text × List Row) → ErrorKind → Type 0
 RefusesCall None k = (k ≡ kind.OutOfMemory) ⊎ (k ≡ kind.MissingSubcommand)
 RefusesCall (Some command) k = RefusesIn command.0 command.1 k
 
+abbrev pub RefusesBy : App → List Text → ErrorKind → Type 0
+RefusesBy app words k = IsAmong k (fault_of app words) ⊎ ((fault_of app words ≡ []) × RefusesCall (subcommand_of app words) k)
+
 -- Memory is refused; or `clap` refuses the words; or it accepts them, and what they say can't be asked.
 abbrev pub Refuses : List Text → ErrorKind → Type 0
-Refuses words k = (k ≡ kind.OutOfMemory)
-    ⊎ ((git_words words ≡ None) × (IsAmong k (fault_of program words)
-    ⊎ ((fault_of program words ≡ []) × RefusesCall (subcommand_of program words) k)))
+Refuses words k = (k ≡ kind.OutOfMemory) ⊎ ((git_words words ≡ None) × ((app : App) × IsProgram app × RefusesBy app words k))

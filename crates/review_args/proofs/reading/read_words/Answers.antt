@@ -5,4 +5,4 @@ use Rattle.clap.specs.Simple.{is_simple}
 use Rattle.review_args.specs.Grammar.{program}
 use Rattle.review_args.proofs.Adding.{program_is_free, program_is_simple}
 use Rattle.review_args.proofs.Parsing.{asked_in, by_clap, entered_is, none_entered, refused_in, refused_none}
-use Rattle.review_args.proofs.words.read_words.Goals as goal
+use Rattle.review_args.proofs.reading.read_words.Goals as goal
