@@ -36,8 +36,9 @@ number_read t (Ok m) h n e =
     rw (lt-ltb 0 (length ds) h.0.0.0, digits_pass ds h.0.0.1, lt-ltb (digits_value 10 ds) (2 ^ 64) h.0.1) (ap Some (sym same ∙ h.1))
 number_read t (Err x) h n e = absurd (cc)
 
-no_number : {E : Type 0} (t : Text) (x : E) → ParsesUnsigned 64 10 t (Err {ℕ} x) → None ≡ number_of t
-no_number t x h = go (is_number (without_leading_plus t)) refl
+no_number : {E : Type 0} (t : Text) (r : Result ℕ E) → ParsesUnsigned 64 10 t r → (x : E) → r ≡ Err x → None ≡ number_of t
+no_number t (Ok m) h x e = absurd (cc)
+no_number t (Err y) h x e = go (is_number (without_leading_plus t)) refl
   where
     go : (b : Bool) → is_number (without_leading_plus t) ≡ b → None ≡ number_of t
     go false u = rw u refl
@@ -54,7 +55,7 @@ one_number {E} G only f id r none value = go (one_text f id) refl ∙ ap (option
   where
     read : (t : Text) (o : Option ℕ) → ReadsOne G t o → o ≡ number_of t
     read t (Some n) h = number_read t (Ok n) (only t (Ok n) h) n refl
-    read t None h = no_number t h.0 (only t (Err h.0) h.1)
+    read t None h = no_number t (Err h.0) (only t (Err h.0) h.1) h.0 refl
 
     go : (o : Option Text) → one_text f id ≡ o → r ≡ option_and_then number_of (one_text f id)
     go None e = none e ∙ sym (ap (option_and_then number_of) e)

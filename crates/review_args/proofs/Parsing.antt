@@ -11,14 +11,14 @@ use Rattle.review_args.specs.Words.{Asks, AsksIn, Finds, Refuses, RefusesCall, R
 
 -- the command below the top, by its name and its rows
 pub entered_is : {B : Type 0} (f : B → Text) (g : B → List Row) (sub : Option B) (n : Text) (r : List Row) → Some n ≡ option_map f sub
-    → Some r ≡ option_map (λ (p : Text × List Row). p.1) (option_map (λ b. (f b, g b)) sub) → option_map (λ b. (f b, g b)) sub ≡ Some (n, r)
+    → Some r ≡ option_map (λ (p : Text × List Row). p.1) (option_map {U = Text × List Row} (λ b. (f b, g b)) sub) → option_map {U = Text × List Row} (λ b. (f b, g b)) sub ≡ Some (n, r)
 entered_is f g None n r a b = absurd (cc)
 entered_is f g (Some x) n r a b =
     let name : f x ≡ n = cc in
     let rows : g x ≡ r = cc in
     λ i. Some (name i, rows i)
 
-pub none_entered : {B : Type 0} (f : B → Text) (g : B → List Row) (sub : Option B) → None ≡ option_map f sub → option_map (λ b. (f b, g b)) sub ≡ None
+pub none_entered : {B : Type 0} (f : B → Text) (g : B → List Row) (sub : Option B) → None ≡ option_map f sub → option_map {U = Text × List Row} (λ b. (f b, g b)) sub ≡ None
 none_entered f g None a = refl
 none_entered f g (Some x) a = absurd (cc)
 
@@ -26,7 +26,7 @@ module _ (words : List Text) (other : git_words words ≡ None) (app : App) (is 
   -- `clap` refuses the words
   pub by_clap : (k : ErrorKind) → (k ≡ kind.OutOfMemory) ⊎ IsAmong k (fault_of app words) → Refuses words k
   by_clap k (inl memory) = inl memory
-  by_clap k (inr among) = inr (other, (app, (is, inl among)))
+  by_clap k (inr among) = inr (other, (app, is, inl among))
 
   module _ (accepted : fault_of app words ≡ []) where
     -- the words of a command
@@ -34,14 +34,14 @@ module _ (words : List Text) (other : git_words words ≡ None) (app : App) (is 
         → (r : Result Asked Error) → IfOk r (AsksIn name rows by is_terminal) → IfOk r (Asks words by is_terminal)
     asked_in by is_terminal name rows found r h =
         let finds : Finds words name rows = record { app = app; is_program = is; accepted = accepted; found = found } in
-        IfOk-weaker r _ _ (λ asked asks. inr (other, (name, (rows, (finds, asks))))) h
+        IfOk-weaker r _ _ (λ asked asks. inr (other, (name, rows, finds, asks))) h
 
     pub refused_in : (name : Text) (rows : List Row) → subcommand_of app words ≡ Some (name, rows) → (r : Result Asked Error)
         → IfErr r (λ e. RefusesIn name rows (kind_of e)) → IfErr r (λ e. Refuses words (kind_of e))
     refused_in name rows found r h = IfErr-weaker r _ _ (λ e refuses. refused (kind_of e) (Some (name, rows)) found refuses) h
       where
         refused : (k : ErrorKind) (o : Option (Text × List Row)) → subcommand_of app words ≡ o → RefusesCall o k → Refuses words k
-        refused k o e refuses = inr (other, (app, (is, inr (accepted, subst (λ (z : Option (Text × List Row)). RefusesCall z k) (sym e) refuses))))
+        refused k o e refuses = inr (other, (app, is, inr (accepted, subst (λ (z : Option (Text × List Row)). RefusesCall z k) (sym e) refuses)))
 
     pub refused_none : subcommand_of app words ≡ None → (k : ErrorKind) → RefusesCall None k → Refuses words k
-    refused_none none k refuses = inr (other, (app, (is, inr (accepted, subst (λ (z : Option (Text × List Row)). RefusesCall z k) (sym none) refuses))))
+    refused_none none k refuses = inr (other, (app, is, inr (accepted, subst (λ (z : Option (Text × List Row)). RefusesCall z k) (sym none) refuses)))

@@ -1,5 +1,5 @@
 -- Words in the order in which `kubectl diff` passes them.
-use Rattle.std.specs.Prelude.{ℕ, ◌==◌, ◌&&◌, Bool, false, cond, codes, List, [], ◌∷◌, ◌++◌}
+use Rattle.std.specs.Prelude.{ℕ, ◌==◌, ◌&&◌, Bool, false, cond, codes, List, [], ◌∷◌, ◌++◌, drop, take}
 use Rattle.std.specs.Str.{bytes_eq}
 
 -- the text begins with `/`
@@ -12,11 +12,6 @@ abbrev pub are_kubectls : List (List ℕ) → Bool
 are_kubectls (left ∷ right ∷ command ∷ options) = is_absolute left && (is_absolute right && bytes_eq command (codes "diff"))
 are_kubectls _ = false
 
--- the first two words behind the others
-abbrev pub folders_last : List (List ℕ) → List (List ℕ)
-folders_last (left ∷ right ∷ rest) = rest ++ left ∷ right ∷ []
-folders_last words = words
-
--- The command is first.
+-- The command is first, and the folders are last.
 abbrev pub in_order : List (List ℕ) → List (List ℕ)
-in_order words = cond (are_kubectls words) (folders_last words) words
+in_order words = cond (are_kubectls words) (drop 2 words ++ take 2 words) words

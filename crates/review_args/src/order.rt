@@ -1,22 +1,36 @@
 //! Words in the order in which kubectl passes them.
 ghost use Rattle.std.specs.Prelude.{◌≡◌, ◌++◌, IfOk, OnOk, map, string_bytes};
-ghost use Rattle.review_args.specs.Order.{are_kubectls, in_order};
+ghost use Rattle.review_args.specs.Order.{are_kubectls, in_order, is_absolute};
 
 use std::alloc::{AllocError, Global};
 
 /// The command that kubectl calls.
 const NAME: &str = "diff";
 
+/// Whether a text is an absolute path.
+fn is_absolute(text: &str) -> bool
+    ensures { result ≡ is_absolute text.now }
+{
+    match text.as_bytes().first() {
+        Some(byte) => *byte == b'/',
+        None => false,
+    }
+}
+
 /// Whether kubectl passes these words: the paths of two folders, and behind them the command and its options.
 fn are_kubectls(words: &[String]) -> bool
     ensures { result ≡ are_kubectls (map string_bytes words.now) }
 {
-    match (words.first(), words.get(1), words.get(2)) {
-        (Some(left), Some(right), Some(name)) => {
-            left.starts_with('/') && right.starts_with('/') && name.as_str() == NAME
-        }
-        _ => false,
-    }
+    let Some((left, behind)) = words.split_first() else {
+        return false;
+    };
+    let Some((right, behind)) = behind.split_first() else {
+        return false;
+    };
+    let Some((name, _)) = behind.split_first() else {
+        return false;
+    };
+    is_absolute(left.as_str()) && is_absolute(right.as_str()) && name.as_str() == NAME
 }
 
 /// Copies words behind others.

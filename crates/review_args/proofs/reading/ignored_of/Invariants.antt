@@ -4,4 +4,4 @@ use Rattle.review_args.specs.Words.{ArePatterns}
 use Rattle.review_args.proofs.reading.ignored_of.Given as goal
 
 abbrev pub invariant-loop-text : goal.invariant-loop-text
-invariant-loop-text l = ArePatterns (texts (take l.text-index l.texts.items)) l.list.items
+invariant-loop-text l = ArePatterns (texts (take l.text-index l.text-items)) l.list.items
