@@ -14,3 +14,6 @@ map_all f g xs i ys l h = h ∙ ap (map g) (take_all i xs l)
 pub map_twice : {X Y Z : Type 0} (g : Y → Z) (f : X → Y) (xs : List X) → map (λ x. g (f x)) xs ≡ map g (map f xs)
 map_twice g f [] = refl
 map_twice {X} {Y} {Z} g f (x ∷ xs) = ap (λ (zs : List Z). g (f x) ∷ zs) (map_twice g f xs)
+
+pub take_next : {X Z : Type 0} (g : X → Z) (xs : List X) (i : ℕ) (d : X) → i < length xs → map g (take (i + 1) xs) ≡ map g (take i xs) ++ g (get_or xs i d) ∷ []
+take_next g xs i d l = ap (map g) (take-suc xs i d l) ∙ map-append g (take i xs) (get_or xs i d ∷ [])

@@ -1,6 +1,6 @@
 //! Reads the program's words.
 ghost use Rattle.std.specs.Prelude.{◌≡◌, ◌≤◌, List, ℕ, true, false, codes, IfOk, IfErr, map, min, option_map, string_bytes, unwrap_or, ◌&&◌, not};
-ghost use Rattle.clap.specs.Words.{Row, first_of, found_of, kind_of, rows_of};
+ghost use Rattle.clap.specs.Words.{Row, all_of, first_of, found_of, kind_of, rows_of};
 ghost use Rattle.clap.specs.Walk.{texts};
 ghost use Rattle.clap.specs.declared.parser.matches.ArgMatches.{ArgMatches};
 ghost use Rattle.review_args.specs.Words.{
@@ -181,6 +181,13 @@ fn color_of(matches: &ArgMatches<'_>, is_terminal: bool) -> bool
     }
 }
 
+/// All values of an argument, if it has any.
+fn values_of<'m, 'a>(matches: &'m ArgMatches<'a>, id: &str) -> Option<&'m [&'a str]>
+    ensures { option_map (λ s. texts s.now) result ≡ all_of id.now (rows_of (found_of matches.now)) }
+{
+    matches.get_strs(id)
+}
+
 /// All values of an argument.
 fn texts_of<'a>(
     alloc: Global,
@@ -189,11 +196,14 @@ fn texts_of<'a>(
 ) -> Result<Vec<&'a str>, AllocError>
     ensures { IfOk result (λ list. texts list.items ≡ texts_in id.now (rows_of (found_of matches.now))) }
 {
-    let mut list = Vec::new(alloc);
-    if let Some(values) = matches.get_strs(id) {
-        list.extend_from_slice(values)?;
+    match values_of(matches, id) {
+        Some(values) => {
+            let mut list = Vec::new(alloc);
+            list.extend_from_slice(values)?;
+            Ok(list)
+        }
+        None => Ok(Vec::new(alloc)),
     }
-    Ok(list)
 }
 
 /// The names of files; with none, that of standard input.
