@@ -1,13 +1,13 @@
 -- From what `clap` answers to what the words ask for.
 use Rattle.std.proofs.Common.{◌≡◌, ◌∙◌, ◌⊎◌, Bool, List, [], Option, Some, None, Result, option_map, IfOk, IfErr, refl, sym, ap, inl, inr, subst}
 use Rattle.std.proofs.lemmas.Result.{IfErr-weaker, IfOk-weaker}
-use Rattle.clap.specs.Words.{App, IsAmong, Row, Text, fault_of, kind_of, subcommand_of}
+use Rattle.clap.specs.Words.{App, IsAmong, Kinds, Row, Text, fault_of, kind_of, subcommand_of}
 use Rattle.clap.specs.declared.error.Error.{Error}
 use Rattle.clap.specs.declared.error.kind.ErrorKind.{ErrorKind}
 use Rattle.clap.specs.declared.error.kind.ErrorKind.TheVariants as kind
 use Rattle.review_args.specs.declared.words.Asked.{Asked}
 use Rattle.review_args.specs.Grammar.{IsProgram}
-use Rattle.review_args.specs.Words.{Asks, AsksIn, Finds, Refuses, RefusesCall, RefusesIn, git_words}
+use Rattle.review_args.specs.Words.{Asks, AsksIn, Finds, HasKeys, Refuses, RefusesCall, RefusesIn, git_words, keys_in}
 
 -- the command below the top, by its name and its rows
 pub entered_is : {B : Type 0} (f : B → Text) (g : B → List Row) (sub : Option B) (n : Text) (r : List Row) → Some n ≡ option_map f sub
@@ -45,3 +45,16 @@ module _ (words : List Text) (other : git_words words ≡ None) (app : App) (is 
 
     pub refused_none : subcommand_of app words ≡ None → (k : ErrorKind) → RefusesCall None k → Refuses words k
     refused_none none k refuses = inr (other, (app, is, inr (accepted, subst (λ (z : Option (Text × List Row)). RefusesCall z k) (sym none) refuses)))
+
+-- The keys of words that `clap` refuses are of no use.
+pub keys_of_none : (words keys : List Text) (app : App) → IsProgram app → (k : ErrorKind) → (k ≡ kind.OutOfMemory) ⊎ IsAmong k (fault_of app words) → (k ≡ kind.OutOfMemory → ⊥)
+    → HasKeys words keys
+keys_of_none words keys app is k has other = (app, is, λ accepted. go accepted has)
+  where
+    go : fault_of app words ≡ [] → (k ≡ kind.OutOfMemory) ⊎ IsAmong k (fault_of app words) → keys ≡ keys_in (subcommand_of app words)
+    go accepted (inl memory) = absurd (other memory)
+    go accepted (inr among) = absurd (subst (λ (kinds : Kinds). IsAmong k kinds) accepted among)
+
+pub keys_of_command : (words keys : List Text) (app : App) → IsProgram app → (command : Option (Text × List Row)) → subcommand_of app words ≡ command → keys ≡ keys_in command
+    → HasKeys words keys
+keys_of_command words keys app is command found are = (app, is, λ accepted. are ∙ sym (ap keys_in found))

@@ -6,4 +6,7 @@ use Rattle.review_args.proofs.Adding.{subcommands_added}
 use Rattle.review_args.proofs.grammar.grammar.Goals as goal
 
 pub returns : goal.returns
-returns c = ?
+returns c =
+    let top_is : app_of c.subcommand_required.result ≡ set_up (app_of c.new.result) =
+    rw (c.subcommand_required.ensures, c.no_binary_name.ensures, c.in_ok-bin_name.ensures.0, c.about.ensures, c.version.ensures) refl in
+    ?
