@@ -1,12 +1,12 @@
 -- What a command has after arguments or subcommands are added in turn.
-use Rattle.std.proofs.Common.{◌≡◌, ◌∙◌, ◌||◌, Bool, true, false, List, [], ◌∷◌, map, fold, refl, sym, ap, ap₂, subst}
-use Rattle.clap.specs.Words.{AddsArg, AddsInTurn, AddsSubcommand, App, Rule, Shape, app_of, is_simple_and_free, rule_of, shape_of, with_rule, with_subcommand}
+use Rattle.std.proofs.Common.{◌≡◌, ◌∙◌, ◌||◌, Bool, true, false, List, [], ◌∷◌, map, codes, fold, refl, sym, ap, ap₂, subst}
+use Rattle.clap.specs.Words.{AddsArg, AddsInTurn, AddsSubcommand, App, Rule, Shape, app_of, is_simple_and_free, new_app, rule_of, shape_of, with_rule, with_subcommand}
 use Rattle.clap.specs.Simple.{is_simple}
 use Rattle.clap.specs.declared.builder.arg.Arg.{Arg}
 use Rattle.clap.specs.declared.builder.command.Command.{Command}
 use Rattle.clap.specs.declared.builder.command.Command.TheViews.{out-Command}
 use Rattle.clap.proofs.OnLiterals.{clap_on_literals}
-use Rattle.review_args.specs.Grammar.{Choices, IsLocal, IsProgram, arg_with_global, command_with_globals, own, program}
+use Rattle.review_args.specs.Grammar.{AreChoices, Choices, IsLocal, IsProgram, arg_with_global, command_with_globals, own, program, set_up, shapes}
 
 pub args_added : (old new : Command) (args : List Arg) (rules : List Rule) → map arg_with_global args ≡ map own rules → AddsInTurn AddsArg old args new
     → app_of new ≡ fold with_rule (app_of old) rules
@@ -57,3 +57,9 @@ is_read app is = ap is_simple is.2 ∙ program_is_simple is.0
 
 pub is_judged : (app : App) → IsProgram app → is_simple_and_free app ≡ true
 is_judged app is = ap is_simple_and_free is.2 ∙ program_is_free is.0
+
+-- the program's grammar is what is made of its commands
+pub is_program : (choices : Choices) → AreChoices choices → (top new : Command) (commands : List Command) → map command_with_globals commands ≡ map own (shapes choices)
+    → app_of top ≡ set_up (new_app (codes "yamlreview")) → AddsInTurn AddsSubcommand top commands new → IsProgram (app_of new)
+is_program choices are top new commands e t h =
+    (choices, are, subcommands_added top new commands (shapes choices) e h ∙ ap (λ (app : App). fold with_subcommand app (shapes choices)) t)

@@ -1,5 +1,6 @@
 -- What the getters of `clap` answer, by the rows that it found.
-use Rattle.std.proofs.Common.{◌≡◌, ◌∙◌, ◌&&◌, ℕ, ◌^◌, Bool, true, false, List, [], ◌∷◌, ◌++◌, map, Option, Some, None, is_some, option_map, option_and_then, unwrap_or, refl, sym, ap, Result, Ok, Err, length, cond}
+use Rattle.std.proofs.Common.{◌≡◌, ◌∙◌, ◌&&◌, ℕ, ◌^◌, Bool, true, false, List, [], ◌∷◌, ◌++◌, map, Option, Some, None, is_some, option_map, option_and_then, unwrap_or, refl, sym, ap, Result, Ok, Err, length, subst}
+use Rattle.std.specs.Option.{IfSome}
 use Rattle.std.specs.Prelude.{nat_lt}
 use Rattle.std.specs.Borrow.{Bor}
 use Rattle.std.specs.List.{list_all}
@@ -48,14 +49,13 @@ no_number t (Err y) h x e = go (is_number (without_leading_plus t)) refl
         absurd (h ((ltb-true _ _ inner.0, digits_from (without_leading_plus t) inner.1), ltb-true _ _ outer.1))
 
 -- `get_one::<usize>` reads the number that the text writes
-pub one_number : {E : Type 0} (G : List ℕ → Result ℕ E → Type 0) → ((u : List ℕ) (x : Result ℕ E) → G u x → ParsesUnsigned 64 10 u x)
-    → (f : Found) (id : Text) (r : Option ℕ) → (one_text f id ≡ None → r ≡ None) → ((t : List ℕ) → one_text f id ≡ Some t → ReadsOne G t r)
-    → r ≡ number_in id (rows_of f)
-one_number {E} G only f id r none value = go (one_text f id) refl ∙ ap (option_and_then number_of) (one_text-rows f id)
+pub one_number : {E : Type 0} (G : List ℕ → Result ℕ E → Type 0) (f : Found) (id : Text) (r : Option ℕ) → (one_text f id ≡ None → r ≡ None) → ((t : List ℕ) → one_text f id ≡ Some t → ReadsOne G t r)
+    → ((u : List ℕ) (x : Result ℕ E) → G u x → ParsesUnsigned 64 10 u x) → r ≡ number_in id (rows_of f)
+one_number {E} G f id r none value only = go (one_text f id) refl ∙ ap (option_and_then number_of) (one_text-rows f id)
   where
     read : (t : Text) (o : Option ℕ) → ReadsOne G t o → o ≡ number_of t
-    read t (Some n) h = number_read t (Ok n) (only t (Ok n) h) n refl
-    read t None h = no_number t (Err h.0) (only t (Err h.0) h.1) h.0 refl
+    read t (Some n) h = number_read {E = E} t (Ok n) (only t (Ok n) h) n refl
+    read t None h = no_number {E = E} t (Err h.0) (only t (Err h.0) h.1) h.0 refl
 
     go : (o : Option Text) → one_text f id ≡ o → r ≡ option_and_then number_of (one_text f id)
     go None e = none e ∙ sym (ap (option_and_then number_of) e)
@@ -80,3 +80,10 @@ are_more [] [] text pattern h is = (is, tt)
 are_more [] (p ∷ patterns) text pattern h is = absurd h
 are_more (t ∷ all) [] text pattern h is = absurd h
 are_more (t ∷ all) (p ∷ patterns) text pattern h is = (h.0, are_more all patterns text pattern h.1 is)
+
+-- what is said of a pattern that was read
+pub of_some : {X : Type 0} (P : X → Type 0) (o : Option X) (x : X) → o ≡ Some x → IfSome o P → P x
+of_some P None x e h = absurd (cc)
+of_some P (Some y) x e h =
+    let same : y ≡ x = cc in
+    subst P same h

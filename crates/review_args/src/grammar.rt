@@ -2,6 +2,7 @@
 ghost use Rattle.std.specs.Prelude.{◌≡◌, IfOk, List, false, map};
 ghost use Rattle.clap.specs.Words.{Rule, app_of, new_rule, rule_of};
 ghost use Rattle.review_args.specs.Grammar.{
+  AreChoices,
   IsLocal,
   IsProgram,
   arg_with_global,
@@ -46,6 +47,18 @@ struct Choices<'a> {
     formats: &'a [&'a str],
     forms: &'a [&'a str],
     spellings: &'a [&'a str],
+}
+
+/// The words that there are.
+fn all_choices<'a>() -> Choices<'a>
+    ensures { AreChoices (choices_of result) }
+{
+    Choices {
+        colors: &["auto", "always", "never"],
+        formats: &["yaml", "json"],
+        forms: &["line", "json", "html", "markdown", "sarif", "github"],
+        spellings: &["plain", "jq", "jsonpointer"],
+    }
 }
 
 /// A file, which has to be given or not.
@@ -523,12 +536,7 @@ fn commands<'a>(alloc: Global, choices: &Choices<'a>) -> Result<Vec<Command<'a>>
 pub(crate) fn grammar<'a>(alloc: Global) -> Result<Command<'a>, AllocError>
     ensures { IfOk result (λ command. IsProgram (app_of command)) }
 {
-    let choices = Choices {
-        colors: &["auto", "always", "never"],
-        formats: &["yaml", "json"],
-        forms: &["line", "json", "html", "markdown", "sarif", "github"],
-        spellings: &["plain", "jq", "jsonpointer"],
-    };
+    let choices = all_choices();
     let commands = commands(alloc, &choices)?;
     Command::new(alloc, "yamlreview")
         .version("1.1.0 (yamlcanon-form-1)")

@@ -1,5 +1,5 @@
 //! Reads the program's words.
-ghost use Rattle.std.specs.Prelude.{◌≡◌, ◌≤◌, List, ℕ, true, false, codes, IfOk, IfErr, map, min, option_map, string_bytes, unwrap_or, ◌&&◌, not};
+ghost use Rattle.std.specs.Prelude.{◌≡◌, ◌≤◌, List, ℕ, true, false, codes, IfOk, IfErr, Some, map, min, option_map, string_bytes, unwrap_or, ◌&&◌, not};
 ghost use Rattle.clap.specs.Words.{Row, all_of, first_of, found_of, kind_of, rows_of};
 ghost use Rattle.clap.specs.Walk.{texts};
 ghost use Rattle.clap.specs.declared.parser.matches.ArgMatches.{ArgMatches};
@@ -29,6 +29,7 @@ ghost use Rattle.review_args.specs.Words.{
   is_on,
   is_there,
   HasKeys,
+  keys_in,
   lines_or,
   loud_lines_or,
   number_in,
@@ -466,6 +467,21 @@ fn texts<'a>(alloc: Global, words: &'a [String]) -> Result<Vec<&'a str>, AllocEr
     Ok(list)
 }
 
+/// The texts of `--by`, if the command is `diff`.
+fn keys_of<'a>(
+    alloc: Global,
+    name: &str,
+    inner: &ArgMatches<'a>,
+) -> Result<Vec<&'a str>, AllocError>
+    ensures { IfOk result (λ keys. texts keys.items ≡ keys_in (Some (name.now, rows_of (found_of inner.now)))) }
+{
+    if name == "diff" {
+        texts_of(alloc, inner, "by")
+    } else {
+        Ok(Vec::new(alloc))
+    }
+}
+
 /// The texts of `diff --by` among the words behind the program's own name, which `read_words` takes; none if the words ask for no
 /// command.
 pub fn read_keys<'a>(alloc: Global, words: &'a [String]) -> Result<Vec<&'a str>, AllocError>
@@ -481,8 +497,8 @@ pub fn read_keys<'a>(alloc: Global, words: &'a [String]) -> Result<Vec<&'a str>,
         }
     };
     match matches.subcommand() {
-        Some(("diff", inner)) => texts_of(alloc, inner, "by"),
-        _ => Ok(Vec::new(alloc)),
+        Some((name, inner)) => keys_of(alloc, name, inner),
+        None => Ok(Vec::new(alloc)),
     }
 }
 
