@@ -10,7 +10,7 @@ use Rattle.clap.specs.declared.builder.arg.Arg.{Arg}
 use Rattle.clap.specs.declared.builder.command.Command.{Command}
 use Rattle.clap.specs.declared.builder.command.Command.TheViews.{out-Command}
 use Rattle.clap.specs.declared.builder.value_parser.ValueParser.TheVariants.{Names, Unsigned}
-use Rattle.review_args.specs.declared.grammar.Choices.{Choices as CodeChoices}
+use Rattle.review_args.specs.declared.arguments.Choices.{Choices as CodeChoices}
 
 -- ---- words of which an argument takes one, where they are in memory
 

@@ -1,227 +1,30 @@
-//! The grammar of the program's words: its commands and their arguments.
-ghost use Rattle.std.specs.Prelude.{◌≡◌, IfOk, List, false, map};
-ghost use Rattle.clap.specs.Words.{Rule, app_of, new_rule, rule_of};
+//! The grammar of the program's words: its commands.
+ghost use Rattle.std.specs.Prelude.{◌≡◌, IfOk, List, map};
+ghost use Rattle.clap.specs.Words.{Rule, app_of};
 ghost use Rattle.review_args.specs.Grammar.{
-  AreChoices,
   IsLocal,
   IsProgram,
   arg_with_global,
-  at_least,
   choices_of,
-  color,
   command,
   command_with_globals,
   diff,
   faults,
-  file,
-  files,
-  flag,
-  form,
-  format,
   git,
-  letter,
-  lines,
-  list,
   merge3,
-  number,
-  one_of,
   own,
-  repeated,
   shapes,
   show,
-  spelling,
   sum,
-  unified,
   warn,
-  words_of,
 };
 
-use clap::builder::ValueParser;
-use clap::{Arg, ArgAction, Command};
+use crate::arguments::{
+    Choices, all_choices, color, file, files, flag, form, format, letter, lines, list, number,
+    repeated, spelling, unified, words,
+};
+use clap::{Arg, Command};
 use std::alloc::{AllocError, Global};
-
-/// The words of which an argument takes one.
-#[derive(Clone, Copy)]
-struct Choices<'a> {
-    colors: &'a [&'a str],
-    formats: &'a [&'a str],
-    forms: &'a [&'a str],
-    spellings: &'a [&'a str],
-}
-
-/// The words that there are.
-fn all_choices<'a>() -> Choices<'a>
-    ensures { AreChoices (choices_of result) }
-{
-    Choices {
-        colors: &["auto", "always", "never"],
-        formats: &["yaml", "json"],
-        forms: &["line", "json", "html", "markdown", "sarif", "github"],
-        spellings: &["plain", "jq", "jsonpointer"],
-    }
-}
-
-/// A file, which has to be given or not.
-fn file<'a>(alloc: Global, id: &'a str, required: bool, help: &'a str) -> Arg<'a>
-    ensures rule { rule_of result ≡ file id.entry.now required }
-    ensures local { result.global ≡ false }
-{
-    Arg::new(alloc, id).required(required).help(help)
-}
-
-/// Any number of files.
-fn files<'a>(alloc: Global) -> Arg<'a>
-    ensures rule { rule_of result ≡ files }
-    ensures local { result.global ≡ false }
-{
-    Arg::new(alloc, "FILE")
-        .num_args(0..)
-        .action(ArgAction::Append)
-        .help("A file; `-`, or none, is standard input")
-}
-
-/// Whether it is given.
-fn flag<'a>(alloc: Global, id: &'a str, help: &'a str) -> Arg<'a>
-    ensures rule { rule_of result ≡ flag id.entry.now }
-    ensures local { result.global ≡ false }
-{
-    Arg::new(alloc, id)
-        .long(id)
-        .action(ArgAction::SetTrue)
-        .help(help)
-}
-
-/// The same, by one letter too.
-fn letter<'a>(alloc: Global, id: &'a str, short: char, help: &'a str) -> Arg<'a>
-    ensures rule { rule_of result ≡ letter id.entry.now short }
-    ensures local { result.global ≡ false }
-{
-    flag(alloc, id, help).short(short)
-}
-
-/// A number of lines, at most so many.
-fn number<'a>(alloc: Global, id: &'a str, most: u64, help: &'a str) -> Arg<'a>
-    ensures rule { rule_of result ≡ number id.entry.now most }
-    ensures local { result.global ≡ false }
-{
-    Arg::new(alloc, id)
-        .long(id)
-        .value_name("N")
-        .value_parser(ValueParser::unsigned(0, most))
-        .help(help)
-}
-
-/// The greatest number of lines.
-fn lines<'a>(alloc: Global, help: &'a str) -> Arg<'a>
-    ensures rule { rule_of result ≡ lines }
-    ensures local { result.global ≡ false }
-{
-    number(alloc, "lines", 1_000_000, help).default_value("1000")
-}
-
-/// One of some words, of which one is taken if none is given.
-fn one_of<'a>(
-    alloc: Global,
-    id: &'a str,
-    name: &'a str,
-    words: &'a [&'a str],
-    taken: &'a str,
-    help: &'a str,
-) -> Arg<'a>
-    ensures rule { rule_of result ≡ one_of id.entry.now words.entry taken.entry.now }
-    ensures local { result.global ≡ false }
-{
-    Arg::new(alloc, id)
-        .long(id)
-        .value_name(name)
-        .value_parser(words)
-        .default_value(taken)
-        .help(help)
-}
-
-/// When lines are in colour.
-fn color<'a>(alloc: Global, choices: &Choices<'a>) -> Arg<'a>
-    ensures rule { rule_of result ≡ color (choices_of choices.now) }
-    ensures local { result.global ≡ false }
-{
-    let help = "Print lines in colour; `auto` does so on a terminal";
-    one_of(alloc, "color", "WHEN", choices.colors, "auto", help)
-}
-
-/// The form of what is found.
-fn form<'a>(alloc: Global, choices: &Choices<'a>) -> Arg<'a>
-    ensures rule { rule_of result ≡ form (choices_of choices.now) }
-    ensures local { result.global ≡ false }
-{
-    let help =
-        "Lines of text, one JSON object a line, a page, a table, SARIF 2.1.0, or GitHub's annotations";
-    one_of(alloc, "format", "FORM", choices.forms, "line", help)
-}
-
-/// A text, of which each use adds one.
-fn repeated<'a>(alloc: Global, id: &'a str, name: &'a str, help: &'a str) -> Arg<'a>
-    ensures rule { rule_of result ≡ repeated id.entry.now }
-    ensures local { result.global ≡ false }
-{
-    Arg::new(alloc, id)
-        .long(id)
-        .value_name(name)
-        .action(ArgAction::Append)
-        .help(help)
-}
-
-/// The name of a list.
-fn list<'a>(alloc: Global, id: &'a str, help: &'a str) -> Arg<'a>
-    ensures rule { rule_of result ≡ list id.entry.now }
-    ensures local { result.global ≡ false }
-{
-    Arg::new(alloc, id).long(id).value_name("LIST").help(help)
-}
-
-/// The words that git passes.
-fn words<'a>(alloc: Global) -> Arg<'a>
-    ensures rule { rule_of result ≡ words_of }
-    ensures local { result.global ≡ false }
-{
-    Arg::new(alloc, "WORD")
-        .required(true)
-        .num_args(1..)
-        .action(ArgAction::Append)
-        .trailing_var_arg(true)
-        .help(
-            "1, 7 or 9 words, as git passes them; `--lines=show` before them prints changed lines of what `show` writes",
-        )
-}
-
-/// How many lines are printed around changed ones.
-fn unified<'a>(alloc: Global) -> Arg<'a>
-    ensures rule { rule_of result ≡ unified }
-    ensures local { result.global ≡ false }
-{
-    let help =
-        "Of strings that have several lines, print N lines before and behind each changed line";
-    number(alloc, "unified", 1_000, help)
-        .short('U')
-        .default_value("0")
-}
-
-/// How paths are written.
-fn spelling<'a>(alloc: Global, choices: &Choices<'a>) -> Arg<'a>
-    ensures rule { rule_of result ≡ spelling (choices_of choices.now) }
-    ensures local { result.global ≡ false }
-{
-    let help = "How paths are written: as filters of jq, as JSON pointers (RFC 6901), or `plain`";
-    one_of(alloc, "paths", "HOW", choices.spellings, "plain", help)
-}
-
-/// The form of what is shown.
-fn format<'a>(alloc: Global, choices: &Choices<'a>) -> Arg<'a>
-    ensures rule { rule_of result ≡ format (choices_of choices.now) }
-    ensures local { result.global ≡ false }
-{
-    let help = "YAML in block style, or a line of JSON for each document";
-    one_of(alloc, "format", "FORMAT", choices.formats, "yaml", help)
-}
 
 const DIFF_STATUSES: &str =
     "Items of two lists are pairs if they are equal, or by the first of these names that stands once on each side:

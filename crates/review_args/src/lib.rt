@@ -1,6 +1,8 @@
 //! The arguments of the program `yamlreview`.
 #![tactic(auto)]
 
+mod arguments;
+mod found;
 mod grammar;
 pub mod order;
 pub mod reading;

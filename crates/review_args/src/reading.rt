@@ -1,8 +1,7 @@
 //! Reads the program's words.
-ghost use Rattle.std.specs.Prelude.{◌≡◌, ◌≤◌, List, ℕ, true, false, codes, IfOk, IfErr, Some, map, min, option_map, string_bytes, unwrap_or, ◌&&◌, not};
-ghost use Rattle.clap.specs.Words.{Row, all_of, first_of, found_of, kind_of, rows_of};
+ghost use Rattle.std.specs.Prelude.{◌≡◌, List, ℕ, Some, codes, IfOk, IfErr, map, option_map, string_bytes};
+ghost use Rattle.clap.specs.Words.{found_of, kind_of, rows_of};
 ghost use Rattle.clap.specs.Walk.{texts};
-ghost use Rattle.clap.specs.declared.parser.matches.ArgMatches.{ArgMatches};
 ghost use Rattle.review_args.specs.Words.{
   Asks,
   AsksDiff,
@@ -13,35 +12,23 @@ ghost use Rattle.review_args.specs.Words.{
   AsksShow,
   AsksSum,
   AsksWarn,
+  HasKeys,
   Refuses,
   RefusesDiff,
   RefusesIn,
   RefusesPatterns,
   RefusesSum,
   are_several,
-  color_in,
-  file_of,
-  files_in,
-  form_in,
-  format_in,
   git_words,
-  has,
-  is_on,
-  is_there,
-  HasKeys,
   keys_in,
-  lines_or,
-  loud_lines_or,
-  number_in,
-  page_in,
-  paths_in,
-  texts_in,
 };
 
-use crate::grammar::grammar;
-use crate::words::{
-    Asked, CONTEXT, Diff, Form, Format, LINES, Merge, Page, Paths, Report, Show, Sum, Warn,
+use crate::found::{
+    color_of, context_of, file_of, files_of, folds_of, form_of, format_of, is_on, is_there,
+    lines_or, loud_lines_or, page_of, paths_of, texts_of, value_of,
 };
+use crate::grammar::grammar;
+use crate::words::{Asked, Diff, LINES, Merge, Report, Show, Sum, Warn};
 use clap::error::ErrorKind;
 use clap::{ArgMatches, Error};
 use review_patterns::{Pattern, read_pattern};
@@ -49,174 +36,6 @@ use std::alloc::{AllocError, Global};
 
 /// How many differences are counted where no number is given.
 const COUNTED: usize = 1_000_000;
-
-/// The first value of an argument.
-fn value_of<'a>(matches: &ArgMatches<'a>, id: &str) -> Option<&'a str>
-    ensures { option_map (λ s. s.now) result ≡ first_of id.now (rows_of (found_of matches.now)) }
-{
-    matches.get_str(id)
-}
-
-/// Whether the first value of an argument is a word.
-fn has(matches: &ArgMatches<'_>, id: &str, word: &str) -> bool
-    ensures { result ≡ has id.now word.now (rows_of (found_of matches.now)) }
-{
-    match value_of(matches, id) {
-        Some(text) => text == word,
-        None => false,
-    }
-}
-
-/// Whether a flag is given.
-fn is_on(matches: &ArgMatches<'_>, id: &str) -> bool
-    ensures { result ≡ is_on id.now (rows_of (found_of matches.now)) }
-{
-    has(matches, id, "true")
-}
-
-/// Whether an argument has a value.
-fn is_there(matches: &ArgMatches<'_>, id: &str) -> bool
-    ensures { result ≡ is_there id.now (rows_of (found_of matches.now)) }
-{
-    match value_of(matches, id) {
-        Some(_) => true,
-        None => false,
-    }
-}
-
-/// The name of a file, or that of standard input.
-fn file_of<'a>(matches: &ArgMatches<'a>, id: &str) -> &'a str
-    ensures { result.now ≡ file_of id.now (rows_of (found_of matches.now)) }
-{
-    match value_of(matches, id) {
-        Some(name) => name,
-        None => "-",
-    }
-}
-
-/// The number that an argument has.
-fn number_of(matches: &ArgMatches<'_>, id: &str) -> Option<usize>
-    ensures { result ≡ number_in id.now (rows_of (found_of matches.now)) }
-{
-    matches.get_one::<usize>(id)
-}
-
-fn form_of(matches: &ArgMatches<'_>) -> Form
-    ensures { result ≡ form_in (rows_of (found_of matches.now)) }
-{
-    if has(matches, "format", "json") {
-        Form::Json
-    } else {
-        Form::Line
-    }
-}
-
-/// The form in which all that is found is written as a whole, if one is asked for.
-fn page_of(matches: &ArgMatches<'_>) -> Option<Page>
-    ensures { result ≡ page_in (rows_of (found_of matches.now)) }
-{
-    if has(matches, "format", "html") {
-        Some(Page::Html)
-    } else if has(matches, "format", "markdown") {
-        Some(Page::Markdown)
-    } else if has(matches, "format", "sarif") {
-        Some(Page::Sarif)
-    } else if has(matches, "format", "github") {
-        Some(Page::Github)
-    } else {
-        None
-    }
-}
-
-/// The greatest number of lines, where it is given, or another.
-fn lines_or(matches: &ArgMatches<'_>, most: usize) -> usize
-    ensures { result ≡ lines_or most (rows_of (found_of matches.now)) }
-{
-    number_of(matches, "lines").unwrap_or(most)
-}
-
-/// The same, and none for the status alone.
-fn loud_lines_or(matches: &ArgMatches<'_>, most: usize) -> usize
-    ensures { result ≡ loud_lines_or most (rows_of (found_of matches.now)) }
-{
-    if is_on(matches, "quiet") {
-        0
-    } else {
-        lines_or(matches, most)
-    }
-}
-
-/// How many lines are printed around changed ones.
-fn context_of(matches: &ArgMatches<'_>) -> usize
-    ensures few { result ≤ 1000 }
-    ensures given { result ≡ min (unwrap_or (number_in (codes "unified") (rows_of (found_of matches.now))) 0) 1000 }
-{
-    number_of(matches, "unified").unwrap_or(0).min(CONTEXT)
-}
-
-/// How paths are written: in columns as it is asked for, and else plain.
-fn paths_of(matches: &ArgMatches<'_>) -> Paths
-    ensures { result ≡ paths_in (rows_of (found_of matches.now)) }
-{
-    if !has(matches, "format", "line") {
-        Paths::Plain
-    } else if has(matches, "paths", "jq") {
-        Paths::Jq
-    } else if has(matches, "paths", "jsonpointer") {
-        Paths::JsonPointer
-    } else {
-        Paths::Plain
-    }
-}
-
-/// Whether lines are in colour.
-fn color_of(matches: &ArgMatches<'_>, is_terminal: bool) -> bool
-    ensures { result ≡ color_in is_terminal (rows_of (found_of matches.now)) }
-{
-    if has(matches, "color", "always") {
-        true
-    } else if has(matches, "color", "never") {
-        false
-    } else {
-        is_terminal
-    }
-}
-
-/// All values of an argument, if it has any.
-fn values_of<'m, 'a>(matches: &'m ArgMatches<'a>, id: &str) -> Option<&'m [&'a str]>
-    ensures { option_map (λ s. texts s.now) result ≡ all_of id.now (rows_of (found_of matches.now)) }
-{
-    matches.get_strs(id)
-}
-
-/// All values of an argument.
-fn texts_of<'a>(
-    alloc: Global,
-    matches: &ArgMatches<'a>,
-    id: &str,
-) -> Result<Vec<&'a str>, AllocError>
-    ensures { IfOk result (λ list. texts list.items ≡ texts_in id.now (rows_of (found_of matches.now))) }
-{
-    match values_of(matches, id) {
-        Some(values) => {
-            let mut list = Vec::new(alloc);
-            list.extend_from_slice(values)?;
-            Ok(list)
-        }
-        None => Ok(Vec::new(alloc)),
-    }
-}
-
-/// The names of files; with none, that of standard input.
-fn files_of<'a>(alloc: Global, matches: &ArgMatches<'a>) -> Result<Vec<&'a str>, AllocError>
-    ensures { IfOk result (λ list. texts list.items ≡ files_in (rows_of (found_of matches.now))) }
-{
-    let mut files = texts_of(alloc, matches, "FILE")?;
-    if files.is_empty() {
-        files.push("-")?;
-    }
-    Ok(files)
-}
 
 fn report_of<'a>(alloc: Global, matches: &ArgMatches<'a>) -> Result<Report<'a>, AllocError>
     ensures { IfOk result (AsksReport (rows_of (found_of matches.now))) }
@@ -237,13 +56,6 @@ fn warn_of<'a>(alloc: Global, matches: &ArgMatches<'a>) -> Result<Warn<'a>, Allo
     })
 }
 
-/// Whether one line tells several differences: in lines of text, unless it is asked otherwise.
-fn folds_of(matches: &ArgMatches<'_>) -> bool
-    ensures { result ≡ (has (codes "format") (codes "line") (rows_of (found_of matches.now)) && not (is_on (codes "no-fold") (rows_of (found_of matches.now)))) }
-{
-    has(matches, "format", "line") && !is_on(matches, "no-fold")
-}
-
 fn diff_of<'a>(matches: &ArgMatches<'a>, by: &'a [&'a str], is_terminal: bool) -> Diff<'a>
     ensures { AsksDiff (rows_of (found_of matches.now)) (texts by.entry.now) is_terminal result }
 {
@@ -262,16 +74,6 @@ fn diff_of<'a>(matches: &ArgMatches<'a>, by: &'a [&'a str], is_terminal: bool) -
         by,
         folds: folds_of(matches),
         paths: paths_of(matches),
-    }
-}
-
-fn format_of(matches: &ArgMatches<'_>) -> Format
-    ensures { result ≡ format_in (rows_of (found_of matches.now)) }
-{
-    if has(matches, "format", "json") {
-        Format::Json
-    } else {
-        Format::Yaml
     }
 }
 

@@ -12,7 +12,7 @@ returns-in-Err c =
     let words = map string_bytes c.args.words.now in
     let is = c.in_ok-grammar.ensures in
     elim c.match-kind.branch [
-      in-OutOfMemory w ↦ rw w.result-is tt
+      | in-OutOfMemory w ↦ rw w.result-is tt
       | in_default w ↦ rw w.result-is (keys_of_none words (texts w.new.result.items) _ is _ (c.in-Err.ensures.kinds (is_judged _ is)) (λ memory. w.in_default.not-OutOfMemory (c.kind.ensures ∙ memory)))
     ]
 

@@ -1,7 +1,7 @@
 use Rattle.std.specs.Str.Parse.{ExplainsUnsignedError, HasUnsignedDigitsIfOk, ParsesUnsigned}
 use Rattle.clap.specs.Words.{found_of}
 use Rattle.review_args.proofs.Getters.{one_number}
-use Rattle.review_args.proofs.reading.number_of.Goals as goal
+use Rattle.review_args.proofs.found.number_of.Goals as goal
 
 pub returns : goal.returns
 returns c =
