@@ -1,12 +1,17 @@
 -- What a command has after arguments or subcommands are added in turn.
-use Rattle.std.proofs.Common.{◌≡◌, ◌∙◌, ◌||◌, Bool, true, false, List, [], ◌∷◌, map, codes, fold, refl, sym, ap, ap₂, subst}
-use Rattle.clap.specs.Words.{AddsArg, AddsInTurn, AddsSubcommand, App, Rule, Shape, app_of, is_simple_and_free, new_app, rule_of, shape_of, with_rule, with_subcommand}
+use Rattle.std.proofs.Common.{◌≡◌, ◌∙◌, ◌||◌, Bool, true, List, [], ◌∷◌, map, codes, fold, refl, sym, ap, ap₂, subst}
+use Rattle.clap.specs.Words.{AddsArg, AddsInTurn, AddsSubcommand, App, Rule, Shape, app_of, is_simple_and_free, new_app, with_rule, with_subcommand}
 use Rattle.clap.specs.Simple.{is_simple}
 use Rattle.clap.specs.declared.builder.arg.Arg.{Arg}
 use Rattle.clap.specs.declared.builder.command.Command.{Command}
-use Rattle.clap.specs.declared.builder.command.Command.TheViews.{out-Command}
 use Rattle.clap.proofs.OnLiterals.{clap_on_literals}
 use Rattle.review_args.specs.Grammar.{AreChoices, Choices, IsLocal, IsProgram, arg_with_global, command_with_globals, own, program, set_up, shapes}
+
+head_same : {X : Type 0} (x y : X) (xs ys : List X) → x ∷ xs ≡ y ∷ ys → x ≡ y
+head_same x y xs ys e = cc
+
+tail_same : {X : Type 0} (x y : X) (xs ys : List X) → x ∷ xs ≡ y ∷ ys → xs ≡ ys
+tail_same x y xs ys e = cc
 
 pub args_added : (old new : Command) (args : List Arg) (rules : List Rule) → map arg_with_global args ≡ map own rules → AddsInTurn AddsArg old args new
     → app_of new ≡ fold with_rule (app_of old) rules
@@ -14,9 +19,8 @@ args_added old new [] [] e h = ap app_of (sym h)
 args_added old new [] (r ∷ rules) e h = absurd (cc)
 args_added old new (a ∷ args) [] e h = absurd (cc)
 args_added old new (a ∷ args) (r ∷ rules) e h =
-    let whole : (rule_of a, a.global) ∷ map arg_with_global args ≡ (r, false) ∷ map own rules = e in
-    let first : (rule_of a, a.global) ≡ (r, false) = cc in
-    let rest : map arg_with_global args ≡ map own rules = cc in
+    let first = head_same _ _ _ _ e in
+    let rest = tail_same _ _ _ _ e in
     let one : app_of h.0 ≡ with_rule (app_of old) r = h.1.shape (ap (λ (p : Rule × Bool). p.1) first) ∙ ap (with_rule (app_of old)) (ap (λ (p : Rule × Bool). p.0) first) in
     args_added h.0 new args rules rest h.2 ∙ ap (λ (app : App). fold with_rule app rules) one
 
@@ -26,9 +30,8 @@ args_local old new [] [] e h own_args = subst IsLocal h own_args
 args_local old new [] (r ∷ rules) e h own_args = absurd (cc)
 args_local old new (a ∷ args) [] e h own_args = absurd (cc)
 args_local old new (a ∷ args) (r ∷ rules) e h own_args =
-    let whole : (rule_of a, a.global) ∷ map arg_with_global args ≡ (r, false) ∷ map own rules = e in
-    let first : (rule_of a, a.global) ≡ (r, false) = cc in
-    let rest : map arg_with_global args ≡ map own rules = cc in
+    let first = head_same _ _ _ _ e in
+    let rest = tail_same _ _ _ _ e in
     args_local h.0 new args rules rest h.2 (h.1.globals ∙ ap₂ (λ (x y : Bool). x || y) own_args (ap (λ (p : Rule × Bool). p.1) first))
 
 pub subcommands_added : (old new : Command) (commands : List Command) (all : List Shape) → map command_with_globals commands ≡ map own all
@@ -37,9 +40,8 @@ subcommands_added old new [] [] e h = ap app_of (sym h)
 subcommands_added old new [] (s ∷ all) e h = absurd (cc)
 subcommands_added old new (c ∷ commands) [] e h = absurd (cc)
 subcommands_added old new (c ∷ commands) (s ∷ all) e h =
-    let whole : (shape_of c, (out-Command c).has_globals) ∷ map command_with_globals commands ≡ (s, false) ∷ map own all = e in
-    let first : (shape_of c, (out-Command c).has_globals) ≡ (s, false) = cc in
-    let rest : map command_with_globals commands ≡ map own all = cc in
+    let first = head_same _ _ _ _ e in
+    let rest = tail_same _ _ _ _ e in
     let one : app_of h.0 ≡ with_subcommand (app_of old) s = h.1.shape (ap (λ (p : Shape × Bool). p.1) first) ∙ ap (with_subcommand (app_of old)) (ap (λ (p : Shape × Bool). p.0) first) in
     subcommands_added h.0 new commands all rest h.2 ∙ ap (λ (app : App). fold with_subcommand app all) one
 

@@ -1,7 +1,7 @@
 use Rattle.std.proofs.Common.{◌≡◌, ◌∙◌, List, [], ◌∷◌, ap, map, codes, true}
 use Rattle.std.proofs.lemmas.Result.{IfOk-weaker}
 use Rattle.clap.specs.Words.{Rule}
-use Rattle.review_args.specs.Grammar.{arg_with_global, choices_of, color, file, flag, form, letter, lines, number, repeated, spelling, unified, own}
+use Rattle.review_args.specs.Grammar.{arg_with_global, choices_of, color, file, flag, form, letter, number, repeated, spelling, unified, own}
 use Rattle.review_args.proofs.grammar.diff.Goals as goal
 
 pub returns-clause-app : goal.returns-clause-app

@@ -1,4 +1,4 @@
-use Rattle.std.proofs.Common.{◌∙◌, List, [], ap, arith, codes, subst, subst₂, sym, take}
+use Rattle.std.proofs.Common.{◌∙◌, List, [], ap, subst, subst₂, sym, take}
 use Rattle.std.proofs.lemmas.List.{take_all}
 use Rattle.clap.specs.Walk.{texts}
 use Rattle.clap.specs.Words.{Text}

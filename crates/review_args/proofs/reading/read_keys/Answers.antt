@@ -1,6 +1,6 @@
-use Rattle.std.proofs.Common.{◌≡◌, ◌∙◌, Err, IfOk, None, Ok, Result, Some, Vec, [], ap, map, string_bytes, subst, sym}
+use Rattle.std.proofs.Common.{◌∙◌, None, Some, ap, map, string_bytes, sym}
 use Rattle.std.proofs.lemmas.Result.{IfOk-weaker}
-use Rattle.clap.specs.Words.{found_of, rows_of, subcommand_of}
+use Rattle.clap.specs.Words.{found_of, rows_of}
 use Rattle.clap.specs.Walk.{texts}
 use Rattle.review_args.proofs.Adding.{is_judged, is_read}
 use Rattle.review_args.proofs.Parsing.{entered_is, keys_of_command, keys_of_none, none_entered}

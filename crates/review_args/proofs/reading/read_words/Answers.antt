@@ -1,6 +1,6 @@
-use Rattle.std.proofs.Common.{◌≡◌, ◌∙◌, Some, None, [], ap, map, option_map, string_bytes, sym}
+use Rattle.std.proofs.Common.{◌≡◌, ◌∙◌, None, ap, map, option_map, string_bytes, sym}
 use Rattle.std.proofs.lemmas.Result.{err_from_is_err_and}
-use Rattle.clap.specs.Words.{fault_of, found_of, rows_of, subcommand_of, subcommand_rows_of}
+use Rattle.clap.specs.Words.{found_of, rows_of}
 use Rattle.clap.specs.Walk.{texts}
 use Rattle.review_args.specs.Words.{git_words}
 use Rattle.review_args.proofs.Adding.{is_judged, is_read}
