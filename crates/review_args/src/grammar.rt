@@ -1,322 +1,30 @@
-//! The grammar of the program's words: its commands and their arguments.
-use clap::builder::ValueParser;
-use clap::{Arg, ArgAction, Command};
+//! The grammar of the program's words: its commands.
+ghost use Rattle.std.specs.Prelude.{◌≡◌, IfOk, List, map};
+ghost use Rattle.clap.specs.Words.{Rule, app_of};
+ghost use Rattle.review_args.specs.Grammar.{
+  IsLocal,
+  IsProgram,
+  arg_with_global,
+  choices_of,
+  command,
+  command_with_globals,
+  diff,
+  faults,
+  git,
+  merge3,
+  own,
+  shapes,
+  show,
+  sum,
+  warn,
+};
+
+use crate::arguments::{
+    Choices, all_choices, color, file, files, flag, form, format, letter, lines, list, number,
+    repeated, spelling, unified, words,
+};
+use clap::{Arg, Command};
 use std::alloc::{AllocError, Global};
-
-/// How a command reads an argument.
-#[derive(Clone, Copy)]
-enum Takes {
-    /// A file, which has to be given.
-    File,
-    /// A file, which can be given.
-    LastFile,
-    /// Any number of files.
-    Files,
-    /// Whether it is given.
-    Flag,
-    /// The same, by one letter too.
-    Letter(char),
-    /// A number of lines around others, by one letter too.
-    Around(char),
-    /// When lines are in colour.
-    Color,
-    /// Patterns of paths.
-    Paths,
-    /// How paths are written.
-    Spelling,
-    /// A number of lines.
-    Lines,
-    /// One of two words, of which the first one is taken if none is given.
-    OneOf(&'static str, &'static [&'static str; 2]),
-    /// The same, of which the default depends on other arguments.
-    Most,
-    /// The form of what is found, of which the first one is taken if none is given.
-    Form,
-    /// Words of a file, one with each use.
-    Spelled,
-    /// Keys.
-    Keys,
-    /// A list of files, in place of files.
-    Names,
-    /// A list of digests, in place of files and of a list of them.
-    Digests,
-    /// All words, whatever they begin with.
-    Words,
-}
-
-/// An argument of a command.
-struct Row {
-    id: &'static str,
-    takes: Takes,
-    help: &'static str,
-}
-
-const DIFF: [Row; 15] = [
-    Row {
-        id: "A",
-        takes: Takes::File,
-        help: "The left file; `-` is standard input",
-    },
-    Row {
-        id: "B",
-        takes: Takes::File,
-        help: "The right file",
-    },
-    Row {
-        id: "no-places",
-        takes: Takes::Flag,
-        help: "Leave the lines and columns out",
-    },
-    Row {
-        id: "whole",
-        takes: Takes::Flag,
-        help: "Show texts of more than 60 bytes whole",
-    },
-    Row {
-        id: "lines",
-        takes: Takes::Most,
-        help: "Print at most N lines (1000), and then `...` if there are more; 0 for the status alone",
-    },
-    Row {
-        id: "unified",
-        takes: Takes::Around('U'),
-        help: "Of strings that have several lines, print N lines before and behind each changed line",
-    },
-    Row {
-        id: "quiet",
-        takes: Takes::Letter('q'),
-        help: "Print nothing; the status tells the result",
-    },
-    Row {
-        id: "stat",
-        takes: Takes::Flag,
-        help: "Print how many differences there are: `+` only right, `-` only left, `~` changed, `>` moved",
-    },
-    Row {
-        id: "by-position",
-        takes: Takes::Flag,
-        help: "Pair items by their places, so that none moves",
-    },
-    Row {
-        id: "by",
-        takes: Takes::Keys,
-        help: "Pair items first by the values of these keys, parted by commas: `host,spec.id`; repeatable",
-    },
-    Row {
-        id: "no-fold",
-        takes: Takes::Flag,
-        help: "Print a line for each place at which aliases show one change, and for each pair that moved",
-    },
-    Row {
-        id: "color",
-        takes: Takes::Color,
-        help: "Print lines in colour; `auto` does so on a terminal",
-    },
-    Row {
-        id: "ignore",
-        takes: Takes::Paths,
-        help: "Leave out what is at or below PATH: steps as they are printed, `*` for any step; repeatable",
-    },
-    Row {
-        id: "paths",
-        takes: Takes::Spelling,
-        help: "How paths are written: as filters of jq, as JSON pointers (RFC 6901), or `plain`",
-    },
-    FORM,
-];
-
-const FAULTS: [Row; 2] = [FILES, FORM];
-
-const WARN: [Row; 5] = [
-    FILES,
-    Row {
-        id: "strict",
-        takes: Takes::Flag,
-        help: "End with status 1 if there is a warning",
-    },
-    Row {
-        id: "allow",
-        takes: Takes::Spelled,
-        help: "Do not warn of the plain scalar WORD, as `on`; repeatable",
-    },
-    Row {
-        id: "lines",
-        takes: Takes::Lines,
-        help: "Print at most N lines for each file, and then `...` if there are more; 0 for the status alone",
-    },
-    FORM,
-];
-
-const SHOW: [Row; 4] = [
-    FILES,
-    Row {
-        id: "check",
-        takes: Takes::Flag,
-        help: "Write nothing but the name of each file that is not as `show` writes it, with status 1",
-    },
-    Row {
-        id: "format",
-        takes: Takes::OneOf("FORMAT", &FORMATS),
-        help: "YAML in block style, or a line of JSON for each document",
-    },
-    Row {
-        id: "textconv",
-        takes: Takes::Flag,
-        help: "Write a rejected file as it is, with status 0, as git wants it",
-    },
-];
-
-const SUM: [Row; 3] = [
-    FILES,
-    Row {
-        id: "files-from",
-        takes: Takes::Names,
-        help: "Take names from LIST, each ended by NUL or a line feed; `-` is standard input",
-    },
-    Row {
-        id: "check",
-        takes: Takes::Digests,
-        help: "Check the digests of LIST, which `sum` wrote",
-    },
-];
-
-const MERGE: [Row; 9] = [
-    Row {
-        id: "BASE",
-        takes: Takes::File,
-        help: "The file that both sides changed; `-` is standard input",
-    },
-    Row {
-        id: "OURS",
-        takes: Takes::File,
-        help: "What one side made of it",
-    },
-    Row {
-        id: "THEIRS",
-        takes: Takes::File,
-        help: "What the other side made of it",
-    },
-    Row {
-        id: "RESULT",
-        takes: Takes::LastFile,
-        help: "What was made of both, to be checked",
-    },
-    Row {
-        id: "no-places",
-        takes: Takes::Flag,
-        help: "Leave the lines and columns out",
-    },
-    Row {
-        id: "whole",
-        takes: Takes::Flag,
-        help: "Show texts of more than 60 bytes whole",
-    },
-    Row {
-        id: "lines",
-        takes: Takes::Lines,
-        help: "Print at most N lines, and then `...` if there are more; 0 for the status alone",
-    },
-    Row {
-        id: "quiet",
-        takes: Takes::Letter('q'),
-        help: "Print nothing; the status tells the result",
-    },
-    Row {
-        id: "color",
-        takes: Takes::Color,
-        help: "Print lines in colour; `auto` does so on a terminal",
-    },
-];
-
-const GIT: [Row; 1] = [Row {
-    id: "WORD",
-    takes: Takes::Words,
-    help: "1, 7 or 9 words, as git passes them; `--lines=show` before them prints changed lines of what `show` writes",
-}];
-
-const FILES: Row = Row {
-    id: "FILE",
-    takes: Takes::Files,
-    help: "A file; `-`, or none, is standard input",
-};
-
-const FORM: Row = Row {
-    id: "format",
-    takes: Takes::Form,
-    help: "Lines of text, one JSON object a line, a page, a table, SARIF 2.1.0, or GitHub's annotations",
-};
-
-const FORMS: [&str; 6] = ["line", "json", "html", "markdown", "sarif", "github"];
-
-const FORMATS: [&str; 2] = ["yaml", "json"];
-
-const COLORS: [&str; 3] = ["auto", "always", "never"];
-
-const SPELLINGS: [&str; 3] = ["plain", "jq", "jsonpointer"];
-
-/// A number of lines, at most so many.
-fn number<'a>(arg: Arg<'a>, row: &Row, most: u64) -> Arg<'a> {
-    arg.long(row.id)
-        .value_name("N")
-        .value_parser(ValueParser::unsigned(0, most))
-}
-
-/// One of some words.
-fn one_of<'a>(arg: Arg<'a>, row: &Row, name: &'a str, words: &'a [&'a str]) -> Arg<'a> {
-    arg.long(row.id).value_name(name).value_parser(words)
-}
-
-/// A text, of which each use adds one.
-fn texts<'a>(arg: Arg<'a>, row: &Row, name: &'a str) -> Arg<'a> {
-    arg.long(row.id).value_name(name).action(ArgAction::Append)
-}
-
-/// The argument that a row describes.
-fn arg_of<'a>(alloc: Global, row: &Row) -> Result<Arg<'a>, AllocError> {
-    let arg = Arg::new(alloc, row.id).help(row.help);
-    match row.takes {
-        Takes::File => Ok(arg.required(true)),
-        Takes::LastFile => Ok(arg.required(false)),
-        Takes::Files => Ok(arg.num_args(0..).action(ArgAction::Append)),
-        Takes::Flag => Ok(arg.long(row.id).action(ArgAction::SetTrue)),
-        Takes::Letter(letter) => Ok(arg.long(row.id).short(letter).action(ArgAction::SetTrue)),
-        Takes::Lines => Ok(number(arg, row, 1_000_000).default_value("1000")),
-        Takes::Most => Ok(number(arg, row, 1_000_000)),
-        Takes::Around(letter) => Ok(number(arg, row, 1_000).short(letter).default_value("0")),
-        Takes::Color => Ok(one_of(arg, row, "WHEN", COLORS.as_slice()).default_value("auto")),
-        Takes::Paths => Ok(texts(arg, row, "PATH")),
-        Takes::Spelling => {
-            Ok(one_of(arg, row, "HOW", SPELLINGS.as_slice()).default_value(SPELLINGS[0]))
-        }
-        Takes::Spelled => Ok(texts(arg, row, "WORD")),
-        Takes::Form => Ok(one_of(arg, row, "FORM", FORMS.as_slice()).default_value(FORMS[0])),
-        Takes::OneOf(name, words) => {
-            Ok(one_of(arg, row, name, words.as_slice()).default_value(words[0]))
-        }
-        Takes::Keys => Ok(texts(arg, row, "KEYS")),
-        Takes::Names => arg.long(row.id).value_name("LIST").conflicts_with("FILE"),
-        Takes::Digests => arg
-            .long(row.id)
-            .value_name("LIST")
-            .conflicts_with_all(&["FILE", "files-from"]),
-        Takes::Words => Ok(
-            arg.required(true)
-                .num_args(1..)
-                .action(ArgAction::Append)
-                .trailing_var_arg(true)
-                .allow_hyphen_values(true),
-        ),
-    }
-}
-
-/// A command and its arguments.
-struct Entry {
-    name: &'static str,
-    about: &'static str,
-    /// The exit statuses.
-    statuses: &'static str,
-    rows: &'static [Row],
-}
 
 const DIFF_STATUSES: &str =
     "Items of two lists are pairs if they are equal, or by the first of these names that stands once on each side:
@@ -377,73 +85,263 @@ const GIT_STATUSES: &str = "Exit status:
   2  memory is refused
   3  the words or the output cannot be used";
 
-const COMMANDS: [Entry; 7] = [
-    Entry {
-        name: "diff",
-        about: "Prints where two streams differ",
-        statuses: DIFF_STATUSES,
-        rows: &DIFF,
-    },
-    Entry {
-        name: "faults",
-        about: "Prints where files are rejected, and why",
-        statuses: FAULTS_STATUSES,
-        rows: &FAULTS,
-    },
-    Entry {
-        name: "warn",
-        about: "Prints what tools of YAML 1.1 read otherwise",
-        statuses: WARN_STATUSES,
-        rows: &WARN,
-    },
-    Entry {
-        name: "show",
-        about: "Prints streams as readable YAML, or as JSON",
-        statuses: SHOW_STATUSES,
-        rows: &SHOW,
-    },
-    Entry {
-        name: "sum",
-        about: "Prints the SHA-256 of each file's canonical text, as sha256sum does",
-        statuses: SUM_STATUSES,
-        rows: &SUM,
-    },
-    Entry {
-        name: "merge3",
-        about: "Prints where two changes of a stream conflict, or where RESULT is not their merge",
-        statuses: MERGE_STATUSES,
-        rows: &MERGE,
-    },
-    Entry {
-        name: "git",
-        about: "Prints what differs, called by git as GIT_EXTERNAL_DIFF or diff.NAME.command",
-        statuses: GIT_STATUSES,
-        rows: &GIT,
-    },
-];
-
-fn command_of<'a>(alloc: Global, entry: &Entry) -> Result<Command<'a>, AllocError> {
-    let mut args = Vec::new(alloc);
-    for row in entry.rows {
-        args.push(arg_of(alloc, row)?)?;
-    }
-    Command::new(alloc, entry.name)
-        .about(entry.about)
-        .after_help(entry.statuses)
+/// A command with its arguments.
+fn command<'a>(
+    alloc: Global,
+    name: &'a str,
+    about: &'a str,
+    statuses: &'a str,
+    args: Vec<Arg<'a>>,
+) -> Result<Command<'a>, AllocError>
+    ensures app { IfOk result (λ c. (rules : List Rule) → map arg_with_global args.entry.items ≡ map own rules → app_of c ≡ command name.entry.now rules) }
+    ensures local { IfOk result (λ c. (rules : List Rule) → map arg_with_global args.entry.items ≡ map own rules → IsLocal c) }
+{
+    Command::new(alloc, name)
+        .about(about)
+        .after_help(statuses)
         .args(args)
 }
 
-fn commands<'a>(alloc: Global) -> Result<Vec<Command<'a>>, AllocError> {
-    let mut commands = Vec::new(alloc);
-    for entry in &COMMANDS {
-        commands.push(command_of(alloc, entry)?)?;
-    }
-    Ok(commands)
+/// The words of `diff`.
+fn diff<'a>(alloc: Global, choices: &Choices<'a>) -> Result<Command<'a>, AllocError>
+    ensures app { IfOk result (λ c. app_of c ≡ diff (choices_of choices.now)) }
+    ensures local { IfOk result IsLocal }
+{
+    let args = vec![in alloc;
+        file(alloc, "A", true, "The left file; `-` is standard input"),
+        file(alloc, "B", true, "The right file"),
+        flag(alloc, "no-places", "Leave the lines and columns out"),
+        flag(alloc, "whole", "Show texts of more than 60 bytes whole"),
+        number(
+            alloc,
+            "lines",
+            1_000_000,
+            "Print at most N lines (1000), and then `...` if there are more; 0 for the status alone"
+        ),
+        unified(alloc),
+        letter(
+            alloc,
+            "quiet",
+            'q',
+            "Print nothing; the status tells the result"
+        ),
+        flag(
+            alloc,
+            "stat",
+            "Print how many differences there are: `+` only right, `-` only left, `~` changed, `>` moved"
+        ),
+        flag(
+            alloc,
+            "by-position",
+            "Pair items by their places, so that none moves"
+        ),
+        repeated(
+            alloc,
+            "by",
+            "KEYS",
+            "Pair items first by the values of these keys, parted by commas: `host,spec.id`; repeatable"
+        ),
+        flag(
+            alloc,
+            "no-fold",
+            "Print a line for each place at which aliases show one change, and for each pair that moved"
+        ),
+        color(alloc, choices),
+        repeated(
+            alloc,
+            "ignore",
+            "PATH",
+            "Leave out what is at or below PATH: steps as they are printed, `*` for any step; repeatable"
+        ),
+        spelling(alloc, choices),
+        form(alloc, choices),
+    ]?;
+    command(
+        alloc,
+        "diff",
+        "Prints where two streams differ",
+        DIFF_STATUSES,
+        args,
+    )
+}
+
+/// The words of `faults`.
+fn faults<'a>(alloc: Global, choices: &Choices<'a>) -> Result<Command<'a>, AllocError>
+    ensures app { IfOk result (λ c. app_of c ≡ faults (choices_of choices.now)) }
+    ensures local { IfOk result IsLocal }
+{
+    let args = vec![in alloc; files(alloc), form(alloc, choices)]?;
+    command(
+        alloc,
+        "faults",
+        "Prints where files are rejected, and why",
+        FAULTS_STATUSES,
+        args,
+    )
+}
+
+/// The words of `warn`.
+fn warn<'a>(alloc: Global, choices: &Choices<'a>) -> Result<Command<'a>, AllocError>
+    ensures app { IfOk result (λ c. app_of c ≡ warn (choices_of choices.now)) }
+    ensures local { IfOk result IsLocal }
+{
+    let args = vec![in alloc;
+        files(alloc),
+        flag(alloc, "strict", "End with status 1 if there is a warning"),
+        repeated(
+            alloc,
+            "allow",
+            "WORD",
+            "Do not warn of the plain scalar WORD, as `on`; repeatable"
+        ),
+        lines(
+            alloc,
+            "Print at most N lines for each file, and then `...` if there are more; 0 for the status alone"
+        ),
+        form(alloc, choices),
+    ]?;
+    command(
+        alloc,
+        "warn",
+        "Prints what tools of YAML 1.1 read otherwise",
+        WARN_STATUSES,
+        args,
+    )
+}
+
+/// The words of `show`.
+fn show<'a>(alloc: Global, choices: &Choices<'a>) -> Result<Command<'a>, AllocError>
+    ensures app { IfOk result (λ c. app_of c ≡ show (choices_of choices.now)) }
+    ensures local { IfOk result IsLocal }
+{
+    let args = vec![in alloc;
+        files(alloc),
+        flag(
+            alloc,
+            "check",
+            "Write nothing but the name of each file that is not as `show` writes it, with status 1"
+        ),
+        format(alloc, choices),
+        flag(
+            alloc,
+            "textconv",
+            "Write a rejected file as it is, with status 0, as git wants it"
+        ),
+    ]?;
+    command(
+        alloc,
+        "show",
+        "Prints streams as readable YAML, or as JSON",
+        SHOW_STATUSES,
+        args,
+    )
+}
+
+/// The words of `sum`.
+fn sum<'a>(alloc: Global) -> Result<Command<'a>, AllocError>
+    ensures app { IfOk result (λ c. app_of c ≡ sum) }
+    ensures local { IfOk result IsLocal }
+{
+    let args = vec![in alloc;
+        files(alloc),
+        list(
+            alloc,
+            "files-from",
+            "Take names from LIST, each ended by NUL or a line feed; `-` is standard input"
+        ),
+        list(
+            alloc,
+            "check",
+            "Check the digests of LIST, which `sum` wrote"
+        ),
+    ]?;
+    command(
+        alloc,
+        "sum",
+        "Prints the SHA-256 of each file's canonical text, as sha256sum does",
+        SUM_STATUSES,
+        args,
+    )
+}
+
+/// The words of `merge3`.
+fn merge3<'a>(alloc: Global, choices: &Choices<'a>) -> Result<Command<'a>, AllocError>
+    ensures app { IfOk result (λ c. app_of c ≡ merge3 (choices_of choices.now)) }
+    ensures local { IfOk result IsLocal }
+{
+    let args = vec![in alloc;
+        file(
+            alloc,
+            "BASE",
+            true,
+            "The file that both sides changed; `-` is standard input"
+        ),
+        file(alloc, "OURS", true, "What one side made of it"),
+        file(alloc, "THEIRS", true, "What the other side made of it"),
+        file(
+            alloc,
+            "RESULT",
+            false,
+            "What was made of both, to be checked"
+        ),
+        flag(alloc, "no-places", "Leave the lines and columns out"),
+        flag(alloc, "whole", "Show texts of more than 60 bytes whole"),
+        lines(
+            alloc,
+            "Print at most N lines, and then `...` if there are more; 0 for the status alone"
+        ),
+        letter(
+            alloc,
+            "quiet",
+            'q',
+            "Print nothing; the status tells the result"
+        ),
+        color(alloc, choices),
+    ]?;
+    command(
+        alloc,
+        "merge3",
+        "Prints where two changes of a stream conflict, or where RESULT is not their merge",
+        MERGE_STATUSES,
+        args,
+    )
+}
+
+/// The words of `git`.
+fn git<'a>(alloc: Global) -> Result<Command<'a>, AllocError>
+    ensures app { IfOk result (λ c. app_of c ≡ git) }
+    ensures local { IfOk result IsLocal }
+{
+    let args = vec![in alloc; words(alloc)]?;
+    command(
+        alloc,
+        "git",
+        "Prints what differs, called by git as GIT_EXTERNAL_DIFF or diff.NAME.command",
+        GIT_STATUSES,
+        args,
+    )
+}
+
+/// The commands of the program.
+fn commands<'a>(alloc: Global, choices: &Choices<'a>) -> Result<Vec<Command<'a>>, AllocError>
+    ensures { IfOk result (λ list. map command_with_globals list.items ≡ map own (shapes (choices_of choices.now))) }
+{
+    let diff = diff(alloc, choices)?;
+    let faults = faults(alloc, choices)?;
+    let warn = warn(alloc, choices)?;
+    let show = show(alloc, choices)?;
+    let sum = sum(alloc)?;
+    let merge = merge3(alloc, choices)?;
+    let git = git(alloc)?;
+    Ok(vec![in alloc; diff, faults, warn, show, sum, merge, git]?)
 }
 
 /// The grammar of the program's words.
-pub(crate) fn grammar<'a>(alloc: Global) -> Result<Command<'a>, AllocError> {
-    let commands = commands(alloc)?;
+pub(crate) fn grammar<'a>(alloc: Global) -> Result<Command<'a>, AllocError>
+    ensures { IfOk result (λ command. IsProgram (app_of command)) }
+{
+    let choices = all_choices();
+    let commands = commands(alloc, &choices)?;
     Command::new(alloc, "yamlreview")
         .version("1.1.0 (yamlcanon-form-1)")
         .about("Prints where two YAML streams differ, and where in a file a fault is")

@@ -1,21 +1,42 @@
 //! Words in the order in which kubectl passes them.
+ghost use Rattle.std.specs.Prelude.{◌≡◌, ◌++◌, IfOk, OnOk, map, string_bytes};
+ghost use Rattle.review_args.specs.Order.{are_kubectls, in_order, is_absolute};
+
 use std::alloc::{AllocError, Global};
 
 /// The command that kubectl calls.
 const NAME: &str = "diff";
 
-/// Whether kubectl passes these words: the paths of two folders, and behind them the command and its options.
-fn are_kubectls(words: &[String]) -> bool {
-    match (words.first(), words.get(1), words.get(2)) {
-        (Some(left), Some(right), Some(name)) => {
-            left.starts_with('/') && right.starts_with('/') && name.as_str() == NAME
-        }
-        _ => false,
+/// Whether a text is an absolute path.
+fn is_absolute(text: &str) -> bool
+    ensures { result ≡ is_absolute text.now }
+{
+    match text.as_bytes().first() {
+        Some(byte) => *byte == b'/',
+        None => false,
     }
 }
 
+/// Whether kubectl passes these words: the paths of two folders, and behind them the command and its options.
+fn are_kubectls(words: &[String]) -> bool
+    ensures { result ≡ are_kubectls (map string_bytes words.now) }
+{
+    let Some((left, behind)) = words.split_first() else {
+        return false;
+    };
+    let Some((right, behind)) = behind.split_first() else {
+        return false;
+    };
+    let Some((name, _)) = behind.split_first() else {
+        return false;
+    };
+    is_absolute(left.as_str()) && is_absolute(right.as_str()) && name.as_str() == NAME
+}
+
 /// Copies words behind others.
-fn add(list: &mut Vec<String>, words: &[String]) -> Result<(), AllocError> {
+fn add(list: &mut Vec<String>, words: &[String]) -> Result<(), AllocError>
+    ensures { OnOk result (map string_bytes list.new.items ≡ map string_bytes list.old.items ++ map string_bytes words.now) }
+{
     for word in words {
         list.push(word.clone()?)?;
     }
@@ -24,7 +45,9 @@ fn add(list: &mut Vec<String>, words: &[String]) -> Result<(), AllocError> {
 
 /// The words in the order of all commands: the command, its options, and what it is for. `kubectl diff` splits the value of
 /// KUBECTL_EXTERNAL_DIFF at its spaces and passes all but the first of these words behind the paths of two folders.
-pub fn in_order(alloc: Global, words: &[String]) -> Result<Vec<String>, AllocError> {
+pub fn in_order(alloc: Global, words: &[String]) -> Result<Vec<String>, AllocError>
+    ensures { IfOk result (λ list. map string_bytes list.items ≡ in_order (map string_bytes words.now)) }
+{
     let mut list = Vec::new(alloc);
     match words.split_at_checked(2) {
         Some((folders, rest)) if are_kubectls(words) => {

@@ -1,0 +1,4 @@
+mod Loops
+mod Adding
+mod Parsing
+mod Getters

@@ -1,0 +1,17 @@
+use Rattle.std.proofs.Common.{◌≡◌, ◌∙◌, List, [], ◌∷◌, ap, map}
+use Rattle.std.proofs.lemmas.Result.{IfOk-weaker}
+use Rattle.clap.specs.Words.{Rule}
+use Rattle.review_args.specs.Grammar.{arg_with_global, words_of, own}
+use Rattle.review_args.proofs.grammar.git.Goals as goal
+
+pub returns-clause-app : goal.returns-clause-app
+returns-clause-app c =
+    let rules : List Rule = words_of ∷ [] in
+    let are : map arg_with_global c.in_ok-args.args.items ≡ map own rules = ap (map arg_with_global) c.in_ok-args.ensures.items ∙ (λ i. (c.words.ensures.rule i, c.words.ensures.local i) ∷ []) in
+    IfOk-weaker c.command.result _ _ (λ r h. h rules are) c.command.ensures.app
+
+pub returns-clause-local : goal.returns-clause-local
+returns-clause-local c =
+    let rules : List Rule = words_of ∷ [] in
+    let are : map arg_with_global c.in_ok-args.args.items ≡ map own rules = ap (map arg_with_global) c.in_ok-args.ensures.items ∙ (λ i. (c.words.ensures.rule i, c.words.ensures.local i) ∷ []) in
+    IfOk-weaker c.command.result _ _ (λ r h. h rules are) c.command.ensures.local

@@ -1,0 +1,3 @@
+pub mod Order
+pub mod Grammar
+pub mod Words

@@ -1,0 +1,209 @@
+//! The arguments of the commands.
+ghost use Rattle.std.specs.Prelude.{◌≡◌, false};
+ghost use Rattle.clap.specs.Words.{rule_of};
+ghost use Rattle.review_args.specs.Grammar.{
+  AreChoices,
+  choices_of,
+  color,
+  file,
+  files,
+  flag,
+  form,
+  format,
+  letter,
+  lines,
+  list,
+  number,
+  one_of,
+  repeated,
+  spelling,
+  unified,
+  words_of,
+};
+
+use clap::builder::ValueParser;
+use clap::{Arg, ArgAction};
+use std::alloc::Global;
+
+/// The words of which an argument takes one.
+#[derive(Clone, Copy)]
+pub(crate) struct Choices<'a> {
+    colors: &'a [&'a str],
+    formats: &'a [&'a str],
+    forms: &'a [&'a str],
+    spellings: &'a [&'a str],
+}
+
+/// The words that there are.
+pub(crate) fn all_choices<'a>() -> Choices<'a>
+    ensures { AreChoices (choices_of result) }
+{
+    Choices {
+        colors: &["auto", "always", "never"],
+        formats: &["yaml", "json"],
+        forms: &["line", "json", "html", "markdown", "sarif", "github"],
+        spellings: &["plain", "jq", "jsonpointer"],
+    }
+}
+
+/// A file, which has to be given or not.
+pub(crate) fn file<'a>(alloc: Global, id: &'a str, required: bool, help: &'a str) -> Arg<'a>
+    ensures rule { rule_of result ≡ file id.entry.now required }
+    ensures local { result.global ≡ false }
+{
+    Arg::new(alloc, id).required(required).help(help)
+}
+
+/// Any number of files.
+pub(crate) fn files<'a>(alloc: Global) -> Arg<'a>
+    ensures rule { rule_of result ≡ files }
+    ensures local { result.global ≡ false }
+{
+    Arg::new(alloc, "FILE")
+        .num_args(0..)
+        .action(ArgAction::Append)
+        .help("A file; `-`, or none, is standard input")
+}
+
+/// Whether it is given.
+pub(crate) fn flag<'a>(alloc: Global, id: &'a str, help: &'a str) -> Arg<'a>
+    ensures rule { rule_of result ≡ flag id.entry.now }
+    ensures local { result.global ≡ false }
+{
+    Arg::new(alloc, id)
+        .long(id)
+        .action(ArgAction::SetTrue)
+        .help(help)
+}
+
+/// The same, by one letter too.
+pub(crate) fn letter<'a>(alloc: Global, id: &'a str, short: char, help: &'a str) -> Arg<'a>
+    ensures rule { rule_of result ≡ letter id.entry.now short }
+    ensures local { result.global ≡ false }
+{
+    flag(alloc, id, help).short(short)
+}
+
+/// A number of lines, at most so many.
+pub(crate) fn number<'a>(alloc: Global, id: &'a str, most: u64, help: &'a str) -> Arg<'a>
+    ensures rule { rule_of result ≡ number id.entry.now most }
+    ensures local { result.global ≡ false }
+{
+    Arg::new(alloc, id)
+        .long(id)
+        .value_name("N")
+        .value_parser(ValueParser::unsigned(0, most))
+        .help(help)
+}
+
+/// The greatest number of lines.
+pub(crate) fn lines<'a>(alloc: Global, help: &'a str) -> Arg<'a>
+    ensures rule { rule_of result ≡ lines }
+    ensures local { result.global ≡ false }
+{
+    number(alloc, "lines", 1_000_000, help).default_value("1000")
+}
+
+/// One of some words, of which one is taken if none is given.
+pub(crate) fn one_of<'a>(
+    alloc: Global,
+    id: &'a str,
+    name: &'a str,
+    words: &'a [&'a str],
+    taken: &'a str,
+    help: &'a str,
+) -> Arg<'a>
+    ensures rule { rule_of result ≡ one_of id.entry.now words.entry taken.entry.now }
+    ensures local { result.global ≡ false }
+{
+    Arg::new(alloc, id)
+        .long(id)
+        .value_name(name)
+        .value_parser(words)
+        .default_value(taken)
+        .help(help)
+}
+
+/// When lines are in colour.
+pub(crate) fn color<'a>(alloc: Global, choices: &Choices<'a>) -> Arg<'a>
+    ensures rule { rule_of result ≡ color (choices_of choices.now) }
+    ensures local { result.global ≡ false }
+{
+    let help = "Print lines in colour; `auto` does so on a terminal";
+    one_of(alloc, "color", "WHEN", choices.colors, "auto", help)
+}
+
+/// The form of what is found.
+pub(crate) fn form<'a>(alloc: Global, choices: &Choices<'a>) -> Arg<'a>
+    ensures rule { rule_of result ≡ form (choices_of choices.now) }
+    ensures local { result.global ≡ false }
+{
+    let help =
+        "Lines of text, one JSON object a line, a page, a table, SARIF 2.1.0, or GitHub's annotations";
+    one_of(alloc, "format", "FORM", choices.forms, "line", help)
+}
+
+/// A text, of which each use adds one.
+pub(crate) fn repeated<'a>(alloc: Global, id: &'a str, name: &'a str, help: &'a str) -> Arg<'a>
+    ensures rule { rule_of result ≡ repeated id.entry.now }
+    ensures local { result.global ≡ false }
+{
+    Arg::new(alloc, id)
+        .long(id)
+        .value_name(name)
+        .action(ArgAction::Append)
+        .help(help)
+}
+
+/// The name of a list.
+pub(crate) fn list<'a>(alloc: Global, id: &'a str, help: &'a str) -> Arg<'a>
+    ensures rule { rule_of result ≡ list id.entry.now }
+    ensures local { result.global ≡ false }
+{
+    Arg::new(alloc, id).long(id).value_name("LIST").help(help)
+}
+
+/// The words that git passes.
+pub(crate) fn words<'a>(alloc: Global) -> Arg<'a>
+    ensures rule { rule_of result ≡ words_of }
+    ensures local { result.global ≡ false }
+{
+    Arg::new(alloc, "WORD")
+        .required(true)
+        .num_args(1..)
+        .action(ArgAction::Append)
+        .trailing_var_arg(true)
+        .help(
+            "1, 7 or 9 words, as git passes them; `--lines=show` before them prints changed lines of what `show` writes",
+        )
+}
+
+/// How many lines are printed around changed ones.
+pub(crate) fn unified<'a>(alloc: Global) -> Arg<'a>
+    ensures rule { rule_of result ≡ unified }
+    ensures local { result.global ≡ false }
+{
+    let help =
+        "Of strings that have several lines, print N lines before and behind each changed line";
+    number(alloc, "unified", 1_000, help)
+        .short('U')
+        .default_value("0")
+}
+
+/// How paths are written.
+pub(crate) fn spelling<'a>(alloc: Global, choices: &Choices<'a>) -> Arg<'a>
+    ensures rule { rule_of result ≡ spelling (choices_of choices.now) }
+    ensures local { result.global ≡ false }
+{
+    let help = "How paths are written: as filters of jq, as JSON pointers (RFC 6901), or `plain`";
+    one_of(alloc, "paths", "HOW", choices.spellings, "plain", help)
+}
+
+/// The form of what is shown.
+pub(crate) fn format<'a>(alloc: Global, choices: &Choices<'a>) -> Arg<'a>
+    ensures rule { rule_of result ≡ format (choices_of choices.now) }
+    ensures local { result.global ≡ false }
+{
+    let help = "YAML in block style, or a line of JSON for each document";
+    one_of(alloc, "format", "FORMAT", choices.formats, "yaml", help)
+}

@@ -1,0 +1,326 @@
+//! Reads the program's words.
+ghost use Rattle.std.specs.Prelude.{◌≡◌, List, ℕ, Some, codes, IfOk, IfErr, map, option_map, string_bytes};
+ghost use Rattle.clap.specs.Words.{found_of, kind_of, rows_of};
+ghost use Rattle.clap.specs.Walk.{texts};
+ghost use Rattle.review_args.specs.Words.{
+  Asks,
+  AsksDiff,
+  AsksIgnored,
+  AsksIn,
+  AsksMerge,
+  AsksReport,
+  AsksShow,
+  AsksSum,
+  AsksWarn,
+  HasKeys,
+  Refuses,
+  RefusesDiff,
+  RefusesIn,
+  RefusesPatterns,
+  RefusesSum,
+  are_several,
+  git_words,
+  keys_in,
+};
+
+use crate::found::{
+    color_of, context_of, file_of, files_of, folds_of, form_of, format_of, is_on, is_there,
+    lines_or, loud_lines_or, page_of, paths_of, texts_of, value_of,
+};
+use crate::grammar::grammar;
+use crate::words::{Asked, Diff, LINES, Merge, Report, Show, Sum, Warn};
+use clap::error::ErrorKind;
+use clap::{ArgMatches, Error};
+use review_patterns::{Pattern, read_pattern};
+use std::alloc::{AllocError, Global};
+
+/// How many differences are counted where no number is given.
+const COUNTED: usize = 1_000_000;
+
+fn report_of<'a>(alloc: Global, matches: &ArgMatches<'a>) -> Result<Report<'a>, AllocError>
+    ensures { IfOk result (AsksReport (rows_of (found_of matches.now))) }
+{
+    Ok(Report {
+        files: files_of(alloc, matches)?,
+        form: form_of(matches),
+    })
+}
+
+fn warn_of<'a>(alloc: Global, matches: &ArgMatches<'a>) -> Result<Warn<'a>, AllocError>
+    ensures { IfOk result (AsksWarn (rows_of (found_of matches.now))) }
+{
+    Ok(Warn {
+        lines: lines_or(matches, LINES),
+        is_strict: is_on(matches, "strict"),
+        allowed: texts_of(alloc, matches, "allow")?,
+    })
+}
+
+fn diff_of<'a>(matches: &ArgMatches<'a>, by: &'a [&'a str], is_terminal: bool) -> Diff<'a>
+    ensures { AsksDiff (rows_of (found_of matches.now)) (texts by.entry.now) is_terminal result }
+{
+    let stat = is_on(matches, "stat");
+    Diff {
+        left: file_of(matches, "A"),
+        right: file_of(matches, "B"),
+        places: !is_on(matches, "no-places"),
+        whole: is_on(matches, "whole"),
+        lines: loud_lines_or(matches, if stat { COUNTED } else { LINES }),
+        form: form_of(matches),
+        context: context_of(matches),
+        color: color_of(matches, is_terminal),
+        stat,
+        by_position: is_on(matches, "by-position"),
+        by,
+        folds: folds_of(matches),
+        paths: paths_of(matches),
+    }
+}
+
+fn show_of<'a>(alloc: Global, matches: &ArgMatches<'a>) -> Result<Show<'a>, AllocError>
+    ensures { IfOk result (AsksShow (rows_of (found_of matches.now))) }
+{
+    Ok(Show {
+        files: files_of(alloc, matches)?,
+        format: format_of(matches),
+        textconv: is_on(matches, "textconv"),
+        is_check: is_on(matches, "check"),
+    })
+}
+
+fn merge_of<'a>(matches: &ArgMatches<'a>, is_terminal: bool) -> Merge<'a>
+    ensures { AsksMerge (rows_of (found_of matches.now)) is_terminal result }
+{
+    Merge {
+        base: file_of(matches, "BASE"),
+        ours: file_of(matches, "OURS"),
+        theirs: file_of(matches, "THEIRS"),
+        result: value_of(matches, "RESULT"),
+        lines: loud_lines_or(matches, LINES),
+        places: !is_on(matches, "no-places"),
+        whole: is_on(matches, "whole"),
+        color: color_of(matches, is_terminal),
+    }
+}
+
+/// An error of the words, of which `clap` knows nothing.
+fn refusal(alloc: Global, kind: ErrorKind, message: &str) -> Result<Error, AllocError>
+    ensures { IfOk result (λ e. kind_of e ≡ kind) }
+{
+    grammar(alloc)?.error(kind, message)
+}
+
+/// What is wrong with a pattern.
+const NO_PATTERN: &str =
+    "--ignore takes a path as diff prints it, with `*` for any step: .spec.replicas, .metadata.annotations[\"a/b\"], .containers[*].image";
+
+/// The error of a text that is no pattern.
+fn no_pattern(alloc: Global, text: &str) -> Result<Error, AllocError>
+    ensures { IfOk result (λ e. kind_of e ≡ ErrorKind.ValueValidation) }
+{
+    let message = format!(in alloc; "{text}: {NO_PATTERN}")?;
+    refusal(alloc, ErrorKind::ValueValidation, message.as_str())
+}
+
+/// The patterns of the paths whose differences are left out.
+fn ignored_of<'a>(alloc: Global, matches: &ArgMatches<'a>) -> Result<Vec<Pattern<'a>>, Error>
+    ensures ok { IfOk result (λ list. AsksIgnored (rows_of (found_of matches.now)) list.items) }
+    ensures err { IfErr result (λ e. RefusesPatterns (rows_of (found_of matches.now)) (kind_of e)) }
+{
+    let texts = texts_of(alloc, matches, "ignore")?;
+    let mut list = Vec::new(alloc);
+    for text in &texts {
+        match read_pattern(alloc, text)? {
+            Some(pattern) => list.push(pattern)?,
+            None => return Err(no_pattern(alloc, text)?),
+        }
+    }
+    Ok(list)
+}
+
+/// What is wrong with `--stat` beside the form of a page.
+const NO_STAT: &str =
+    "--stat is for --format=line and --format=json: a page has the numbers itself";
+
+/// What the words of `diff` ask for.
+fn diff_asked<'a>(
+    alloc: Global,
+    inner: &ArgMatches<'a>,
+    by: &'a [&'a str],
+    is_terminal: bool,
+) -> Result<Asked<'a>, Error>
+    ensures ok { IfOk result (AsksIn (codes "diff") (rows_of (found_of inner.now)) (texts by.entry.now) is_terminal) }
+    ensures err { IfErr result (λ e. RefusesDiff (rows_of (found_of inner.now)) (kind_of e)) }
+{
+    let ignored = ignored_of(alloc, inner)?;
+    let diff = diff_of(inner, by, is_terminal);
+    match page_of(inner) {
+        None => Ok(Asked::Diff(diff, ignored)),
+        Some(_) if diff.stat => Err(refusal(alloc, ErrorKind::ArgumentConflict, NO_STAT)?),
+        Some(page) => Ok(Asked::DiffPage(page, diff, ignored)),
+    }
+}
+
+/// What the words of `faults` ask for.
+fn faults_asked<'a>(alloc: Global, inner: &ArgMatches<'a>) -> Result<Asked<'a>, AllocError>
+    ensures { IfOk result (λ asked. (by : List (List ℕ)) (is_terminal : _) → AsksIn (codes "faults") (rows_of (found_of inner.now)) by is_terminal asked) }
+{
+    let report = report_of(alloc, inner)?;
+    match page_of(inner) {
+        None => Ok(Asked::Faults(report)),
+        Some(page) => Ok(Asked::FaultsPage(page, report)),
+    }
+}
+
+/// What the words of `warn` ask for.
+fn warn_asked<'a>(alloc: Global, inner: &ArgMatches<'a>) -> Result<Asked<'a>, AllocError>
+    ensures { IfOk result (λ asked. (by : List (List ℕ)) (is_terminal : _) → AsksIn (codes "warn") (rows_of (found_of inner.now)) by is_terminal asked) }
+{
+    let report = report_of(alloc, inner)?;
+    let warn = warn_of(alloc, inner)?;
+    match page_of(inner) {
+        None => Ok(Asked::Warn(report, warn)),
+        Some(page) => Ok(Asked::WarnPage(page, report, warn)),
+    }
+}
+
+/// What is wrong with two of the words that name what is summed.
+const SEVERAL: &str = "FILE, --files-from and --check cannot be used with one another";
+
+/// Whether more than one of FILE, `--files-from` and `--check` is given.
+fn are_several(inner: &ArgMatches<'_>) -> bool
+    ensures { result ≡ are_several (rows_of (found_of inner.now)) }
+{
+    let has_files = is_there(inner, "FILE");
+    let has_names = is_there(inner, "files-from");
+    (has_names && has_files) || (is_there(inner, "check") && (has_files || has_names))
+}
+
+/// What the words of `sum` ask for.
+fn sum_of<'a>(alloc: Global, inner: &ArgMatches<'a>) -> Result<Sum<'a>, Error>
+    ensures ok { IfOk result (AsksSum (rows_of (found_of inner.now))) }
+    ensures err { IfErr result (λ e. RefusesSum (rows_of (found_of inner.now)) (kind_of e)) }
+{
+    if are_several(inner) {
+        return Err(refusal(alloc, ErrorKind::ArgumentConflict, SEVERAL)?);
+    }
+    Ok(Sum {
+        files: files_of(alloc, inner)?,
+        files_from: value_of(inner, "files-from"),
+        check: value_of(inner, "check"),
+    })
+}
+
+/// The error of words that give no command.
+fn no_command(alloc: Global) -> Result<Error, AllocError>
+    ensures { IfOk result (λ e. kind_of e ≡ ErrorKind.MissingSubcommand) }
+{
+    refusal(alloc, ErrorKind::MissingSubcommand, "no command is given")
+}
+
+/// What the words of this command ask for, which is not `git`.
+fn asked_of<'a>(
+    alloc: Global,
+    name: &str,
+    inner: &ArgMatches<'a>,
+    by: &'a [&'a str],
+    is_terminal: bool,
+) -> Result<Asked<'a>, Error>
+    ensures ok { IfOk result (AsksIn name.now (rows_of (found_of inner.now)) (texts by.entry.now) is_terminal) }
+    ensures err { IfErr result (λ e. RefusesIn name.now (rows_of (found_of inner.now)) (kind_of e)) }
+{
+    match name {
+        "diff" => diff_asked(alloc, inner, by, is_terminal),
+        "faults" => Ok(faults_asked(alloc, inner)?),
+        "warn" => Ok(warn_asked(alloc, inner)?),
+        "show" => Ok(Asked::Show(show_of(alloc, inner)?)),
+        "sum" => Ok(Asked::Sum(sum_of(alloc, inner)?)),
+        "merge3" => Ok(Asked::Merge(merge_of(inner, is_terminal))),
+        _ => Err(no_command(alloc)?),
+    }
+}
+
+/// The words that git passes, if the words call `git` and ask for no help: those behind `git`, whatever they begin with, without a
+/// first `--`.
+fn git_words(words: &[String]) -> Option<&[String]>
+    ensures { option_map (λ passed. map string_bytes passed.now) result ≡ git_words (map string_bytes words.now) }
+{
+    let (command, behind) = words.split_first()?;
+    let (first, rest) = behind.split_first()?;
+    if command.as_str() != "git" {
+        return None;
+    }
+    match first.as_str() {
+        "--help" | "-h" => None,
+        "--" if rest.is_empty() => None,
+        "--" => Some(rest),
+        _ => Some(behind),
+    }
+}
+
+/// The texts of words.
+fn texts<'a>(alloc: Global, words: &'a [String]) -> Result<Vec<&'a str>, AllocError>
+    ensures { IfOk result (λ list. texts list.items ≡ map string_bytes words.entry.now) }
+{
+    let mut list = Vec::new(alloc);
+    for word in words {
+        list.push(word.as_str())?;
+    }
+    Ok(list)
+}
+
+/// The texts of `--by`, if the command is `diff`.
+fn keys_of<'a>(
+    alloc: Global,
+    name: &str,
+    inner: &ArgMatches<'a>,
+) -> Result<Vec<&'a str>, AllocError>
+    ensures { IfOk result (λ keys. texts keys.items ≡ keys_in (Some (name.now, rows_of (found_of inner.now)))) }
+{
+    if name == "diff" {
+        texts_of(alloc, inner, "by")
+    } else {
+        Ok(Vec::new(alloc))
+    }
+}
+
+/// The texts of `diff --by` among the words behind the program's own name, which `read_words` takes; none if the words ask for no
+/// command.
+pub fn read_keys<'a>(alloc: Global, words: &'a [String]) -> Result<Vec<&'a str>, AllocError>
+    ensures { IfOk result (λ keys. HasKeys (map string_bytes words.entry.now) (texts keys.items)) }
+{
+    let matches = match grammar(alloc)?.try_get_matches_from(words) {
+        Ok(matches) => matches,
+        Err(error) => {
+            return match error.kind() {
+                ErrorKind::OutOfMemory => Err(AllocError),
+                _ => Ok(Vec::new(alloc)),
+            };
+        }
+    };
+    match matches.subcommand() {
+        Some((name, inner)) => keys_of(alloc, name, inner),
+        None => Ok(Vec::new(alloc)),
+    }
+}
+
+/// Reads the words behind the program's own name, with the texts that `read_keys` finds in them, of a run whose output is a terminal or
+/// not. An error has the text for the user: what is wrong with the words, or the help or version that they ask for.
+pub fn read_words<'a>(
+    alloc: Global,
+    words: &'a [String],
+    by: &'a [&'a str],
+    is_terminal: bool,
+) -> Result<Asked<'a>, Error>
+    ensures ok { IfOk result (Asks (map string_bytes words.entry.now) (texts by.entry.now) is_terminal) }
+    ensures err { IfErr result (λ e. Refuses (map string_bytes words.entry.now) (kind_of e)) }
+{
+    if let Some(passed) = git_words(words) {
+        return Ok(Asked::Git(texts(alloc, passed)?));
+    }
+    let matches = grammar(alloc)?.try_get_matches_from(words)?;
+    match matches.subcommand() {
+        Some((name, inner)) => asked_of(alloc, name, inner, by, is_terminal),
+        None => Err(no_command(alloc)?),
+    }
+}
