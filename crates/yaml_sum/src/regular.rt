@@ -21,8 +21,8 @@ impl<'a, 'b, T> Regular<'a, 'b, T> {
 
     /// The files of this runtime, with the name of the list, if there is one.
     pub fn new(rt: &'a T, list: Option<&'b str>) -> Regular<'a, 'b, T>
-        ensures runtime { result.rt ≡ rt }
-        ensures list { result.list ≡ list }
+        ensures runtime { result.rt ≡ rt.entry }
+        ensures list { result.list ≡ list.entry }
     {
         Regular { rt, list }
     }
