@@ -1,3 +1,4 @@
+mod CommandLaws
 mod RejectionLaws
 mod GitLaws
 mod RunLaws
