@@ -9,8 +9,6 @@ pub enum Unwritten {
     Stopped(Stop),
     /// JSON cannot express a node.
     NoJson,
-    /// A number of a node is none of the graph, or nodes nest deeper than documents do. No document has such a node.
-    Lost,
 }
 
 impl From<Stop> for Unwritten {
