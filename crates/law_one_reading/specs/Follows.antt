@@ -1,7 +1,7 @@
 -- What follows what in a text: where content goes on, and what ends a node.
 use Rattle.std.specs.Prelude.{◌≡◌, ◌≢◌, ◌⊎◌, ◌<◌, ◌+◌, ℕ, List, Some, slice_get}
 use Rattle.yaml_definitions.specs.grammar.Rules.{Span, Stands, run, any_span}
-use Rattle.yaml_definitions.specs.grammar.Characters.{is_ns, is_space, c-collect-entry, c-comment, c-mapping-end, c-mapping-key, c-mapping-value, c-sequence-end, c-sequence-entry}
+use Rattle.yaml_definitions.specs.grammar.Characters.{is_ns, is_space}
 use Rattle.yaml_definitions.specs.grammar.Separation.{StartsLine, AtEnd, DocumentMark, s-indent as indent, flow_in, l-comment as l_comment, s-b-comment as s_b_comment}
 use Rattle.yaml_definitions.specs.grammar.FlowScalars.{plain_safe}
 use Rattle.law_one_reading.specs.Readings.{End}
@@ -11,7 +11,7 @@ module _ (cs : List ℕ) where
 
   -- content goes on here: no white, no break, no comment
   abbrev pub Solid : ℕ → Type 0
-  Solid i = Stands cs is_ns i × (slice_get cs i ≢ Some c-comment)
+  Solid i = Stands cs is_ns i × (slice_get cs i ≢ Some 35)
 
   -- and no document mark
   abbrev pub Fresh : ℕ → Type 0
@@ -29,7 +29,7 @@ module _ (cs : List ℕ) where
 
   -- a sequence's entry
   abbrev pub DashHere : ℕ → Type 0
-  DashHere p = (slice_get cs p ≡ Some c-sequence-entry) × (Stands cs is_ns (p + 1) → ⊥)
+  DashHere p = (slice_get cs p ≡ Some 45) × (Stands cs is_ns (p + 1) → ⊥)
 
   abbrev pub Dash : ℕ → ℕ → Type 0
   Dash k m = (p : ℕ) × indent cs k m p × DashHere p
@@ -61,7 +61,7 @@ module _ (cs : List ℕ) where
 
   -- a key ends: spaces and a colon, and no text just after it
   abbrev pub FollowKey : ℕ → Type 0
-  FollowKey j = (q : ℕ) × run cs is_space j q × (slice_get cs q ≡ Some c-mapping-value) × (Stands cs is_ns (q + 1) → ⊥)
+  FollowKey j = (q : ℕ) × run cs is_space j q × (slice_get cs q ≡ Some 58) × (Stands cs is_ns (q + 1) → ⊥)
 
   -- a node ends, and what is less indented follows
   abbrev pub FollowRest : ℕ → ℕ → ℕ → Type 0
@@ -74,10 +74,10 @@ module _ (cs : List ℕ) where
 
   -- a comma or a closing bracket
   abbrev pub Closes : ℕ → Type 0
-  Closes q = (slice_get cs q ≡ Some c-collect-entry) ⊎ (slice_get cs q ≡ Some c-sequence-end) ⊎ (slice_get cs q ≡ Some c-mapping-end)
+  Closes q = (slice_get cs q ≡ Some 44) ⊎ (slice_get cs q ≡ Some 93) ⊎ (slice_get cs q ≡ Some 125)
 
   abbrev pub Colon : ℕ → Type 0
-  Colon q = slice_get cs q ≡ Some c-mapping-value
+  Colon q = slice_get cs q ≡ Some 58
 
   abbrev pub EndsYamlKey : ℕ → Type 0
   EndsYamlKey q = Colon q × (Stands cs (plain_safe flow_in) (q + 1) → ⊥)
@@ -94,7 +94,7 @@ module _ (cs : List ℕ) where
 
   -- a `?` that stands alone
   abbrev pub MarkHere : ℕ → Type 0
-  MarkHere i = (slice_get cs i ≡ Some c-mapping-key) × (Stands cs is_ns (i + 1) → ⊥)
+  MarkHere i = (slice_get cs i ≡ Some 63) × (Stands cs is_ns (i + 1) → ⊥)
 
   -- after separation a comma or a bracket stands at m
   abbrev pub EndsPart : End

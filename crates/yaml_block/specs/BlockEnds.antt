@@ -3,7 +3,7 @@ use Rattle.std.specs.Prelude.{◌≡◌, ◌⊎◌, ℕ, ◌+◌, ◌<◌, List,
 use Rattle.yaml_text.specs.Source.{text_of, place_of}
 use Rattle.yaml_text.specs.declared.chars.Chars.{Chars}
 use Rattle.yaml_definitions.specs.grammar.Rules.{run, Stands}
-use Rattle.yaml_definitions.specs.grammar.Characters.{is_ns, is_space, c-folded, c-literal, c-mapping-value}
+use Rattle.yaml_definitions.specs.grammar.Characters.{is_ns, is_space}
 use Rattle.yaml_definitions.specs.grammar.Separation.{Ctx, s-indent as indent, AtEnd, DocumentMark}
 use Rattle.law_one_reading.specs.Readings.{End, At}
 use Rattle.law_one_reading.specs.Follows.{Fresh, Stuck, Less, Over, Follow}
@@ -39,15 +39,15 @@ module _ (cs : List ℕ) where
 
   -- what a block scalar begins with
   abbrev pub SignIs : ℕ → Block → Type 0
-  SignIs i Literal = slice_get cs i ≡ Some c-literal
-  SignIs i Folded = slice_get cs i ≡ Some c-folded
+  SignIs i Literal = slice_get cs i ≡ Some 124
+  SignIs i Folded = slice_get cs i ≡ Some 62
 
   abbrev pub IsStyleSign : ℕ → Type 0
-  IsStyleSign i = (slice_get cs i ≡ Some c-literal) ⊎ (slice_get cs i ≡ Some c-folded)
+  IsStyleSign i = (slice_get cs i ≡ Some 124) ⊎ (slice_get cs i ≡ Some 62)
 
   -- after a node that ends at j spaces and a colon stand
   abbrev pub ColonStands : ℕ → Type 0
-  ColonStands j = (q : ℕ) × run cs is_space j q × (slice_get cs q ≡ Some c-mapping-value)
+  ColonStands j = (q : ℕ) × run cs is_space j q × (slice_get cs q ≡ Some 58)
 
   -- the node from i to j is no key
   abbrev pub IsNoKey : ℕ → ℕ → Type 0

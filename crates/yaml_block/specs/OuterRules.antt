@@ -2,7 +2,7 @@
 use Rattle.std.specs.Prelude.{◌≡◌, ◌≢◌, ◌⊎◌, ℕ, ◌+◌, ◌<◌, ◌≤◌, List, Option, Some, None, slice_get}
 use Rattle.yaml_definitions.specs.model.Event.{Anchor, WrittenTag, untagged, non_specific, full}
 use Rattle.yaml_definitions.specs.grammar.Rules.{run, Stands}
-use Rattle.yaml_definitions.specs.grammar.Characters.{is_space, c-alias}
+use Rattle.yaml_definitions.specs.grammar.Characters.{is_space}
 use Rattle.yaml_definitions.specs.grammar.Separation.{flow_out, block_key, s-indent as indent, s-l-comments as s_l_comments, AtEnd, DocumentMark}
 use Rattle.yaml_definitions.specs.grammar.Tags.{Handles}
 use Rattle.yaml_definitions.specs.grammar.Events.{Props, no_props}
@@ -40,7 +40,7 @@ module _ (cs : List ℕ) where
 
   -- no alias stands at i, or it would have no properties
   abbrev pub MayBear : ℕ → Props → Type 0
-  MayBear i p = (p ≡ no_props) ⊎ (slice_get cs i ≢ Some c-alias)
+  MayBear i p = (p ≡ no_props) ⊎ (slice_get cs i ≢ Some 42)
 
 module _ (cs : List ℕ) (handles : Handles) where
   -- all properties of one line, or one of a line and another of the next, which has at least col spaces

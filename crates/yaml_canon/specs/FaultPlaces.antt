@@ -1,7 +1,6 @@
 -- The input offsets that the faults 4 to 11 name.
 use Rattle.std.specs.Prelude.{◌≡◌, ◌+◌, ℕ, List, Option, Some, None, IfSome, drop, slice_get}
 use Rattle.std.specs.Str.{chars, IsCharBoundary}
-use Rattle.yaml_definitions.specs.grammar.Characters.{c-directive, c-escape, c-tag}
 use Rattle.yaml_definitions.specs.model.Limits.{text_limit}
 use Rattle.yaml_definitions.specs.model.Text.{mark_len}
 use Rattle.yaml_text.specs.Place.{place}
@@ -18,10 +17,10 @@ told_place (Syntax at) = Some (at, None)
 told_place (Tab at) = Some (at, Some 9)
 told_place (KeyTooLong at) = Some (at, None)
 told_place (TooDeep at) = Some (at, None)
-told_place (BadEscape at) = Some (at, Some c-escape)
-told_place (BadDirective at) = Some (at, Some c-directive)
-told_place (UnknownHandle at) = Some (at, Some c-tag)
-told_place (BadTag at) = Some (at, Some c-tag)
+told_place (BadEscape at) = Some (at, Some 92)
+told_place (BadDirective at) = Some (at, Some 37)
+told_place (UnknownHandle at) = Some (at, Some 33)
+told_place (BadTag at) = Some (at, Some 33)
 told_place _ = None
 
 -- The offset is that of a border between characters behind the byte order mark, or the text's end, and this character stands there.

@@ -1,6 +1,5 @@
 -- The parts of flow collections by the number of collections that are open in them at once, and the characters of flow nodes (YAML 1.2.2, 7.4 and 7.5).
 use Rattle.std.specs.Prelude.{◌≡◌, ℕ, ◌≤◌, ◌<◌, ◌+◌, List, Some, slice_get}
-use Rattle.yaml_definitions.specs.grammar.Characters.{c-double-quote, c-mapping-key, c-mapping-value, c-single-quote}
 use Rattle.yaml_definitions.specs.model.Event.{Event}
 use Rattle.yaml_definitions.specs.model.Event as style
 use Rattle.yaml_definitions.specs.grammar.Rules.{Span, Rule, ◌◆◌, ◌▸◌, ◌◂◌, ◌⨾◌, ◌∪◌, any, optional, maybe, gives, chr, Stands}
@@ -71,16 +70,16 @@ quoted_style quotes.Single = style.single
 abbrev pub FirstIs : Chars → ℕ → First → Type 0
 FirstIs source at (Sequence inside) = Steps (bytes_of source) at 91 inside
 FirstIs source at (Mapping inside) = Steps (bytes_of source) at 123 inside
-FirstIs source at Single = slice_get (text_of source) (place_of source at) ≡ Some c-single-quote
-FirstIs source at Double = slice_get (text_of source) (place_of source at) ≡ Some c-double-quote
+FirstIs source at Single = slice_get (text_of source) (place_of source at) ≡ Some 39
+FirstIs source at Double = slice_get (text_of source) (place_of source at) ≡ Some 34
 FirstIs source at Other = NoOpening (text_of source) (place_of source at)
 
 -- the colon stands here that makes a node of this kind a key; a `?` that begins an entry
 abbrev pub SignAt : Kind → Ctx → List ℕ → ℕ → Type 0
-SignAt kind c cs i = (slice_get cs i ≡ Some c-mapping-value) × MayFollowColon kind c cs (i + 1)
+SignAt kind c cs i = (slice_get cs i ≡ Some 58) × MayFollowColon kind c cs (i + 1)
 
 abbrev pub AskedAt : Ctx → List ℕ → ℕ → Type 0
-AskedAt c cs i = (slice_get cs i ≡ Some c-mapping-key) × (Stands cs (plain_safe c) (i + 1) → ⊥)
+AskedAt c cs i = (slice_get cs i ≡ Some 63) × (Stands cs (plain_safe c) (i + 1) → ⊥)
 
 -- after a key that is not like JSON something stands between the colon and the value
 abbrev pub IsParted : Kind → ℕ → ℕ → Type 0

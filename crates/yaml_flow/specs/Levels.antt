@@ -1,6 +1,5 @@
 -- The parts of flow collections at a level, and what stands in a node: where they begin and end, by which rule they are read, and what is decided of them (YAML 1.2.2, 7.4 and 7.5).
 use Rattle.std.specs.Prelude.{◌≡◌, ◌≤◌, ◌<◌, ◌+◌, ℕ, List, Result, Option, Some, slice_get}
-use Rattle.yaml_definitions.specs.grammar.Characters.{c-mapping-key}
 use Rattle.yaml_definitions.specs.model.Event.{Event}
 use Rattle.yaml_definitions.specs.grammar.Rules.{Rule}
 use Rattle.yaml_definitions.specs.grammar.Separation.{Ctx, flow_in}
@@ -61,7 +60,7 @@ module _ (source : Chars) (level : Level) where
     pub border : IsBorder source after
     pub low : level.least ≤ after
     pub inner : IsInner (context_of level.context)
-    pub mark : (i : ℕ) × (place_of source after ≡ i + 1) × (slice_get (text_of source) i ≡ Some c-mapping-key)
+    pub mark : (i : ℕ) × (place_of source after ≡ i + 1) × (slice_get (text_of source) i ≡ Some 63)
 
   -- one that begins with the colon of an empty key
   pub record StartsEmpty (at after : ℕ) : Type 0 where

@@ -1,6 +1,5 @@
 -- What plain scalars and a flow node's content decide (YAML 1.2.2, 7.3, 7.4).
 use Rattle.std.specs.Prelude.{◌≡◌, ◌⊎◌, ℕ, List, Result, Ok, Err, Option, Some, None, slice_get}
-use Rattle.yaml_definitions.specs.grammar.Characters.{c-double-quote, c-mapping-start, c-sequence-start, c-single-quote}
 use Rattle.yaml_text.specs.LeafAnswer.{Unread}
 use Rattle.yaml_definitions.specs.grammar.Separation.{Ctx}
 use Rattle.yaml_definitions.specs.grammar.Tags.{Handles}
@@ -17,7 +16,7 @@ use Rattle.yaml_layout.specs.declared.flow.FlowNode.{FlowNode}
 
 -- a bracket, a brace or a quote
 abbrev pub IsOpening : List ℕ → ℕ → Type 0
-IsOpening cs i = (slice_get cs i ≡ Some c-sequence-start) ⊎ (slice_get cs i ≡ Some c-mapping-start) ⊎ (slice_get cs i ≡ Some c-single-quote) ⊎ (slice_get cs i ≡ Some c-double-quote)
+IsOpening cs i = (slice_get cs i ≡ Some 91) ⊎ (slice_get cs i ≡ Some 123) ⊎ (slice_get cs i ≡ Some 39) ⊎ (slice_get cs i ≡ Some 34)
 
 -- a plain scalar, if one begins here
 abbrev pub DecidesPlain : List ℕ → ℕ → Ctx → ℕ → (FlowNode → ℕ) → Result (Option FlowNode) Fault → Type 0

@@ -1,6 +1,5 @@
 -- Flow nodes by the number of collections that are open in them at once (YAML 1.2.2, 7.4 and 7.5).
 use Rattle.std.specs.Prelude.{◌≡◌, ◌≢◌, ℕ, zero, suc, ◌≤◌, List, [], ◌∷◌, Some, slice_get}
-use Rattle.yaml_definitions.specs.grammar.Characters.{c-double-quote, c-mapping-start, c-sequence-start, c-single-quote}
 use Rattle.yaml_definitions.specs.model.Event.{Event}
 use Rattle.yaml_definitions.specs.model.Event as style
 use Rattle.yaml_definitions.specs.grammar.Rules.{Rule, ◌∪◌, never}
@@ -56,7 +55,7 @@ module _ (cs : List ℕ) (Wide : Type 0) (handles : Handles) where
 
 -- neither a bracket nor a brace nor a quote stands here
 abbrev pub NoOpening : List ℕ → ℕ → Type 0
-NoOpening cs i = (slice_get cs i ≢ Some c-sequence-start) × (slice_get cs i ≢ Some c-mapping-start) × (slice_get cs i ≢ Some c-single-quote) × (slice_get cs i ≢ Some c-double-quote)
+NoOpening cs i = (slice_get cs i ≢ Some 91) × (slice_get cs i ≢ Some 123) × (slice_get cs i ≢ Some 39) × (slice_get cs i ≢ Some 34)
 
 -- of what stands inside a flow collection
 abbrev pub IsInner : Ctx → Type 0

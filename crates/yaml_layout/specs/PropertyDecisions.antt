@@ -1,6 +1,5 @@
 -- What calls that read properties and flow nodes decide: which readings a text could go on with (YAML 1.2.2, 6.9 and 7.5).
 use Rattle.std.specs.Prelude.{◌≡◌, ◌⊎◌, ℕ, List, Result, Ok, Err, Some, None, slice_get, false}
-use Rattle.yaml_definitions.specs.grammar.Characters.{c-anchor, c-tag}
 use Rattle.yaml_definitions.specs.model.Event.{Event, untagged}
 use Rattle.yaml_definitions.specs.grammar.Rules.{Rule, maybe}
 use Rattle.yaml_definitions.specs.grammar.Separation.{Ctx, block_out, block_in, flow_out, flow_in, block_key, flow_key, s-separate as separate, s-l-comments as s_l_comments}
@@ -21,11 +20,11 @@ use Rattle.yaml_layout.specs.declared.flow.FlowNode.{FlowNode}
 
 -- a tag or an anchor begins here
 abbrev pub IsProperty : List ℕ → ℕ → Type 0
-IsProperty cs i = (slice_get cs i ≡ Some c-tag) ⊎ (slice_get cs i ≡ Some c-anchor)
+IsProperty cs i = (slice_get cs i ≡ Some 33) ⊎ (slice_get cs i ≡ Some 38)
 
 -- a tag here and an anchor there, or the other way round
 abbrev pub Differ : List ℕ → ℕ → ℕ → Type 0
-Differ cs i o = ((slice_get cs i ≡ Some c-tag) × (slice_get cs o ≡ Some c-anchor)) ⊎ ((slice_get cs i ≡ Some c-anchor) × (slice_get cs o ≡ Some c-tag))
+Differ cs i o = ((slice_get cs i ≡ Some 33) × (slice_get cs o ≡ Some 38)) ⊎ ((slice_get cs i ≡ Some 38) × (slice_get cs o ≡ Some 33))
 
 abbrev pub IsSingle : Props → Type 0
 IsSingle p = (p.anchor ≡ None) ⊎ (p.tag ≡ untagged)

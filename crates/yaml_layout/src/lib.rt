@@ -1,7 +1,5 @@
 //! What the readers of flow and block nodes share: lines, separation, implicit keys, node properties (YAML 1.2.2, 6.6, 6.7, 6.9,
 //! 7.4.2).
-//!
-//! What sibling nodes share is a `Level`: handles, indentation, context, and how many collections may still be opened.
 #![tactic(auto)]
 
 pub mod flow;

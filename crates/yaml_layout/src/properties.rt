@@ -1,6 +1,5 @@
 //! Node properties, read (YAML 1.2.2, 6.9).
 ghost use Rattle.std.specs.Prelude.{◌≡◌, ◌⊎◌, IfOk, IfErr, Some, slice_get};
-ghost use Rattle.yaml_definitions.specs.grammar.Characters.{c-anchor, c-tag};
 ghost use Rattle.yaml_text.specs.Source.{text_of, place_of, IsBorder};
 ghost use Rattle.yaml_text.specs.EventModel.{context_of};
 ghost use Rattle.yaml_mark.specs.HandlesModel.{handles_of};
@@ -66,7 +65,7 @@ fn read_tagged<'a>(
     handles: Option<&Handles<'a>>,
 ) -> Result<(Properties<'a>, usize), Fault>
     requires border { IsBorder source.now at }
-    requires sign { slice_get (text_of source.now) (place_of source.now at) ≡ Some c-tag }
+    requires sign { slice_get (text_of source.now) (place_of source.now at) ≡ Some 33 }
     ensures stand { IfOk result (λ r. StandFrom source.now handles.entry least (context_of context) at r.1 r.0) }
     ensures err { IfErr result IsRefusal }
     ensures barred { IfErr result (λ e. (e ≡ OutOfMemory) ⊎ Barred (text_of source.now) (handles_of handles.entry) least (context_of context) (place_of source.now at)) }
@@ -100,7 +99,7 @@ fn read_anchored<'a>(
     handles: Option<&Handles<'a>>,
 ) -> Result<(Properties<'a>, usize), Fault>
     requires border { IsBorder source.now at }
-    requires sign { slice_get (text_of source.now) (place_of source.now at) ≡ Some c-anchor }
+    requires sign { slice_get (text_of source.now) (place_of source.now at) ≡ Some 38 }
     ensures stand { IfOk result (λ r. StandFrom source.now handles.entry least (context_of context) at r.1 r.0) }
     ensures err { IfErr result IsRefusal }
     ensures barred { IfErr result (λ e. (e ≡ OutOfMemory) ⊎ Barred (text_of source.now) (handles_of handles.entry) least (context_of context) (place_of source.now at)) }

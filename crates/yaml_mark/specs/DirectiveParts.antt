@@ -2,7 +2,7 @@
 use Rattle.std.specs.Prelude.{◌≡◌, ◌≢◌, ℕ, List, [], ◌∷◌, Bool, true, false, Some, is_some, codes, bytes_eq, slice_get}
 use Rattle.std.specs.Map.{lookup}
 use Rattle.yaml_definitions.specs.grammar.Rules.{Span, Rule, ◌◆◌, ◌⊔◌, ◌▸◌, ◌◂◌, ◌∪◌, limited, chr, word, some_run, whole_run, any_span, ahead, with_value, seen}
-use Rattle.yaml_definitions.specs.grammar.Characters.{is_ns, is_space, c-comment}
+use Rattle.yaml_definitions.specs.grammar.Characters.{is_ns, is_space}
 use Rattle.yaml_definitions.specs.grammar.Separation.{s-l-comments as s_l_comments, l-comment as l_comment}
 use Rattle.yaml_definitions.specs.grammar.Tags.{Handles, c-tag-handle as tag_handle, ns-tag-prefix as tag_prefix, tag_char, uri_char}
 use Rattle.yaml_definitions.specs.grammar.Directives as grammar
@@ -39,7 +39,7 @@ module _ (cs : List ℕ) where
 
   -- a parameter that no `#` begins
   unfoldable pub parameter : Span
-  parameter = some_run cs is_space ◆ limited (λ i j. slice_get cs i ≢ Some c-comment) (whole_run cs is_ns)
+  parameter = some_run cs is_space ◆ limited (λ i j. slice_get cs i ≢ Some 35) (whole_run cs is_ns)
 
   -- what a prefix begins with
   unfoldable pub prefix_start : Span

@@ -5,7 +5,7 @@ ghost use Rattle.yaml_text.specs.Placed.{IsPlaced};
 ghost use Rattle.yaml_text.specs.Source.{text_of, place_of, IsBorder};
 ghost use Rattle.yaml_definitions.specs.grammar.Directives as grammar;
 ghost use Rattle.yaml_definitions.specs.grammar.Rules.{any_span, some_run, Stands, chr};
-ghost use Rattle.yaml_definitions.specs.grammar.Characters.{is_space, c-directive};
+ghost use Rattle.yaml_definitions.specs.grammar.Characters.{is_space};
 ghost use Rattle.yaml_definitions.specs.grammar.Tags.{uri_char};
 ghost use Rattle.yaml_definitions.specs.grammar.Separation.{StartsLine, AtEnd, l-comment as l_comment};
 ghost use Rattle.yaml_mark.specs.DirectiveParts.{IsMalformed, Settles, is_repeated, OnlyRepeats, WholeRepeats, parameter, prefix_start, prefix_run, version_rest, binding_rest, body, whole_directive, directive_of};
@@ -34,7 +34,7 @@ pub(crate) enum Directive<'a> {
 /// The fault of the directive at `at`, which can't be read on at `here`: a tab is one where a space may stand.
 fn malformed(source: &Chars<'_>, at: usize, here: usize) -> Fault
     requires at { IsBorder source.now at }
-    requires percent { slice_get (text_of source.now) (place_of source.now at) ≡ Some c-directive }
+    requires percent { slice_get (text_of source.now) (place_of source.now at) ≡ Some 37 }
     requires here { IsBorder source.now here }
     ensures malformed { IsMalformed result }
     ensures placed { IsPlaced source.now result }
@@ -48,7 +48,7 @@ fn malformed(source: &Chars<'_>, at: usize, here: usize) -> Fault
 /// The border after the spaces that stand at a border, one at least. Without one there is the place of the fault.
 fn skip_gap(source: &Chars<'_>, at: usize, from: usize) -> Result<usize, Fault>
     requires at { IsBorder source.now at }
-    requires percent { slice_get (text_of source.now) (place_of source.now at) ≡ Some c-directive }
+    requires percent { slice_get (text_of source.now) (place_of source.now at) ≡ Some 37 }
     requires from { IsBorder source.now from }
     ensures border { IfOk result (λ to. IsBorder source.now to) }
     ensures onward { IfOk result (λ to. from < to) }
@@ -68,7 +68,7 @@ fn skip_gap(source: &Chars<'_>, at: usize, from: usize) -> Result<usize, Fault>
 /// The border after the version of the directive at `at`, whose name ends at `from`.
 fn read_version(source: &Chars<'_>, at: usize, from: usize) -> Result<usize, Fault>
     requires at { IsBorder source.now at }
-    requires percent { slice_get (text_of source.now) (place_of source.now at) ≡ Some c-directive }
+    requires percent { slice_get (text_of source.now) (place_of source.now at) ≡ Some 37 }
     requires from { IsBorder source.now from }
     ensures border { IfOk result (λ to. IsBorder source.now to) }
     ensures onward { IfOk result (λ to. from < to) }
@@ -117,7 +117,7 @@ fn read_binding<'a>(
     handles: &Handles<'_>,
 ) -> Result<((&'a str, &'a str), usize), Fault>
     requires at { IsBorder source.now at }
-    requires percent { slice_get (text_of source.now) (place_of source.now at) ≡ Some c-directive }
+    requires percent { slice_get (text_of source.now) (place_of source.now at) ≡ Some 37 }
     requires from { IsBorder source.now from }
     ensures border { IfOk result (λ r. IsBorder source.now r.1) }
     ensures onward { IfOk result (λ r. from < r.1) }

@@ -1,6 +1,5 @@
 //! Directives (YAML 1.2.2, 6.8).
 ghost use Rattle.std.specs.Prelude.{◌≡◌, ◌<◌, ◌⊎◌, IfOk, IfErr, Some, slice_get};
-ghost use Rattle.yaml_definitions.specs.grammar.Characters.{c-directive};
 ghost use Rattle.yaml_text.specs.LeafAnswer.{Only};
 ghost use Rattle.yaml_text.specs.Placed.{IsPlaced};
 ghost use Rattle.yaml_text.specs.Source.{text_of, place_of, IsBorder};
@@ -30,7 +29,7 @@ pub fn read_directives<'a>(
     at: usize,
 ) -> Result<(Handles<'a>, usize), Fault>
     requires border { IsBorder source.now at }
-    requires percent { slice_get (text_of source.now) (place_of source.now at) ≡ Some c-directive }
+    requires percent { slice_get (text_of source.now) (place_of source.now at) ≡ Some 37 }
     requires start { StartsLine (text_of source.now) (place_of source.now at) }
     ensures border { IfOk result (λ r. IsBorder source.now r.1) }
     ensures onward { IfOk result (λ r. at < r.1) }

@@ -1,7 +1,6 @@
 //! Tags (YAML 1.2.2, 6.9.1).
 ghost use Rattle.std.specs.Prelude.{◌≡◌, ◌≢◌, ◌+◌, ◌≤◌, ◌<◌, IfOk, IfErr, Some, slice_get};
 ghost use Rattle.std.specs.Option.{option_map};
-ghost use Rattle.yaml_definitions.specs.grammar.Characters.{c-tag};
 ghost use Rattle.yaml_text.specs.LeafAnswer.{Only};
 ghost use Rattle.yaml_text.specs.EventModel.{written_of};
 ghost use Rattle.yaml_text.specs.Placed.{IsPlaced};
@@ -48,7 +47,7 @@ fn read_verbatim<'a>(
     requires at { IsBorder source.now at }
     requires from { IsBorder source.now from }
     requires order { at < from }
-    requires bang { slice_get (text_of source.now) (place_of source.now at) ≡ Some c-tag }
+    requires bang { slice_get (text_of source.now) (place_of source.now at) ≡ Some 33 }
     requires angle { slice_get (text_of source.now) (place_of source.now at + 1) ≡ Some 60 }
     requires next { place_of source.now from ≡ place_of source.now at + 2 }
     ensures border { IfOk result (λ r. IsBorder source.now r.1) }

@@ -1,6 +1,5 @@
 //! Documents, suffixes and streams (YAML 1.2.2, chapter 9).
 ghost use Rattle.std.specs.Prelude.{◌≡◌, ◌≤◌, ◌<◌, ◌⊎◌, IfSome, IfNone, IfOk, IfErr, MatchResult, List, map, length, Some, slice_get, [], ◌∷◌, ◌++◌};
-ghost use Rattle.yaml_definitions.specs.grammar.Characters.{c-directive};
 ghost use Rattle.yaml_definitions.specs.model.Limits.{open_limit, text_limit};
 ghost use Rattle.yaml_definitions.specs.model.Event.{Event as PlainEvent, stream_start, stream_end};
 ghost use Rattle.yaml_definitions.specs.model.Tree.{Tree};
@@ -137,7 +136,7 @@ fn read_directed<'a, K: Keeper>(
     out: &mut Sink<'a, K>,
 ) -> Result<Line, Fault>
     requires border { IsBorder source.now at }
-    requires percent { slice_get (text_of source.now) (place_of source.now at) ≡ Some c-directive }
+    requires percent { slice_get (text_of source.now) (place_of source.now at) ≡ Some 37 }
     requires start { StartsLine (text_of source.now) (place_of source.now at) }
     ensures line { IfOk result (IsLine source.now) }
     ensures onward { IfOk result (λ line. at ≤ line.start) }

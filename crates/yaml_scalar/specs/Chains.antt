@@ -2,7 +2,7 @@
 -- empty run of whites or a fold. That these are the readings of the grammar is proved, and contracts cite the grammar.
 use Rattle.std.specs.Prelude.{◌≡◌, ◌≢◌, ℕ, ◌+◌, ◌⊎◌, List, [], ◌∷◌, Bool, false, not, ◌&&◌, ◌==◌, if◌then◌else◌, Option, Some, None, slice_get}
 use Rattle.yaml_definitions.specs.grammar.Rules.{Span, Rule, ◌◆◌, ◌⊔◌, ◌▸◌, ◌◂◌, ◌⨾◌, ◌∪◌, gives, seen, any, chr, run, copied, Stands, where_both}
-use Rattle.yaml_definitions.specs.grammar.Characters.{is_in, is_white, is_ns, is_indicator, c-comment, c-escape, c-mapping-value, c-single-quote}
+use Rattle.yaml_definitions.specs.grammar.Characters.{is_in, is_white, is_ns, is_indicator}
 use Rattle.yaml_definitions.specs.grammar.Separation.{Ctx, s-indent as indent, s-indent-less-than as less, DocumentMark, Unmarked}
 use Rattle.yaml_definitions.specs.grammar.FlowScalars.{plain_safe, PlainFirst, ns-single-char as single_char, ns-double-char as double_char}
 use Rattle.yaml_text.specs.Lines.{is_key, line_brk}
@@ -77,15 +77,15 @@ module _ (cs : List ℕ) where
   -- ---- plain
 
   unfoldable pub Later : Ctx → ℕ → Type 0
-  Later c i = Stands cs (plain_inner c) i ⊎ ((slice_get cs i ≡ Some c-mapping-value) × Stands cs (plain_safe c) (i + 1))
+  Later c i = Stands cs (plain_inner c) i ⊎ ((slice_get cs i ≡ Some 58) × Stands cs (plain_safe c) (i + 1))
 
   -- a # just after a character of the scalar, or a gap and a later character
   unfoldable pub plain_more : ℕ → Ctx → TextRule
-  plain_more n c = taken_at (λ i. slice_get cs i ≡ Some c-comment) ∪ (gap n c ⨾ taken_at (Later c))
+  plain_more n c = taken_at (λ i. slice_get cs i ≡ Some 35) ∪ (gap n c ⨾ taken_at (Later c))
 
   -- the same on one line, and after a fold
   unfoldable pub line_more : Ctx → TextRule
-  line_more c = taken_at (λ i. slice_get cs i ≡ Some c-comment) ∪ (copied cs (run cs is_white) ⨾ taken_at (Later c))
+  line_more c = taken_at (λ i. slice_get cs i ≡ Some 35) ∪ (copied cs (run cs is_white) ⨾ taken_at (Later c))
 
   unfoldable pub fold_more : ℕ → Ctx → TextRule
   fold_more n c = where_both (Unmarked cs) (folds n c ⨾ taken_at (Later c))
@@ -111,7 +111,7 @@ module _ (cs : List ℕ) where
 
   -- the closing quote, which no further one follows
   unfoldable pub closing_quote : Span
-  closing_quote i j = (slice_get cs i ≡ Some c-single-quote) × (slice_get cs (i + 1) ≢ Some c-single-quote) × (j ≡ i + 1)
+  closing_quote i j = (slice_get cs i ≡ Some 39) × (slice_get cs (i + 1) ≢ Some 39) × (j ≡ i + 1)
 
   -- Whites before a fold and after it are the fold's, and between two folds stands a solid character.
   unfoldable pub single_rest : ℕ → Ctx → TextRule
@@ -124,7 +124,7 @@ module _ (cs : List ℕ) where
 
   -- where a character or the end of the text begins, and no escaped break
   abbrev pub SolidStart : ℕ → Type 0
-  SolidStart i = Stands cs is_ns i × (slice_get cs i ≡ Some c-escape → (j : ℕ) → line_brk cs (i + 1) j → ⊥)
+  SolidStart i = Stands cs is_ns i × (slice_get cs i ≡ Some 92 → (j : ℕ) → line_brk cs (i + 1) j → ⊥)
 
   -- no break stands here whose lead ends where such text begins that is no mark
   abbrev pub NoSolidBreaks : ℕ → Ctx → ℕ → Type 0

@@ -2,7 +2,6 @@
 ghost use Rattle.std.specs.Prelude.{◌≡◌, ◌<◌, ◌+◌, ℕ, IfSome, IfNone, IfOk, IsUtf8, IfErr, Some, slice_get, replicate, ℤ, pos, ◌≤ℤ◌, nat_abs};
 ghost use Rattle.std.specs.Str.{chars};
 ghost use Rattle.std.specs.Cow.{cow_str_bytes};
-ghost use Rattle.yaml_definitions.specs.grammar.Characters.{c-escape};
 ghost use Rattle.yaml_text.specs.LeafAnswer.{Only};
 ghost use Rattle.yaml_text.specs.EventModel.{context_of};
 ghost use Rattle.yaml_text.specs.Placed.{IsPlaced};
@@ -31,10 +30,10 @@ fn escaped_break(source: &Chars<'_>, at: usize) -> Option<usize>
     requires { IsBorder source.now at }
     ensures border { IfSome result (λ to. IsBorder source.now to) }
     ensures onward { IfSome result (λ to. at < to) }
-    ensures mark { IfSome result (λ _. slice_get (text_of source.now) (place_of source.now at) ≡ Some c-escape) }
+    ensures mark { IfSome result (λ _. slice_get (text_of source.now) (place_of source.now at) ≡ Some 92) }
     ensures next { IfSome result (λ to. place_of source.now to ≡ place_of source.now at + 1) }
     ensures line { IfSome result (λ to. (j : ℕ) × line_brk (text_of source.now) (place_of source.now to) j) }
-    ensures none { IfNone result (slice_get (text_of source.now) (place_of source.now at) ≡ Some c-escape → (j : ℕ) → line_brk (text_of source.now) (place_of source.now at + 1) j → ⊥) }
+    ensures none { IfNone result (slice_get (text_of source.now) (place_of source.now at) ≡ Some 92 → (j : ℕ) → line_brk (text_of source.now) (place_of source.now at + 1) j → ⊥) }
 {
     match accept(source, at, '\\') {
         None => None,

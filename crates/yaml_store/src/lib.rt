@@ -1,7 +1,4 @@
 //! The store: nodes in sixteen bytes each, equal ones mostly merged; their tags and texts.
-//!
-//! The content of a node is a range of one text: the source, then what does not occur in it literally. Tags are in one text of their own.
-//! A table finds nodes and tags that occurred before. What it finds is compared with what was asked for, so no contract speaks of it.
 #![tactic(auto)]
 
 mod graph;

@@ -1,7 +1,4 @@
 //! The ranks of the nodes of a store (`compact_rank`): equal for equal trees, and in the order of trees.
-//!
-//! Nodes are ranked by rising height. The nodes of one height are sorted by kind and tag; then scalars by their content, of which the first
-//! fifteen bytes are compared first, and collections by the ranks of their parts.
 #![tactic(auto)]
 
 mod equal;

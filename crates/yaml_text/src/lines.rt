@@ -6,7 +6,7 @@ ghost use Rattle.yaml_text.specs.LeafAnswer.{IsSyntaxFault, IsRefusal};
 ghost use Rattle.yaml_text.specs.Placed.{IsPlaced};
 ghost use Rattle.yaml_text.specs.Lines.{line_brk, DashesOf, LooksLikeMarker, AfterLine, Uncut, blank_rest};
 ghost use Rattle.yaml_text.specs.Source.{bytes_of, mark_of, text_of, place_of, IsBorder};
-ghost use Rattle.yaml_definitions.specs.grammar.Characters.{is_space, is_white, is_nb, c-comment};
+ghost use Rattle.yaml_definitions.specs.grammar.Characters.{is_space, is_white, is_nb};
 ghost use Rattle.yaml_definitions.specs.grammar.Rules.{run, Stands, maybe, any_span, ◌◆◌};
 ghost use Rattle.yaml_definitions.specs.grammar.Separation.{StartsLine, DocumentMark, s-indent as indent, b-comment as line_end, c-nb-comment-text as comment, l-comment as l_comment};
 
@@ -165,7 +165,7 @@ pub fn read_comment(source: &Chars<'_>, at: usize) -> Option<usize>
     ensures border { IfSome result (λ to. IsBorder source.now to) }
     ensures onward { IfSome result (λ to. at < to) }
     ensures some { IfSome result (λ to. (comment (text_of source.now) ◆ line_end (text_of source.now)) (place_of source.now at) (place_of source.now to)) }
-    ensures none { IfNone result (slice_get (text_of source.now) (place_of source.now at) ≢ Some c-comment) }
+    ensures none { IfNone result (slice_get (text_of source.now) (place_of source.now at) ≢ Some 35) }
 {
     match accept(source, at, '#') {
         None => None,
@@ -183,7 +183,7 @@ fn skip_comment(source: &Chars<'_>, at: usize) -> Option<usize>
     ensures border { IfSome result (λ to. IsBorder source.now to) }
     ensures onward { IfSome result (λ to. at ≤ to) }
     ensures some { IfSome result (λ to. (maybe (comment (text_of source.now)) ◆ line_end (text_of source.now)) (place_of source.now at) (place_of source.now to)) }
-    ensures hash { IfNone result (slice_get (text_of source.now) (place_of source.now at) ≢ Some c-comment) }
+    ensures hash { IfNone result (slice_get (text_of source.now) (place_of source.now at) ≢ Some 35) }
     ensures none { IfNone result (Stands (text_of source.now) is_nb (place_of source.now at)) }
 {
     match read_comment(source, at) {

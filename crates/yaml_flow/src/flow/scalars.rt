@@ -2,7 +2,6 @@
 ghost use Rattle.std.specs.Prelude.{◌≡◌, ◌≤◌, ◌<◌, IfSome, IfOk, IfErr, IsUtf8, Some, pos, slice_get, [], ◌∷◌};
 ghost use Rattle.std.specs.Str.{chars};
 ghost use Rattle.std.specs.Cow.{cow_str_bytes};
-ghost use Rattle.yaml_definitions.specs.grammar.Characters.{c-alias};
 ghost use Rattle.yaml_definitions.specs.model.Limits.{text_limit};
 ghost use Rattle.yaml_text.specs.Source.{text_of, place_of, IsBorder};
 ghost use Rattle.yaml_text.specs.EventModel.{context_of, style_of};
@@ -50,7 +49,7 @@ pub fn read_alias<'a, K: Keeper>(
     out: &mut Sink<'a, K>,
 ) -> Result<FlowNode, Fault>
     requires border { IsBorder source.now at }
-    requires sign { slice_get (text_of source.now) (place_of source.now at) ≡ Some c-alias }
+    requires sign { slice_get (text_of source.now) (place_of source.now at) ≡ Some 42 }
     ensures ends { IfOk result (EndsAlone source.now at) }
     ensures kind { IfOk result (λ node. node.kind ≡ Yaml) }
     ensures reads { Appends (λ node. given (node.kind ≡ Yaml) (seen (λ x. alias_node x ∷ []) (tags.c-ns-alias-node (text_of source.now)))) (place_of source.now at) (λ node. place_of source.now node.end) (holds_of K.holds) out.old out.new result }
