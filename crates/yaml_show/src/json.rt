@@ -13,8 +13,8 @@ ghost use Rattle.yaml_show.specs.JsonText.{json_scalar, json_key, json_text, jso
 use crate::flow::put_separator;
 use crate::nodes::Nodes;
 use crate::unwritten::Unwritten;
-use std::alloc::{AllocError, Global};
-use yaml_show_scalar::Out;
+use std::alloc::Global;
+use yaml_show_scalar::{Out, Stop};
 use yaml_show_scalar::escapes::put_json_string;
 use yaml_show_scalar::number::{is_in_words, put_float};
 use yaml_show_scalar::tag::is_resolved;
@@ -143,6 +143,16 @@ fn put_json_entries<I: Copy, V: RankedNodes<I>>(
     Ok(())
 }
 
+/// Adds a line.
+fn add_line(lines: &mut Vec<String>, line: String) -> Result<(), Unwritten>
+    ensures { OnOk result (lines.new.items ≡ lines.old.items ++ (line ∷ [])) }
+{
+    match lines.push(line) {
+        Ok(()) => Ok(()),
+        Err(_) => Err(Unwritten::Stopped(Stop::OutOfMemory)),
+    }
+}
+
 /// The documents of these roots as JSON.
 fn root_lines<I: Copy, V: RankedNodes<I>>(
     alloc: Global,
@@ -158,7 +168,7 @@ fn root_lines<I: Copy, V: RankedNodes<I>>(
         let mut line = Out::new(alloc, left);
         put_json(view, *root, &mut line)?;
         left = line.left().saturating_sub(5);
-        lines.push(line.text).map_err(AllocError::from)?;
+        add_line(&mut lines, line.text)?;
     }
     Ok(lines)
 }

@@ -1,5 +1,4 @@
 //! Why documents are not written as JSON.
-use std::alloc::AllocError;
 use yaml_show_scalar::Stop;
 
 /// Why documents are not written as JSON.
@@ -14,11 +13,5 @@ pub enum Unwritten {
 impl From<Stop> for Unwritten {
     fn from(stop: Stop) -> Unwritten {
         Unwritten::Stopped(stop)
-    }
-}
-
-impl From<AllocError> for Unwritten {
-    fn from(_error: AllocError) -> Unwritten {
-        Unwritten::Stopped(Stop::OutOfMemory)
     }
 }

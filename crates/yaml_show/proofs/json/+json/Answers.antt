@@ -17,16 +17,16 @@ put_json-returns-in-Scalar g w c =
     let e = scalar-shown N T t _ _ _ c.node-node.ensures.tree c.in-Scalar.is in
     on_ok_weaker c.put_json_scalar.result (λ h. h ∙ ap (λ z. written c.args.out.now ++ z) (scalar_json t _ _ e)) c.put_json_scalar.ensures
 
-pub put_json-returns-in-Sequence : goal.put_json-returns-in-Sequence
-put_json-returns-in-Sequence g w c =
+pub put_json-returns-else-ne : goal.put_json-returns-else-ne
+put_json-returns-else-ne g w c =
     let N = g.V.RankedNodes.number in
     let T = g.V.RankedNodes.tree c.args.view.now in
     let t = T (N c.args.id) in
     let e = sequence-shown N T t _ _ _ c.node-node.ensures.tree c.in-Sequence.is in
     on_ok_weaker c.put_json_items.result (λ h. h ∙ ap (λ z. written c.args.out.now ++ z) (sequence_json t _ _ e)) c.put_json_items.ensures
 
-pub put_json-returns-in-Mapping : goal.put_json-returns-in-Mapping
-put_json-returns-in-Mapping g w c =
+pub put_json-returns-else-ne-2 : goal.put_json-returns-else-ne-2
+put_json-returns-else-ne-2 g w c =
     let N = g.V.RankedNodes.number in
     let T = g.V.RankedNodes.tree c.args.view.now in
     let t = T (N c.args.id) in

@@ -12,7 +12,7 @@ loop-root-preserved g c =
     let xs = c.args.roots.now in
     let i = c.loop-root.root-index in
     let x = c.root-item.result in
-    line_step string_bytes f xs i x _ _ _ _ (drop_item xs i x (omega arith) c.root-item.is) c.loop-root.invariant c.in_ok-push.ensures (c.in_ok-put_json.ensures ∙ ap (λ z. z ++ json_text (f x)) c.new-line.ensures)
+    line_step string_bytes f xs i x _ _ _ _ (drop_item xs i x (omega arith) c.root-item.is) c.loop-root.invariant c.in_ok-add_line.ensures (c.in_ok-put_json.ensures ∙ ap (λ z. z ++ json_text (f x)) c.new-line.ensures)
 
 pub returns : goal.returns
 returns g c = lines_end string_bytes (tree_of g.V.RankedNodes.tree g.V.RankedNodes.number c.args.view.now) c.args.roots.now c.loop-root.root-index _ _ (omega arith) c.loop-root.invariant
