@@ -14,10 +14,10 @@ use crate::flow::put_separator;
 use crate::nodes::Nodes;
 use crate::unwritten::Unwritten;
 use std::alloc::Global;
-use yaml_show_scalar::{Out, Stop};
 use yaml_show_scalar::escapes::put_json_string;
 use yaml_show_scalar::number::{is_in_words, put_float};
 use yaml_show_scalar::tag::is_resolved;
+use yaml_show_scalar::{Out, Stop};
 use yaml_spell::ranked::RankedNodes;
 use yaml_spell::ranked_graph::RankedGraph;
 use yaml_spell::shown::Inside;
@@ -60,11 +60,7 @@ fn put_string_key(out: &mut Out, tag: &str, content: &str) -> Result<(), Unwritt
 }
 
 /// Writes a key, which is a string, and its colon.
-fn put_json_key<I: Copy, V: RankedNodes<I>>(
-    view: &V,
-    id: I,
-    out: &mut Out,
-) -> Result<(), Unwritten>
+fn put_json_key<I: Copy, V: RankedNodes<I>>(view: &V, id: I, out: &mut Out) -> Result<(), Unwritten>
     requires stands { V.stands view.now }
     requires within { V.number id < V.count view.now }
     ensures { OnOk result (written out.new ≡ written out.old ++ json_key (V.tree view.now (V.number id))) }
