@@ -1,20 +1,34 @@
 //! Documents as lines of JSON (RFC 8259).
+ghost use Rattle.std.specs.Prelude.{◌≡◌, ◌<◌, ◌++◌, ◌∷◌, [], codes, map, string_bytes, OnOk, IfOk};
+ghost use Rattle.std.specs.List.{All};
+ghost use Rattle.yaml_definitions.specs.model.Order.{arranged};
+ghost use Rattle.yaml_graph.specs.GraphView.{forest};
+ghost use Rattle.yaml_rank.specs.RanksView.{RanksAre};
+ghost use Rattle.yaml_spell.specs.RankedNodes.{Rooted, tree_of, trees_of, pairs_of};
+ghost use Rattle.yaml_show_scalar.specs.Escapes.{quoted};
+ghost use Rattle.yaml_show_scalar.specs.declared.escapes.Language.TheVariants.{Json};
+ghost use Rattle.yaml_show_scalar.specs.Texts.{written};
+ghost use Rattle.yaml_show.specs.JsonText.{json_scalar, json_key, json_text, json_items, json_entries};
+
+use crate::flow::put_separator;
 use crate::nodes::Nodes;
 use crate::unwritten::Unwritten;
-use std::alloc::{AllocError, Global};
-use yaml_graph::node::{NodeId, NodeKind};
-use yaml_show_scalar::Out;
+use std::alloc::Global;
 use yaml_show_scalar::escapes::put_json_string;
 use yaml_show_scalar::number::{is_in_words, put_float};
 use yaml_show_scalar::tag::is_resolved;
+use yaml_show_scalar::{Out, Stop};
+use yaml_spell::ranked::RankedNodes;
+use yaml_spell::ranked_graph::RankedGraph;
+use yaml_spell::shown::Inside;
 use yaml_text::core_tag;
 use yaml_text::limits::text_limit;
 
-/// How many nodes may be inside one another.
-const LEVELS: u16 = 1_024;
-
 /// Writes a scalar.
-fn put_json_scalar(out: &mut Out, tag: &str, content: &str) -> Result<(), Unwritten> {
+#[tactic(auto, unfolding(crate::specs::JsonText::json_scalar, yaml_definitions::specs::model::Tag::core_tag))]
+fn put_json_scalar(out: &mut Out, tag: &str, content: &str) -> Result<(), Unwritten>
+    ensures { OnOk result (written out.new ≡ written out.old ++ json_scalar tag.now content.now) }
+{
     if tag == core_tag::STR {
         put_json_string(out, content)?;
         return Ok(());
@@ -33,58 +47,72 @@ fn put_json_scalar(out: &mut Out, tag: &str, content: &str) -> Result<(), Unwrit
     Ok(())
 }
 
+/// Writes a key that is a string, and its colon.
+fn put_string_key(out: &mut Out, tag: &str, content: &str) -> Result<(), Unwritten>
+    ensures { OnOk result (written out.new ≡ written out.old ++ (quoted Json content.now ++ codes ": ")) }
+{
+    if tag != core_tag::STR {
+        return Err(Unwritten::NoJson);
+    }
+    put_json_string(out, content)?;
+    out.put(": ")?;
+    Ok(())
+}
+
 /// Writes a key, which is a string, and its colon.
-fn put_json_key(nodes: &Nodes<'_>, id: NodeId, out: &mut Out) -> Result<(), Unwritten> {
-    let node = nodes.node(id)?;
-    match &node.kind {
-        NodeKind::Scalar(content) if node.tag.as_str() == core_tag::STR => {
-            put_json_string(out, content.as_str())?;
-            out.put(": ")?;
-            Ok(())
-        }
-        _ => Err(Unwritten::NoJson),
+fn put_json_key<I: Copy, V: RankedNodes<I>>(view: &V, id: I, out: &mut Out) -> Result<(), Unwritten>
+    requires stands { V.stands view.now }
+    requires within { V.number id < V.count view.now }
+    ensures { OnOk result (written out.new ≡ written out.old ++ json_key (V.tree view.now (V.number id))) }
+{
+    let node = view.node(id);
+    match node.inside {
+        Inside::Scalar(content) => put_string_key(out, node.tag, content),
+        Inside::Sequence(_) => Err(Unwritten::NoJson),
+        Inside::Mapping(_) => Err(Unwritten::NoJson),
     }
 }
 
-/// Writes a node. Of its levels, so many are left.
+/// Writes a node.
 #[cycle(json)]
-fn put_json(nodes: &Nodes<'_>, id: NodeId, left: u16, out: &mut Out) -> Result<(), Unwritten> {
-    let node = nodes.node(id)?;
-    if left == 0 {
-        return Err(Unwritten::Lost);
-    }
-    let tag = node.tag.as_str();
-    match &node.kind {
-        NodeKind::Scalar(content) => put_json_scalar(out, tag, content.as_str()),
-        NodeKind::Sequence(items) => {
-            if tag != core_tag::SEQ {
+fn put_json<I: Copy, V: RankedNodes<I>>(view: &V, id: I, out: &mut Out) -> Result<(), Unwritten>
+    requires stands { V.stands view.now }
+    requires within { V.number id < V.count view.now }
+    ensures { OnOk result (written out.new ≡ written out.old ++ json_text (V.tree view.now (V.number id))) }
+{
+    let node = view.node(id);
+    match node.inside {
+        Inside::Scalar(content) => put_json_scalar(out, node.tag, content),
+        Inside::Sequence(items) => {
+            if node.tag != core_tag::SEQ {
                 return Err(Unwritten::NoJson);
             }
-            put_json_items(nodes, items, left - 1, out)
+            put_json_items(view, items, out)
         }
-        NodeKind::Mapping(_) => {
-            if tag != core_tag::MAP {
+        Inside::Mapping(entries) => {
+            if node.tag != core_tag::MAP {
                 return Err(Unwritten::NoJson);
             }
-            put_json_entries(nodes, nodes.sorted(id), left - 1, out)
+            put_json_entries(view, entries, out)
         }
     }
 }
 
 /// Writes the items of a sequence as an array.
 #[cycle(json)]
-fn put_json_items(
-    nodes: &Nodes<'_>,
-    items: &[NodeId],
-    left: u16,
+fn put_json_items<I: Copy, V: RankedNodes<I>>(
+    view: &V,
+    items: &[I],
     out: &mut Out,
-) -> Result<(), Unwritten> {
+) -> Result<(), Unwritten>
+    requires stands { V.stands view.now }
+    requires within { All (λ i. V.number i < V.count view.now) items.now }
+    ensures { OnOk result (written out.new ≡ written out.old ++ (91 ∷ json_items [] (trees_of V.tree V.number view.now items.now))) }
+{
     out.put("[")?;
-    let mut between = "";
-    for item in items {
-        out.put(between)?;
-        between = ", ";
-        put_json(nodes, *item, left, out)?;
+    for (place, item) in items.iter().enumerate() {
+        put_separator(out, place)?;
+        put_json(view, *item, out)?;
     }
     out.put("]")?;
     Ok(())
@@ -92,37 +120,68 @@ fn put_json_items(
 
 /// Writes the entries of a mapping as an object.
 #[cycle(json)]
-fn put_json_entries(
-    nodes: &Nodes<'_>,
-    entries: &[(NodeId, NodeId)],
-    left: u16,
+fn put_json_entries<I: Copy, V: RankedNodes<I>>(
+    view: &V,
+    entries: &[(I, I)],
     out: &mut Out,
-) -> Result<(), Unwritten> {
+) -> Result<(), Unwritten>
+    requires stands { V.stands view.now }
+    requires within { All (λ p. (V.number p.0 < V.count view.now) × (V.number p.1 < V.count view.now)) entries.now }
+    ensures { OnOk result (written out.new ≡ written out.old ++ (123 ∷ json_entries [] (pairs_of V.tree V.number view.now entries.now))) }
+{
     out.put("{")?;
-    let mut between = "";
-    for entry in entries {
-        out.put(between)?;
-        between = ", ";
-        put_json_key(nodes, entry.0, out)?;
-        put_json(nodes, entry.1, left, out)?;
+    for (place, entry) in entries.iter().enumerate() {
+        put_separator(out, place)?;
+        put_json_key(view, entry.0, out)?;
+        put_json(view, entry.1, out)?;
     }
     out.put("}")?;
     Ok(())
 }
 
-/// The documents as JSON: a line for each, without its line feed. Keys are in the order of their bytes.
-///
-/// # Errors
-/// `NoJson`: a key is no string, a float is `.inf`, `-.inf` or `.nan`, or a tag is none of the core schema. `TooLong`: the lines, with
-/// five bytes for each more, would have more than 67,108,864 bytes. `OutOfMemory`. `Lost`: the graph has no such node.
-pub fn json_lines(alloc: Global, nodes: &Nodes<'_>) -> Result<Vec<String>, Unwritten> {
+/// Adds a line.
+fn add_line(lines: &mut Vec<String>, line: String) -> Result<(), Unwritten>
+    ensures { OnOk result (lines.new.items ≡ lines.old.items ++ (line ∷ [])) }
+{
+    match lines.push(line) {
+        Ok(()) => Ok(()),
+        Err(_) => Err(Unwritten::Stopped(Stop::OutOfMemory)),
+    }
+}
+
+/// The documents of these roots as JSON.
+fn root_lines<I: Copy, V: RankedNodes<I>>(
+    alloc: Global,
+    view: &V,
+    roots: &[I],
+) -> Result<Vec<String>, Unwritten>
+    requires rooted { Rooted V.stands V.count V.number view.now roots.now }
+    ensures { IfOk result (λ lines. map string_bytes lines.items ≡ map json_text (map (tree_of V.tree V.number view.now) roots.now)) }
+{
     let mut lines = Vec::new(alloc);
     let mut left = text_limit();
-    for root in nodes.graph.roots() {
+    for root in roots {
         let mut line = Out::new(alloc, left);
-        put_json(nodes, *root, LEVELS, &mut line)?;
+        put_json(view, *root, &mut line)?;
         left = line.left().saturating_sub(5);
-        lines.push(line.text).map_err(AllocError::from)?;
+        add_line(&mut lines, line.text)?;
     }
     Ok(lines)
+}
+
+/// The documents as JSON: a line for each, without its line feed. Keys are in the order of their bytes. The ranks must be those of the
+/// graph.
+///
+/// # Errors
+/// `NoJson`: a key is no string, a float is `.inf`, `-.inf` or `.nan`, or a tag is none of the core schema. `Stopped`: memory does not
+/// suffice, or the lines, with five bytes for each more, would have more than 67,108,864 bytes.
+pub fn json_lines(alloc: Global, nodes: &Nodes<'_>) -> Result<Vec<String>, Unwritten>
+    requires { RanksAre nodes.now.graph nodes.now.ranks }
+    ensures { IfOk result (λ lines. map string_bytes lines.items ≡ map json_text (map arranged (forest nodes.now.graph))) }
+{
+    let view = RankedGraph {
+        graph: &nodes.graph,
+        ranks: &nodes.ranks,
+    };
+    root_lines(alloc, &view, nodes.graph.roots())
 }

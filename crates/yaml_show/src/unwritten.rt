@@ -1,5 +1,4 @@
 //! Why documents are not written as JSON.
-use std::alloc::AllocError;
 use yaml_show_scalar::Stop;
 
 /// Why documents are not written as JSON.
@@ -9,18 +8,10 @@ pub enum Unwritten {
     Stopped(Stop),
     /// JSON cannot express a node.
     NoJson,
-    /// A number of a node is none of the graph, or nodes nest deeper than documents do. No document has such a node.
-    Lost,
 }
 
 impl From<Stop> for Unwritten {
     fn from(stop: Stop) -> Unwritten {
         Unwritten::Stopped(stop)
-    }
-}
-
-impl From<AllocError> for Unwritten {
-    fn from(_error: AllocError) -> Unwritten {
-        Unwritten::Stopped(Stop::OutOfMemory)
     }
 }

@@ -18,10 +18,12 @@ use Rattle.yaml_spell.specs.Documents.{arranged_bytes, spell_more}
 use Rattle.yaml_spell.proofs.DocumentLaws.{arranged_same, spell_whole}
 use Rattle.law_one_reading.proofs.Documents.{one_meaning}
 use Rattle.law_read_back.proofs.Meanings.{spellings_mean}
+use Rattle.yaml_show.specs.JsonText.{json_text}
 use Rattle.yaml_show.specs.Layout.{shown_text}
 use Rattle.yaml_canon.specs.Claims.{AllOf, MeansAlone, IsCanonicalText}
 use Rattle.yaml_shown.specs.Alike.{MeanAlike}
-use Rattle.yaml_shown.specs.Shows.{readable, ReadsBack, IsShownText, Shows, SameIsShownAlike}
+use Rattle.yaml_shown.specs.Lines.{joined}
+use Rattle.yaml_shown.specs.Shows.{readable, ReadsBack, IsShownText, Shows, SameIsShownAlike, json_of, ShowsJson, SameIsJsonAlike}
 
 -- ---- documents that are alike
 
@@ -93,11 +95,19 @@ pub when_none : {T P : Type 0} (o : Option T) → o ≡ None → IfNone o P → 
 when_none None e h = h
 when_none (Some x) e h = absurd (cc)
 
--- the text of the documents of a store that holds this stream and an empty one
+-- the documents of a store that holds this stream and an empty one
+all_meant : (bytes : List ℕ) (f lefts rights all : List Tree) → Means bytes lefts → Means [] rights → all ≡ lefts ++ rights → Means bytes f → all ≡ f
+all_meant bytes f lefts rights all m n e k = e ∙ ap (λ z. lefts ++ z) (nothing_meant rights n) ∙ append-nil lefts ∙ one_meaning bytes lefts f m k
+
+pub json_is : (bytes : List ℕ) (lines : List (List ℕ)) (f lefts rights all : List Tree) → Means bytes lefts → Means [] rights → all ≡ lefts ++ rights → lines ≡ map json_text (map arranged all) → Means bytes f → lines ≡ json_of f
+json_is bytes lines f lefts rights all m n e h k = h ∙ ap json_of (all_meant bytes f lefts rights all m n e k)
+
+-- the text of such documents
 pub readable_is : (bytes text : List ℕ) (f lefts rights all : List Tree) → Means bytes lefts → Means [] rights → all ≡ lefts ++ rights → text ≡ shown_text (map arranged all) → Means bytes f → text ≡ readable f
-readable_is bytes text f lefts rights all m n e h k =
-    let all_is : all ≡ f = e ∙ ap (λ z. lefts ++ z) (nothing_meant rights n) ∙ append-nil lefts ∙ one_meaning bytes lefts f m k in
-    h ∙ ap readable all_is
+readable_is bytes text f lefts rights all m n e h k = h ∙ ap readable (all_meant bytes f lefts rights all m n e k)
+
+pub shows_json : (bytes stream text : List ℕ) (lines : List (List ℕ)) → MeanAlike bytes stream → text ≡ joined [] lines → ((f : List Tree) → Means bytes f → lines ≡ json_of f) → ShowsJson bytes text
+shows_json bytes stream text lines m e r = record { forest = m.meant; means = m.bytes_mean; shown = e ∙ ap (joined []) (r m.meant m.bytes_mean.means) }
 
 pub shows_readable : (bytes text : List ℕ) → MeanAlike bytes text → ((f : List Tree) → Means bytes f → text ≡ readable f) → Shows bytes text
 shows_readable bytes text m r =
@@ -130,3 +140,10 @@ same_is_shown_alike left right text other m p q =
     let j : q.forest ≡ m.shown = m.text_means.only q.forest q.means.means in
     let e = alike_arranged m.meant m.shown m.bytes_mean.keyed m.text_means.keyed m.alike in
     shown_alike p.forest q.forest p.means.keyed q.means.keyed (ap (map arranged) i ∙ e ∙ ap (map arranged) (sym j)) text other p.shown q.shown
+
+pub same_is_json_alike : SameIsJsonAlike
+same_is_json_alike left right text other m p q =
+    let i : p.forest ≡ m.meant = m.bytes_mean.only p.forest p.means.means in
+    let j : q.forest ≡ m.shown = m.text_means.only q.forest q.means.means in
+    let e = alike_arranged m.meant m.shown m.bytes_mean.keyed m.text_means.keyed m.alike in
+    p.shown ∙ ap (λ z. joined [] (map json_text z)) (ap (map arranged) i ∙ e ∙ ap (map arranged) (sym j)) ∙ sym q.shown

@@ -1,7 +1,8 @@
-//! A law of what the calls promise. The function has an empty body, and its contract is the law.
-ghost use Rattle.yaml_shown.specs.Shows.{SameIsShownAlike};
+//! Laws of what the calls promise. The function has an empty body, and its contract is the laws.
+ghost use Rattle.yaml_shown.specs.Shows.{SameIsShownAlike, SameIsJsonAlike};
 
-/// Streams that mean the same are shown as the same bytes.
+/// Streams that mean the same are shown as the same bytes, in YAML and in JSON.
 pub fn same_is_shown_alike()
-    ensures { SameIsShownAlike }
+    ensures yaml { SameIsShownAlike }
+    ensures json { SameIsJsonAlike }
 {}
