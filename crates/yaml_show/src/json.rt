@@ -1,6 +1,7 @@
 //! Documents as lines of JSON (RFC 8259).
-ghost use Rattle.std.specs.Prelude.{◌≡◌, ◌<◌, ◌++◌, ◌∷◌, [], codes, map, string_bytes, OnOk, IfOk};
-ghost use Rattle.std.specs.List.{All};
+ghost use Rattle.std.specs.Prelude.{◌≡◌, ◌<◌, ◌++◌, ◌∷◌, [], Bool, true, bytes_eq, codes, map, string_bytes, OnOk, IfOk, IfErr};
+ghost use Rattle.std.specs.List.{All, list_all};
+ghost use Rattle.yaml_definitions.specs.model.Tag.{str_tag, seq_tag, map_tag};
 ghost use Rattle.yaml_definitions.specs.model.Order.{arranged};
 ghost use Rattle.yaml_graph.specs.GraphView.{forest};
 ghost use Rattle.yaml_rank.specs.RanksView.{RanksAre};
@@ -9,6 +10,7 @@ ghost use Rattle.yaml_show_scalar.specs.Escapes.{quoted};
 ghost use Rattle.yaml_show_scalar.specs.declared.escapes.Language.TheVariants.{Json};
 ghost use Rattle.yaml_show_scalar.specs.Texts.{written};
 ghost use Rattle.yaml_show.specs.JsonText.{json_scalar, json_key, json_text, json_items, json_entries};
+ghost use Rattle.yaml_show.specs.JsonTrees.{scalar_has_json, key_has_json, has_json, items_have_json, entries_have_json, Says, Lacks};
 
 use crate::flow::put_separator;
 use crate::nodes::Nodes;
@@ -24,34 +26,72 @@ use yaml_spell::shown::Inside;
 use yaml_text::core_tag;
 use yaml_text::limits::text_limit;
 
-/// Writes a scalar.
+/// Whether JSON has a scalar of this tag and content.
+#[tactic(auto, unfolding(crate::specs::JsonTrees::scalar_has_json, yaml_definitions::specs::model::Tag::core_tag))]
+fn has_scalar(tag: &str, content: &str) -> bool
+    ensures { result ≡ scalar_has_json tag.now content.now }
+{
+    tag == core_tag::STR || is_resolved(tag) && !(tag == core_tag::FLOAT && is_in_words(content))
+}
+
+/// Writes a scalar that JSON has.
 #[tactic(auto, unfolding(crate::specs::JsonText::json_scalar, yaml_definitions::specs::model::Tag::core_tag))]
-fn put_json_scalar(out: &mut Out, tag: &str, content: &str) -> Result<(), Unwritten>
+fn put_text(out: &mut Out, tag: &str, content: &str) -> Result<(), Stop>
     ensures { OnOk result (written out.new ≡ written out.old ++ json_scalar tag.now content.now) }
 {
     if tag == core_tag::STR {
-        put_json_string(out, content)?;
-        return Ok(());
+        return put_json_string(out, content);
     }
     if tag == core_tag::FLOAT {
-        if is_in_words(content) {
-            return Err(Unwritten::NoJson);
-        }
-        put_float(out, content)?;
-        return Ok(());
+        return put_float(out, content);
     }
-    if !is_resolved(tag) {
+    out.put(content)
+}
+
+/// Writes a scalar, if JSON has it.
+#[tactic(auto, using(crate::proofs::JsonLaws::stop_lacks))]
+fn put_json_scalar(out: &mut Out, tag: &str, content: &str) -> Result<(), Unwritten>
+    ensures ok { OnOk result (Says (scalar_has_json tag.now content.now) (json_scalar tag.now content.now) (written out.old) (written out.new)) }
+    ensures err { IfErr result (Lacks (scalar_has_json tag.now content.now)) }
+{
+    if !has_scalar(tag, content) {
         return Err(Unwritten::NoJson);
     }
-    out.put(content)?;
+    put_text(out, tag, content)?;
     Ok(())
 }
 
-/// Writes a key that is a string, and its colon.
-fn put_string_key(out: &mut Out, tag: &str, content: &str) -> Result<(), Unwritten>
-    ensures { OnOk result (written out.new ≡ written out.old ++ (quoted Json content.now ++ codes ": ")) }
+/// Whether a tag is that of strings.
+#[tactic(auto, unfolding(yaml_definitions::specs::model::Tag::core_tag))]
+fn is_string(tag: &str) -> bool
+    ensures { result ≡ bytes_eq tag.now str_tag }
 {
-    if tag != core_tag::STR {
+    tag == core_tag::STR
+}
+
+/// Whether a tag is that of sequences.
+#[tactic(auto, unfolding(yaml_definitions::specs::model::Tag::core_tag))]
+fn is_sequence(tag: &str) -> bool
+    ensures { result ≡ bytes_eq tag.now seq_tag }
+{
+    tag == core_tag::SEQ
+}
+
+/// Whether a tag is that of mappings.
+#[tactic(auto, unfolding(yaml_definitions::specs::model::Tag::core_tag))]
+fn is_mapping(tag: &str) -> bool
+    ensures { result ≡ bytes_eq tag.now map_tag }
+{
+    tag == core_tag::MAP
+}
+
+/// Writes a key that is a string, and its colon.
+#[tactic(auto, using(crate::proofs::JsonLaws::stop_lacks))]
+fn put_string_key(out: &mut Out, tag: &str, content: &str) -> Result<(), Unwritten>
+    ensures ok { OnOk result (Says (bytes_eq tag.now str_tag) (quoted Json content.now ++ codes ": ") (written out.old) (written out.new)) }
+    ensures err { IfErr result (Lacks (bytes_eq tag.now str_tag)) }
+{
+    if !is_string(tag) {
         return Err(Unwritten::NoJson);
     }
     put_json_string(out, content)?;
@@ -59,11 +99,12 @@ fn put_string_key(out: &mut Out, tag: &str, content: &str) -> Result<(), Unwritt
     Ok(())
 }
 
-/// Writes a key, which is a string, and its colon.
+/// Writes a key, if it is a string, and its colon.
 fn put_json_key<I: Copy, V: RankedNodes<I>>(view: &V, id: I, out: &mut Out) -> Result<(), Unwritten>
     requires stands { V.stands view.now }
     requires within { V.number id < V.count view.now }
-    ensures { OnOk result (written out.new ≡ written out.old ++ json_key (V.tree view.now (V.number id))) }
+    ensures ok { OnOk result (Says (key_has_json (V.tree view.now (V.number id))) (json_key (V.tree view.now (V.number id))) (written out.old) (written out.new)) }
+    ensures err { IfErr result (Lacks (key_has_json (V.tree view.now (V.number id)))) }
 {
     let node = view.node(id);
     match node.inside {
@@ -73,32 +114,35 @@ fn put_json_key<I: Copy, V: RankedNodes<I>>(view: &V, id: I, out: &mut Out) -> R
     }
 }
 
-/// Writes a node.
+/// Writes a node, if JSON has it.
 #[cycle(json)]
 fn put_json<I: Copy, V: RankedNodes<I>>(view: &V, id: I, out: &mut Out) -> Result<(), Unwritten>
     requires stands { V.stands view.now }
     requires within { V.number id < V.count view.now }
-    ensures { OnOk result (written out.new ≡ written out.old ++ json_text (V.tree view.now (V.number id))) }
+    ensures ok { OnOk result (Says (has_json (V.tree view.now (V.number id))) (json_text (V.tree view.now (V.number id))) (written out.old) (written out.new)) }
+    ensures err { IfErr result (Lacks (has_json (V.tree view.now (V.number id)))) }
 {
     let node = view.node(id);
     match node.inside {
         Inside::Scalar(content) => put_json_scalar(out, node.tag, content),
         Inside::Sequence(items) => {
-            if node.tag != core_tag::SEQ {
-                return Err(Unwritten::NoJson);
+            if is_sequence(node.tag) {
+                put_json_items(view, items, out)
+            } else {
+                Err(Unwritten::NoJson)
             }
-            put_json_items(view, items, out)
         }
         Inside::Mapping(entries) => {
-            if node.tag != core_tag::MAP {
-                return Err(Unwritten::NoJson);
+            if is_mapping(node.tag) {
+                put_json_entries(view, entries, out)
+            } else {
+                Err(Unwritten::NoJson)
             }
-            put_json_entries(view, entries, out)
         }
     }
 }
 
-/// Writes the items of a sequence as an array.
+/// Writes the items of a sequence as an array, if JSON has each.
 #[cycle(json)]
 fn put_json_items<I: Copy, V: RankedNodes<I>>(
     view: &V,
@@ -107,7 +151,8 @@ fn put_json_items<I: Copy, V: RankedNodes<I>>(
 ) -> Result<(), Unwritten>
     requires stands { V.stands view.now }
     requires within { All (λ i. V.number i < V.count view.now) items.now }
-    ensures { OnOk result (written out.new ≡ written out.old ++ (91 ∷ json_items [] (trees_of V.tree V.number view.now items.now))) }
+    ensures ok { OnOk result (Says (items_have_json (trees_of V.tree V.number view.now items.now)) (91 ∷ json_items [] (trees_of V.tree V.number view.now items.now)) (written out.old) (written out.new)) }
+    ensures err { IfErr result (Lacks (items_have_json (trees_of V.tree V.number view.now items.now))) }
 {
     out.put("[")?;
     for (place, item) in items.iter().enumerate() {
@@ -118,7 +163,7 @@ fn put_json_items<I: Copy, V: RankedNodes<I>>(
     Ok(())
 }
 
-/// Writes the entries of a mapping as an object.
+/// Writes the entries of a mapping as an object, if each key is a string and JSON has each value.
 #[cycle(json)]
 fn put_json_entries<I: Copy, V: RankedNodes<I>>(
     view: &V,
@@ -127,7 +172,8 @@ fn put_json_entries<I: Copy, V: RankedNodes<I>>(
 ) -> Result<(), Unwritten>
     requires stands { V.stands view.now }
     requires within { All (λ p. (V.number p.0 < V.count view.now) × (V.number p.1 < V.count view.now)) entries.now }
-    ensures { OnOk result (written out.new ≡ written out.old ++ (123 ∷ json_entries [] (pairs_of V.tree V.number view.now entries.now))) }
+    ensures ok { OnOk result (Says (entries_have_json (pairs_of V.tree V.number view.now entries.now)) (123 ∷ json_entries [] (pairs_of V.tree V.number view.now entries.now)) (written out.old) (written out.new)) }
+    ensures err { IfErr result (Lacks (entries_have_json (pairs_of V.tree V.number view.now entries.now))) }
 {
     out.put("{")?;
     for (place, entry) in entries.iter().enumerate() {
@@ -141,7 +187,8 @@ fn put_json_entries<I: Copy, V: RankedNodes<I>>(
 
 /// Adds a line.
 fn add_line(lines: &mut Vec<String>, line: String) -> Result<(), Unwritten>
-    ensures { OnOk result (lines.new.items ≡ lines.old.items ++ (line ∷ [])) }
+    ensures ok { OnOk result (lines.new.items ≡ lines.old.items ++ (line ∷ [])) }
+    ensures err { (has : Bool) → IfErr result (Lacks has) }
 {
     match lines.push(line) {
         Ok(()) => Ok(()),
@@ -156,7 +203,8 @@ fn root_lines<I: Copy, V: RankedNodes<I>>(
     roots: &[I],
 ) -> Result<Vec<String>, Unwritten>
     requires rooted { Rooted V.stands V.count V.number view.now roots.now }
-    ensures { IfOk result (λ lines. map string_bytes lines.items ≡ map json_text (map (tree_of V.tree V.number view.now) roots.now)) }
+    ensures ok { IfOk result (λ lines. (map string_bytes lines.items ≡ map json_text (map (tree_of V.tree V.number view.now) roots.now)) × (list_all has_json (map (tree_of V.tree V.number view.now) roots.now) ≡ true)) }
+    ensures err { IfErr result (Lacks (list_all has_json (map (tree_of V.tree V.number view.now) roots.now))) }
 {
     let mut lines = Vec::new(alloc);
     let mut left = text_limit();
@@ -177,7 +225,8 @@ fn root_lines<I: Copy, V: RankedNodes<I>>(
 /// suffice, or the lines, with five bytes for each more, would have more than 67,108,864 bytes.
 pub fn json_lines(alloc: Global, nodes: &Nodes<'_>) -> Result<Vec<String>, Unwritten>
     requires { RanksAre nodes.now.graph nodes.now.ranks }
-    ensures { IfOk result (λ lines. map string_bytes lines.items ≡ map json_text (map arranged (forest nodes.now.graph))) }
+    ensures ok { IfOk result (λ lines. (map string_bytes lines.items ≡ map json_text (map arranged (forest nodes.now.graph))) × (list_all has_json (map arranged (forest nodes.now.graph)) ≡ true)) }
+    ensures err { IfErr result (Lacks (list_all has_json (map arranged (forest nodes.now.graph)))) }
 {
     let view = RankedGraph {
         graph: &nodes.graph,

@@ -1,4 +1,6 @@
 //! Why documents are not written as JSON.
+ghost use Rattle.std.specs.Prelude.{◌≡◌};
+
 use yaml_show_scalar::Stop;
 
 /// Why documents are not written as JSON.
@@ -11,6 +13,10 @@ pub enum Unwritten {
 }
 
 impl From<Stop> for Unwritten {
+    ghost use Rattle.yaml_show.specs.declared.unwritten.Unwritten.TheVariants.{Stopped};
+
+    ghost from_gives = { λ stop why. why ≡ Stopped stop };
+
     fn from(stop: Stop) -> Unwritten {
         Unwritten::Stopped(stop)
     }

@@ -22,8 +22,8 @@ use Rattle.yaml_show.specs.JsonText.{json_text}
 use Rattle.yaml_show.specs.Layout.{shown_text}
 use Rattle.yaml_canon.specs.Claims.{AllOf, MeansAlone, IsCanonicalText}
 use Rattle.yaml_shown.specs.Alike.{MeanAlike}
-use Rattle.yaml_shown.specs.Lines.{joined}
-use Rattle.yaml_shown.specs.Shows.{readable, ReadsBack, IsShownText, Shows, SameIsShownAlike, json_of, ShowsJson, SameIsJsonAlike}
+use Rattle.yaml_shown.specs.Lines.{joined, all_have_json, AreTheirs, SameIsJsonAlike}
+use Rattle.yaml_shown.specs.Shows.{readable, ReadsBack, IsShownText, Shows, SameIsShownAlike}
 
 -- ---- documents that are alike
 
@@ -99,15 +99,16 @@ when_none (Some x) e h = absurd (cc)
 all_meant : (bytes : List ℕ) (f lefts rights all : List Tree) → Means bytes lefts → Means [] rights → all ≡ lefts ++ rights → Means bytes f → all ≡ f
 all_meant bytes f lefts rights all m n e k = e ∙ ap (λ z. lefts ++ z) (nothing_meant rights n) ∙ append-nil lefts ∙ one_meaning bytes lefts f m k
 
-pub json_is : (bytes : List ℕ) (lines : List (List ℕ)) (f lefts rights all : List Tree) → Means bytes lefts → Means [] rights → all ≡ lefts ++ rights → lines ≡ map json_text (map arranged all) → Means bytes f → lines ≡ json_of f
-json_is bytes lines f lefts rights all m n e h k = h ∙ ap json_of (all_meant bytes f lefts rights all m n e k)
+-- what is known of these documents
+pub of_meant : (P : List Tree → Type 0) (bytes : List ℕ) (f lefts rights all : List Tree) → Means bytes lefts → Means [] rights → all ≡ lefts ++ rights → P all → Means bytes f → P f
+of_meant P bytes f lefts rights all m n e h k = subst P (all_meant bytes f lefts rights all m n e k) h
+
+pub theirs : (f : List Tree) (lines : List (List ℕ)) → (lines ≡ map json_text (map arranged f)) × (all_have_json f ≡ true) → AreTheirs f lines
+theirs f lines h = record { written = h.0; has = h.1 }
 
 -- the text of such documents
 pub readable_is : (bytes text : List ℕ) (f lefts rights all : List Tree) → Means bytes lefts → Means [] rights → all ≡ lefts ++ rights → text ≡ shown_text (map arranged all) → Means bytes f → text ≡ readable f
 readable_is bytes text f lefts rights all m n e h k = h ∙ ap readable (all_meant bytes f lefts rights all m n e k)
-
-pub shows_json : (bytes stream text : List ℕ) (lines : List (List ℕ)) → MeanAlike bytes stream → text ≡ joined [] lines → ((f : List Tree) → Means bytes f → lines ≡ json_of f) → ShowsJson bytes text
-shows_json bytes stream text lines m e r = record { forest = m.meant; means = m.bytes_mean; shown = e ∙ ap (joined []) (r m.meant m.bytes_mean.means) }
 
 pub shows_readable : (bytes text : List ℕ) → MeanAlike bytes text → ((f : List Tree) → Means bytes f → text ≡ readable f) → Shows bytes text
 shows_readable bytes text m r =
@@ -143,7 +144,7 @@ same_is_shown_alike left right text other m p q =
 
 pub same_is_json_alike : SameIsJsonAlike
 same_is_json_alike left right text other m p q =
-    let i : p.forest ≡ m.meant = m.bytes_mean.only p.forest p.means.means in
-    let j : q.forest ≡ m.shown = m.text_means.only q.forest q.means.means in
+    let a = p.theirs m.meant m.bytes_mean.means in
+    let b = q.theirs m.shown m.text_means.means in
     let e = alike_arranged m.meant m.shown m.bytes_mean.keyed m.text_means.keyed m.alike in
-    p.shown ∙ ap (λ z. joined [] (map json_text z)) (ap (map arranged) i ∙ e ∙ ap (map arranged) (sym j)) ∙ sym q.shown
+    p.text_is ∙ ap (joined []) (a.written ∙ ap (map json_text) e ∙ sym b.written) ∙ sym q.text_is

@@ -1,14 +1,12 @@
 -- What is shown of a stream.
-use Rattle.std.specs.Prelude.{◌≡◌, ◌⊎◌, ℕ, List, [], map}
+use Rattle.std.specs.Prelude.{◌≡◌, ◌⊎◌, ℕ, List, map}
 use Rattle.yaml_definitions.specs.model.Tree.{Tree}
 use Rattle.yaml_definitions.specs.model.Order.{arranged}
 use Rattle.yaml_definitions.specs.model.Same.{Alike}
 use Rattle.yaml_definitions.specs.canonical.Spell.{spell_bytes}
 use Rattle.yaml_canon.specs.Claims.{MeansAlone}
-use Rattle.yaml_show.specs.JsonText.{json_text}
 use Rattle.yaml_show.specs.Layout.{shown_text}
 use Rattle.yaml_shown.specs.Alike.{MeanAlike}
-use Rattle.yaml_shown.specs.Lines.{joined}
 
 -- the readable text of documents
 abbrev pub readable : List Tree → List ℕ
@@ -31,19 +29,3 @@ pub record Shows (bytes text : List ℕ) : Type 0 where
 -- Streams that mean the same are shown as the same bytes.
 abbrev pub SameIsShownAlike : Type 0
 SameIsShownAlike = (left right text other : List ℕ) → MeanAlike left right → Shows left text → Shows right other → text ≡ other
-
--- ---- JSON
-
--- the lines of JSON of documents
-abbrev pub json_of : List Tree → List (List ℕ)
-json_of f = map json_text (map arranged f)
-
--- The bytes mean these documents alone, and the text is their lines of JSON.
-pub record ShowsJson (bytes text : List ℕ) : Type 0 where
-  pub forest : List Tree
-  pub means : MeansAlone bytes forest
-  pub shown : text ≡ joined [] (json_of forest)
-
--- Streams that mean the same have the same lines of JSON.
-abbrev pub SameIsJsonAlike : Type 0
-SameIsJsonAlike = (left right text other : List ℕ) → MeanAlike left right → ShowsJson left text → ShowsJson right other → text ≡ other

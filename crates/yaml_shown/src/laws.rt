@@ -1,5 +1,6 @@
 //! Laws of what the calls promise. The function has an empty body, and its contract is the laws.
-ghost use Rattle.yaml_shown.specs.Shows.{SameIsShownAlike, SameIsJsonAlike};
+ghost use Rattle.yaml_shown.specs.Lines.{SameIsJsonAlike};
+ghost use Rattle.yaml_shown.specs.Shows.{SameIsShownAlike};
 
 /// Streams that mean the same are shown as the same bytes, in YAML and in JSON.
 pub fn same_is_shown_alike()

@@ -6,8 +6,10 @@ ghost use Rattle.yaml_graph.specs.GraphView.{forest as root_trees};
 ghost use Rattle.yaml_rank.specs.RanksView.{RanksAre};
 ghost use Rattle.yaml_canon.specs.Claims.{CanonicalRefuses};
 ghost use Rattle.yaml_canon.specs.Both.{HasBoth};
+ghost use Rattle.yaml_show.specs.JsonTrees.{Lacks};
+ghost use Rattle.yaml_shown.specs.Lines.{all_have_json, AreTheirs};
 ghost use Rattle.yaml_shown.specs.Refused.{ShowRefuses, JsonRefuses};
-ghost use Rattle.yaml_shown.specs.Shows.{readable, json_of};
+ghost use Rattle.yaml_shown.specs.Shows.{readable};
 
 use crate::unshown::Unshown;
 use std::alloc::Global;
@@ -76,7 +78,7 @@ pub(crate) fn readable_text(alloc: Global, bytes: &[u8]) -> Result<String, Fault
 
 /// The fault of lines that are not finished.
 fn unwritten(why: Unwritten) -> Unshown
-    ensures { (bytes : List ℕ) → JsonRefuses bytes result }
+    ensures { (bytes : List ℕ) → ((f : List Tree) → Means bytes f → Lacks (all_have_json f) why) → JsonRefuses bytes result }
 {
     match why {
         Unwritten::Stopped(stop) => Unshown::Rejected(stopped(stop)),
@@ -90,7 +92,7 @@ fn unwritten(why: Unwritten) -> Unshown
 /// Those of `canonical`. 20: the lines would be too long. Else JSON cannot express a node.
 #[tactic(auto, using(crate::proofs::ShownLaws::refused_shown))]
 pub(crate) fn written_lines(alloc: Global, bytes: &[u8]) -> Result<Vec<String>, Unshown>
-    ensures lines { IfOk result (λ lines. (f : List Tree) → Means bytes.now f → map string_bytes lines.items ≡ json_of f) }
+    ensures lines { IfOk result (λ lines. (f : List Tree) → Means bytes.now f → AreTheirs f (map string_bytes lines.items)) }
     ensures refused { IfErr result (JsonRefuses bytes.now) }
 {
     let Ok(forests) = forest_of_both(alloc, bytes, b"") else {

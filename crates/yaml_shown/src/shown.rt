@@ -7,7 +7,7 @@ ghost use Rattle.yaml_definitions.specs.model.Means.{Means};
 ghost use Rattle.yaml_shown.specs.Alike.{MeanAlike};
 ghost use Rattle.yaml_shown.specs.Lines.{LinesOf};
 ghost use Rattle.yaml_shown.specs.Refused.{ShowRefuses, IsLengthOrMemory, JsonRefuses};
-ghost use Rattle.yaml_shown.specs.Shows.{readable, Shows, ShowsJson};
+ghost use Rattle.yaml_shown.specs.Shows.{readable, Shows};
 
 use crate::checking::is_alike;
 use crate::joining::join;
@@ -66,7 +66,6 @@ pub fn show(alloc: Global, bytes: &[u8]) -> Result<String, Fault>
 #[tactic(auto, using(crate::proofs::ShownLaws::memory_shown))]
 pub fn show_json(alloc: Global, bytes: &[u8]) -> Result<String, Unshown>
     ensures lines { IfOk result (λ text. LinesOf bytes.now (string_bytes text)) }
-    ensures shown { IfOk result (λ text. ShowsJson bytes.now (string_bytes text)) }
     ensures refused { IfErr result (JsonRefuses bytes.now) }
 {
     let lines = written_lines(alloc, bytes)?;

@@ -1,64 +1,140 @@
-use Rattle.std.proofs.Common.{◌≡◌, ℕ, ◌+◌, ◌*◌, ◌<◌, List, ◌++◌, ◌∙◌, ap, rules, arith}
-use Rattle.std.proofs.lemmas.Result.{on_ok_weaker}
+use Rattle.std.proofs.Common.{◌≡◌, ℕ, ◌+◌, ◌*◌, ◌<◌, List, refl, sym, ◌∙◌, rules, arith}
+use Rattle.std.proofs.lemmas.Result.{on_ok_weaker, IfErr-weaker}
 use Rattle.yaml_definitions.specs.model.Tree.{height, heights, heights_of_pairs}
 use Rattle.yaml_spell.specs.RankedNodes.{tree_of, pair_of, trees_of, pairs_of}
 use Rattle.yaml_spell.proofs.ShownLaws.{scalar-shown, sequence-shown, mapping-shown, items-within, entries-within, sequence-high, mapping-high, item-lower, value-lower, item-in}
 use Rattle.yaml_spell.proofs.WalkLaws.{drop_item}
 use Rattle.yaml_show_scalar.specs.Texts.{written}
 use Rattle.yaml_show.proofs.FlowLaws.{begun}
-use Rattle.yaml_show.proofs.JsonLaws.{scalar_json, sequence_json, mapping_json, items_step, items_end, entries_step, entries_end}
+use Rattle.yaml_show.proofs.JsonLaws.{scalar_says, scalar_lacks, sequence_says, sequence_lacks, other_sequence, mapping_says, mapping_lacks, other_mapping, items_step, item_lacks, items_end, entries_step, key_of_entry_lacks, value_of_entry_lacks, entries_end}
 use Rattle.yaml_show.proofs.json.+json.Goals as goal
 
-pub put_json-returns-in-Scalar : goal.put_json-returns-in-Scalar
-put_json-returns-in-Scalar g w c =
+pub put_json-returns-in-Scalar-clause-ok : goal.put_json-returns-in-Scalar-clause-ok
+put_json-returns-in-Scalar-clause-ok g w c =
     let N = g.V.RankedNodes.number in
     let T = g.V.RankedNodes.tree c.args.view.now in
     let t = T (N c.args.id) in
     let e = scalar-shown N T t _ _ _ c.node-node.ensures.tree c.in-Scalar.is in
-    on_ok_weaker c.put_json_scalar.result (λ h. h ∙ ap (λ z. written c.args.out.now ++ z) (scalar_json t _ _ e)) c.put_json_scalar.ensures
+    on_ok_weaker c.put_json_scalar.result (scalar_says t _ _ _ _ e) c.put_json_scalar.ensures.ok
 
-pub put_json-returns-else-ne : goal.put_json-returns-else-ne
-put_json-returns-else-ne g w c =
+pub put_json-returns-in-Scalar-clause-err : goal.put_json-returns-in-Scalar-clause-err
+put_json-returns-in-Scalar-clause-err g w c =
+    let N = g.V.RankedNodes.number in
+    let T = g.V.RankedNodes.tree c.args.view.now in
+    let t = T (N c.args.id) in
+    let e = scalar-shown N T t _ _ _ c.node-node.ensures.tree c.in-Scalar.is in
+    IfErr-weaker c.put_json_scalar.result _ _ (λ why. scalar_lacks t _ _ why e) c.put_json_scalar.ensures.err
+
+pub put_json-returns-then-is_sequence-clause-ok : goal.put_json-returns-then-is_sequence-clause-ok
+put_json-returns-then-is_sequence-clause-ok g w c =
     let N = g.V.RankedNodes.number in
     let T = g.V.RankedNodes.tree c.args.view.now in
     let t = T (N c.args.id) in
     let e = sequence-shown N T t _ _ _ c.node-node.ensures.tree c.in-Sequence.is in
-    on_ok_weaker c.put_json_items.result (λ h. h ∙ ap (λ z. written c.args.out.now ++ z) (sequence_json t _ _ e)) c.put_json_items.ensures
+    on_ok_weaker c.put_json_items.result (sequence_says t _ _ e _ _ (sym c.is_sequence.ensures ∙ c.if-is_sequence.true)) c.put_json_items.ensures.ok
 
-pub put_json-returns-else-ne-2 : goal.put_json-returns-else-ne-2
-put_json-returns-else-ne-2 g w c =
+pub put_json-returns-then-is_sequence-clause-err : goal.put_json-returns-then-is_sequence-clause-err
+put_json-returns-then-is_sequence-clause-err g w c =
+    let N = g.V.RankedNodes.number in
+    let T = g.V.RankedNodes.tree c.args.view.now in
+    let t = T (N c.args.id) in
+    let e = sequence-shown N T t _ _ _ c.node-node.ensures.tree c.in-Sequence.is in
+    IfErr-weaker c.put_json_items.result _ _ (λ why. sequence_lacks t _ _ e why (sym c.is_sequence.ensures ∙ c.if-is_sequence.true)) c.put_json_items.ensures.err
+
+pub put_json-returns-else-is_sequence-clause-err : goal.put_json-returns-else-is_sequence-clause-err
+put_json-returns-else-is_sequence-clause-err g w c =
+    let N = g.V.RankedNodes.number in
+    let T = g.V.RankedNodes.tree c.args.view.now in
+    let t = T (N c.args.id) in
+    let e = sequence-shown N T t _ _ _ c.node-node.ensures.tree c.in-Sequence.is in
+    other_sequence t _ _ e (sym c.is_sequence.ensures ∙ c.if-is_sequence.false)
+
+pub put_json-returns-then-is_mapping-clause-ok : goal.put_json-returns-then-is_mapping-clause-ok
+put_json-returns-then-is_mapping-clause-ok g w c =
     let N = g.V.RankedNodes.number in
     let T = g.V.RankedNodes.tree c.args.view.now in
     let t = T (N c.args.id) in
     let e = mapping-shown N T t _ _ _ c.node-node.ensures.tree c.in-Mapping.is in
-    on_ok_weaker c.put_json_entries.result (λ h. h ∙ ap (λ z. written c.args.out.now ++ z) (mapping_json t _ _ e)) c.put_json_entries.ensures
+    on_ok_weaker c.put_json_entries.result (mapping_says t _ _ e _ _ (sym c.is_mapping.ensures ∙ c.if-is_mapping.true)) c.put_json_entries.ensures.ok
+
+pub put_json-returns-then-is_mapping-clause-err : goal.put_json-returns-then-is_mapping-clause-err
+put_json-returns-then-is_mapping-clause-err g w c =
+    let N = g.V.RankedNodes.number in
+    let T = g.V.RankedNodes.tree c.args.view.now in
+    let t = T (N c.args.id) in
+    let e = mapping-shown N T t _ _ _ c.node-node.ensures.tree c.in-Mapping.is in
+    IfErr-weaker c.put_json_entries.result _ _ (λ why. mapping_lacks t _ _ e why (sym c.is_mapping.ensures ∙ c.if-is_mapping.true)) c.put_json_entries.ensures.err
+
+pub put_json-returns-else-is_mapping-clause-err : goal.put_json-returns-else-is_mapping-clause-err
+put_json-returns-else-is_mapping-clause-err g w c =
+    let N = g.V.RankedNodes.number in
+    let T = g.V.RankedNodes.tree c.args.view.now in
+    let t = T (N c.args.id) in
+    let e = mapping-shown N T t _ _ _ c.node-node.ensures.tree c.in-Mapping.is in
+    other_mapping t _ _ e (sym c.is_mapping.ensures ∙ c.if-is_mapping.false)
 
 pub put_json_items-loop-place-init : goal.put_json_items-loop-place-init
-put_json_items-loop-place-init g w c = begun _ _ _ 91 c.in_ok-put.ensures
+put_json_items-loop-place-init g w c =
+    (begun _ _ _ 91 c.in_ok-put.ensures, refl)
 
 pub put_json_items-loop-place-preserved : goal.put_json_items-loop-place-preserved
 put_json_items-loop-place-preserved g w c =
+    let f = tree_of g.V.RankedNodes.tree g.V.RankedNodes.number c.args.view.now in
     let xs = c.args.items.now in
     let i = c.loop-place.place in
     let x = c.index-items-place.result in
-    items_step (tree_of g.V.RankedNodes.tree g.V.RankedNodes.number c.args.view.now) xs i x _ _ _ _ (drop_item xs i x (omega arith) c.index-items-place.is) c.loop-place.invariant c.in_ok-put_separator.ensures c.in_ok-put_json.ensures
+    let l = drop_item xs i x (omega arith) c.index-items-place.is in
+    items_step f xs i x _ _ l c.loop-place.invariant _ _ c.in_ok-put_separator.ensures c.in_ok-put_json.ensures.ok
 
-pub put_json_items-returns : goal.put_json_items-returns
-put_json_items-returns g w c =
+pub put_json_items-returns-in_err-put_json-clause-err : goal.put_json_items-returns-in_err-put_json-clause-err
+put_json_items-returns-in_err-put_json-clause-err g w c =
+    let f = tree_of g.V.RankedNodes.tree g.V.RankedNodes.number c.args.view.now in
+    let xs = c.args.items.now in
+    let i = c.loop-place.place in
+    let x = c.index-items-place.result in
+    let l = drop_item xs i x (omega arith) c.index-items-place.is in
+    let h = item_lacks f xs i x _ _ l c.loop-place.invariant _ c.in_err-put_json.ensures.err in
+    search (rules, h)
+
+pub put_json_items-returns-clause-ok : goal.put_json_items-returns-clause-ok
+put_json_items-returns-clause-ok g w c =
     items_end (tree_of g.V.RankedNodes.tree g.V.RankedNodes.number c.args.view.now) c.args.items.now c.loop-place.place _ _ _ (omega arith) c.loop-place.invariant c.in_ok-put-2.ensures
 
 pub put_json_entries-loop-place-init : goal.put_json_entries-loop-place-init
-put_json_entries-loop-place-init g w c = begun _ _ _ 123 c.in_ok-put.ensures
+put_json_entries-loop-place-init g w c =
+    (begun _ _ _ 123 c.in_ok-put.ensures, refl)
 
 pub put_json_entries-loop-place-preserved : goal.put_json_entries-loop-place-preserved
 put_json_entries-loop-place-preserved g w c =
+    let f = pair_of g.V.RankedNodes.tree g.V.RankedNodes.number c.args.view.now in
     let xs = c.args.entries.now in
     let i = c.loop-place.place in
     let x = c.index-entries-place.result in
-    entries_step (pair_of g.V.RankedNodes.tree g.V.RankedNodes.number c.args.view.now) xs i x _ _ _ _ _ (drop_item xs i x (omega arith) c.index-entries-place.is) c.loop-place.invariant c.in_ok-put_separator.ensures c.in_ok-put_json_key.ensures c.in_ok-put_json.ensures
+    let l = drop_item xs i x (omega arith) c.index-entries-place.is in
+    entries_step f xs i x _ _ l c.loop-place.invariant _ _ _ c.in_ok-put_separator.ensures c.in_ok-put_json_key.ensures.ok c.in_ok-put_json.ensures.ok
 
-pub put_json_entries-returns : goal.put_json_entries-returns
-put_json_entries-returns g w c =
+pub put_json_entries-returns-in_err-put_json_key-clause-err : goal.put_json_entries-returns-in_err-put_json_key-clause-err
+put_json_entries-returns-in_err-put_json_key-clause-err g w c =
+    let f = pair_of g.V.RankedNodes.tree g.V.RankedNodes.number c.args.view.now in
+    let xs = c.args.entries.now in
+    let i = c.loop-place.place in
+    let x = c.index-entries-place.result in
+    let l = drop_item xs i x (omega arith) c.index-entries-place.is in
+    let h = key_of_entry_lacks f xs i x _ _ l c.loop-place.invariant _ c.in_err-put_json_key.ensures.err in
+    search (rules, h)
+
+pub put_json_entries-returns-in_err-put_json-clause-err : goal.put_json_entries-returns-in_err-put_json-clause-err
+put_json_entries-returns-in_err-put_json-clause-err g w c =
+    let f = pair_of g.V.RankedNodes.tree g.V.RankedNodes.number c.args.view.now in
+    let xs = c.args.entries.now in
+    let i = c.loop-place.place in
+    let x = c.index-entries-place.result in
+    let l = drop_item xs i x (omega arith) c.index-entries-place.is in
+    let h = value_of_entry_lacks f xs i x _ _ l c.loop-place.invariant _ c.in_ok-put_json_key.ensures.ok.1 c.in_err-put_json.ensures.err in
+    search (rules, h)
+
+pub put_json_entries-returns-clause-ok : goal.put_json_entries-returns-clause-ok
+put_json_entries-returns-clause-ok g w c =
     entries_end (pair_of g.V.RankedNodes.tree g.V.RankedNodes.number c.args.view.now) c.args.entries.now c.loop-place.place _ _ _ (omega arith) c.loop-place.invariant c.in_ok-put-2.ensures
 
 pub put_json-put_json_items-requires : goal.put_json-put_json_items-requires

@@ -1,11 +1,17 @@
-use Rattle.std.proofs.Common.{[]}
-use Rattle.yaml_shown.proofs.AlikeLaws.{json_is}
+use Rattle.std.proofs.Common.{[], map}
+use Rattle.std.specs.String.{string_bytes}
+use Rattle.yaml_show.specs.JsonTrees.{Lacks}
+use Rattle.yaml_shown.specs.Lines.{all_have_json, AreTheirs}
+use Rattle.yaml_shown.proofs.AlikeLaws.{of_meant, theirs}
 use Rattle.yaml_shown.proofs.presenting.written_lines.Goals as goal
 
 pub returns-in-Ok-json_lines-clause-lines : goal.returns-in-Ok-json_lines-clause-lines
 returns-in-Ok-json_lines-clause-lines c = λ f m.
     let has = c.in-Ok.ensures.both in
-    json_is c.args.bytes.now _ f has.mean.lefts has.mean.rights _ has.mean.left_means has.mean.right_means (c.in-Some.ensures.trees c.args.bytes.now [] has) c.in-Ok-json_lines.ensures m
+    let lines = map string_bytes c.in-Ok-json_lines.lines.items in
+    of_meant (λ z. AreTheirs z lines) c.args.bytes.now f has.mean.lefts has.mean.rights _ has.mean.left_means has.mean.right_means (c.in-Some.ensures.trees c.args.bytes.now [] has) (theirs _ lines c.in-Ok-json_lines.ensures.ok) m
 
-pub returns-clause-refused : goal.returns-clause-refused
-returns-clause-refused c = c.unwritten.ensures c.args.bytes.now
+pub returns-in-Err-json_lines-clause-refused : goal.returns-in-Err-json_lines-clause-refused
+returns-in-Err-json_lines-clause-refused c =
+    let has = c.in-Ok.ensures.both in
+    c.unwritten.ensures c.args.bytes.now (λ f m. of_meant (λ z. Lacks (all_have_json z) c.in-Err-json_lines.why) c.args.bytes.now f has.mean.lefts has.mean.rights _ has.mean.left_means has.mean.right_means (c.in-Some.ensures.trees c.args.bytes.now [] has) c.in-Err-json_lines.ensures.err m)
