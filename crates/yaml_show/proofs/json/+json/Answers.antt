@@ -1,10 +1,9 @@
-use Rattle.std.proofs.Common.{◌≡◌, ℕ, ◌+◌, ◌*◌, ◌<◌, List, refl, sym, ◌∙◌, rules, arith}
+use Rattle.std.proofs.Common.{◌≡◌, ◌+◌, ◌*◌, ◌<◌, refl, sym, ◌∙◌, rules, arith}
 use Rattle.std.proofs.lemmas.Result.{on_ok_weaker, IfErr-weaker}
 use Rattle.yaml_definitions.specs.model.Tree.{height, heights, heights_of_pairs}
 use Rattle.yaml_spell.specs.RankedNodes.{tree_of, pair_of, trees_of, pairs_of}
 use Rattle.yaml_spell.proofs.ShownLaws.{scalar-shown, sequence-shown, mapping-shown, items-within, entries-within, sequence-high, mapping-high, item-lower, value-lower, item-in}
 use Rattle.yaml_spell.proofs.WalkLaws.{drop_item}
-use Rattle.yaml_show_scalar.specs.Texts.{written}
 use Rattle.yaml_show.proofs.FlowLaws.{begun}
 use Rattle.yaml_show.proofs.JsonLaws.{scalar_says, scalar_lacks, sequence_says, sequence_lacks, other_sequence, mapping_says, mapping_lacks, other_mapping, items_step, item_lacks, items_end, entries_step, key_of_entry_lacks, value_of_entry_lacks, entries_end}
 use Rattle.yaml_show.proofs.json.+json.Goals as goal

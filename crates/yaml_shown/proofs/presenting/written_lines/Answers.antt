@@ -11,7 +11,7 @@ returns-in-Ok-json_lines-clause-lines c = λ f m.
     let lines = map string_bytes c.in-Ok-json_lines.lines.items in
     of_meant (λ z. AreTheirs z lines) c.args.bytes.now f has.mean.lefts has.mean.rights _ has.mean.left_means has.mean.right_means (c.in-Some.ensures.trees c.args.bytes.now [] has) (theirs _ lines c.in-Ok-json_lines.ensures.ok) m
 
-pub returns-in-Err-json_lines-clause-refused : goal.returns-in-Err-json_lines-clause-refused
-returns-in-Err-json_lines-clause-refused c =
+pub returns-clause-refused : goal.returns-clause-refused
+returns-clause-refused c =
     let has = c.in-Ok.ensures.both in
-    c.unwritten.ensures c.args.bytes.now (λ f m. of_meant (λ z. Lacks (all_have_json z) c.in-Err-json_lines.why) c.args.bytes.now f has.mean.lefts has.mean.rights _ has.mean.left_means has.mean.right_means (c.in-Some.ensures.trees c.args.bytes.now [] has) c.in-Err-json_lines.ensures.err m)
+    c.unwritten.ensures c.args.bytes.now (λ f m. of_meant (λ z. Lacks (all_have_json z) c.in-Err.why) c.args.bytes.now f has.mean.lefts has.mean.rights _ has.mean.left_means has.mean.right_means (c.in-Some.ensures.trees c.args.bytes.now [] has) c.in-Err.ensures.err m)
