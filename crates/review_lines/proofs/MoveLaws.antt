@@ -1,5 +1,5 @@
 -- The lines of moves.
-use Rattle.std.proofs.Common.{◌≡◌, ◌==◌, ℕ, suc, ◌≤◌, Bool, true, false, cond, List, [], ◌∷◌, ◌++◌, length, map, refl, sym, ◌∙◌, ap, subst, arith}
+use Rattle.std.proofs.Common.{◌≡◌, ◌==◌, ℕ, zero, suc, ◌≤◌, Bool, true, false, cond, nat_le, List, [], ◌∷◌, ◌++◌, length, map, take, refl, sym, ◌∙◌, ap, subst, arith}
 use Rattle.std.specs.Prelude.{Option, Some, None, codes, string_bytes}
 use Rattle.std.specs.List.{slice_get, flat_map}
 use Rattle.std.proofs.lemmas.Bool.{eqb-true}
@@ -20,7 +20,7 @@ use Rattle.yaml_diff.specs.declared.difference.Step.TheVariants.{Item}
 use Rattle.yaml_diff.specs.declared.difference.Difference.{Difference}
 use Rattle.review_args.specs.declared.words.Paths.{Paths}
 use Rattle.review_text.specs.PathText.{path_text, step_text, bracketed}
-use Rattle.review_lines.specs.Compared.{is_numbered, path_as, TellsMembers, range_of, before_text, range_path, group_text, last_of, IsFirst, TellsGroup, TellsGroups, TellsMoves}
+use Rattle.review_lines.specs.Compared.{is_numbered, path_as, TellsMembers, range_of, before_text, range_path, group_text, last_of, moves_room, IsFirst, TellsGroup, TellsGroups, TellsMoves}
 use Rattle.review_lines.specs.declared.lines.Line.{Line}
 
 groups-rise : (folds ranges : Bool) (f : Found) (at end : ℕ) (gs : List Group) → Groups folds ranges f at end gs → at ≤ end
@@ -35,10 +35,20 @@ no-lines : (both : Both) (asked : Diff) (moves : List Move) (ls : List Line) →
 no-lines both asked moves [] h = refl
 no-lines both asked moves (l ∷ ls) h = absurd h
 
-pub moves_none : (folds : Bool) (both : Both) (asked : Diff) (f : Found) (ls : List Line) → f.moves.items ≡ [] → TellsMoves folds both asked f ls → ls ≡ []
-moves_none folds both asked f ls m t =
-    let none = no-groups folds _ f (length f.moves.items) t.groups (ap length m) t.grouped in
-    no-lines both asked f.moves.items ls (subst (λ z. TellsGroups both asked f.moves.items z ls) none t.each)
+-- without moves there is no line, and none is left out
+pub moves_none : (folds : Bool) (both : Both) (asked : Diff) (f : Found) (ls : List Line) (whole : Bool) → f.moves.items ≡ [] → TellsMoves folds both asked f ls whole → (ls ≡ []) × (whole ≡ true)
+moves_none folds both asked f ls whole m t =
+    let none = no-groups folds _ f (length f.moves.items) t.groups (ap length m) t.grouped in (
+      no-lines both asked f.moves.items ls (subst (λ z. TellsGroups both asked f.moves.items z ls) (ap (take (moves_room asked f)) none ∙ none-taken (moves_room asked f)) t.each),
+      t.all ∙ ap (λ z. nat_le (length z) (moves_room asked f)) none ∙ least (moves_room asked f),
+    )
+  where
+    none-taken : {X : Type 0} (n : ℕ) → ◌≡◌ {A = List X} (take n []) []
+    none-taken zero = refl
+    none-taken (suc n) = refl
+
+    least : (n : ℕ) → nat_le 0 n ≡ true
+    least n = grind arith
 
 -- ---- paths
 

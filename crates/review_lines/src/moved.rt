@@ -1,13 +1,14 @@
 //! The lines of items that moved.
-ghost use Rattle.std.specs.Prelude.{◌≡◌, ◌++◌, ◌∷◌, None, string_bytes, OnOk, IfOk};
+ghost use Rattle.std.specs.Prelude.{◌≡◌, ◌++◌, ◌∷◌, None, take, string_bytes, OnOk, IfOk};
 ghost use Rattle.yaml_rank.specs.RanksView.{RanksAre};
 ghost use Rattle.yaml_diff.specs.Lines.{way_of};
 ghost use Rattle.yaml_diff.specs.declared.difference.Step.TheVariants.{Item};
-ghost use Rattle.review_lines.specs.Compared.{is_numbered, path_as, is_plain, last_of, range_of, before_text, range_path, group_text, IsFirst, TellsGroup, TellsGroups, TellsMoves};
+ghost use Rattle.review_lines.specs.Compared.{is_numbered, path_as, is_plain, last_of, range_of, before_text, range_path, group_text, moves_room, IsFirst, TellsGroup, TellsGroups, TellsMoves};
 
 use crate::diff::{is_numbered, members_in, room_of};
 use crate::lines::Line;
 use crate::nodes::{find_places, place_at};
+use crate::search::room_for;
 use crate::strings::Budget;
 use review_args::{Diff, Paths};
 use review_folds::{Group, groups};
@@ -273,7 +274,30 @@ fn keys_if(
     Ok(None)
 }
 
-/// The lines of pairs of items that moved, each with a label if that is asked for. With folds, one line may tell several pairs.
+/// Lines of pairs of items that moved.
+#[derive(Drop)]
+pub(crate) struct MoveLines {
+    pub(crate) lines: Vec<Line>,
+    /// Whether they tell all pairs.
+    pub(crate) whole: bool,
+}
+
+/// How many lines of moves there is room for, behind those of the differences.
+fn moves_room(asked: &Diff<'_>, found: &Found) -> usize
+    ensures { result ≡ moves_room asked.now found.now }
+{
+    room_for(asked.lines).saturating_sub(found.list.len())
+}
+
+/// So many groups, or all if there are fewer.
+fn first_groups(groups: &[Group], room: usize) -> &[Group]
+    ensures { result.now ≡ take room groups.now }
+{
+    groups.get(..room).unwrap_or(groups)
+}
+
+/// The lines of pairs of items that moved, as far as there is room, each with a label if that is asked for. With folds, one line may tell
+/// several pairs.
 #[tactic(auto, using(crate::proofs::CompareLaws::moves_told))]
 pub(crate) fn lines_of_moves(
     alloc: Global,
@@ -283,12 +307,15 @@ pub(crate) fn lines_of_moves(
     found: &Found,
     folds: bool,
     has_labels: bool,
-) -> Result<Vec<Line>, Fault>
+) -> Result<MoveLines, Fault>
     requires ranked { RanksAre both.now.graph both.now.ranks }
-    ensures { IfOk result (λ lines. TellsMoves folds both.now asked.now found.now lines.items) }
+    ensures { IfOk result (λ told. TellsMoves folds both.now asked.now found.now told.lines.items told.whole) }
 {
     let groups = groups(alloc, folds, is_plain(asked.paths), found)?;
-    let keys = keys_if(alloc, both, has_labels, &groups)?;
-    let lines = lines_of_groups(alloc, both, asked, &found.moves, &groups, &keys, sides)?;
-    Ok(lines)
+    let room = moves_room(asked, found);
+    let told = first_groups(&groups, room);
+    let whole = groups.len() <= room;
+    let keys = keys_if(alloc, both, has_labels, told)?;
+    let lines = lines_of_groups(alloc, both, asked, &found.moves, told, &keys, sides)?;
+    Ok(MoveLines { lines, whole })
 }

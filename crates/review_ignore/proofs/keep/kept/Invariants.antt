@@ -1,7 +1,7 @@
 use Rattle.std.proofs.Common.{◌≡◌, ◌++◌, ◌&&◌, nat_le, take, length}
 use Rattle.std.specs.Vec.Iter.{into_iter_items}
 use Rattle.review_ignore.specs.Ignored.{outside}
-use Rattle.review_ignore.proofs.keep.outside.Given as goal
+use Rattle.review_ignore.proofs.keep.kept.Given as goal
 
 abbrev pub invariant-loop-difference : goal.invariant-loop-difference
 invariant-loop-difference l =

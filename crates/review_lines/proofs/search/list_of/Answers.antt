@@ -1,5 +1,5 @@
 use Rattle.review_lines.proofs.SideLaws.{left_within, right_within}
-use Rattle.review_lines.proofs.diff.list_of.Goals as goal
+use Rattle.review_lines.proofs.search.list_of.Goals as goal
 
 pub stream_differences-requires-clause-left : goal.stream_differences-requires-clause-left
 stream_differences-requires-clause-left c = left_within c.args.both.now.graph c.args.both.now.documents c.sides.result.0.now c.args.both.now.middle c.sides.ensures.left

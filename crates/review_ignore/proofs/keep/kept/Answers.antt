@@ -2,7 +2,7 @@ use Rattle.std.proofs.Common.{◌≡◌, ◌++◌, ◌∷◌, ◌&&◌, [], cond
 use Rattle.std.specs.Vec.Iter.{into_iter_items}
 use Rattle.review_ignore.specs.Ignored.{is_ignored, outside}
 use Rattle.review_ignore.proofs.KeptLaws.{outside_more, more_list, more_whole}
-use Rattle.review_ignore.proofs.keep.outside.Goals as goal
+use Rattle.review_ignore.proofs.keep.kept.Goals as goal
 
 pub loop-difference-preserved-in_ok-add : goal.loop-difference-preserved-in_ok-add
 loop-difference-preserved-in_ok-add c =
