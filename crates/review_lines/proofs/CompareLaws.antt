@@ -21,7 +21,7 @@ use Rattle.review_ignore.specs.Ignored.{Keeps}
 use Rattle.review_ignore.proofs.KeptLaws.{outside_none}
 use Rattle.review_folds.specs.Folds.{Folds}
 use Rattle.review_lines.specs.Searched.{room_for, search_room}
-use Rattle.review_lines.specs.Compared.{folds_moves, is_plain, moves_room, TellsOne, TellsEach, TellsGroup, TellsGroups, TellsMoves, TellsFound, TellsAsked}
+use Rattle.review_lines.specs.Compared.{folds_moves, is_line, is_plain, moves_room, TellsOne, TellsEach, TellsGroup, TellsGroups, TellsMoves, TellsFound, TellsAsked}
 
 -- one difference and its line more
 pub tells_more : (both : Both) (asked : Diff) (ds : List Difference) (ls : List Line) (d : Difference) (l : Line) → TellsEach both asked ds ls → TellsOne both asked d l → TellsEach both asked (ds ++ (d ∷ [])) (ls ++ (l ∷ []))
@@ -49,36 +49,49 @@ pub folds_told : (folds : Bool) (ds : List Difference) (ns seen counts : List �
 folds_told folds ds ns seen counts e f h = subst (Folds folds ds) (sym (e ∙ f)) h
 
 -- a line for each group of moves
-pub groups_more : (both : Both) (asked : Diff) (moves : List Move) (gs : List Group) (ls : List Line) (g : Group) (l : Line) → TellsGroups both asked moves gs ls → TellsGroup both asked moves g l → TellsGroups both asked moves (gs ++ (g ∷ [])) (ls ++ (l ∷ []))
-groups_more both asked moves [] [] g l h k = (k, tt)
-groups_more both asked moves [] (m ∷ ls) g l h k = absurd h
-groups_more both asked moves (e ∷ gs) [] g l h k = absurd h
-groups_more both asked moves (e ∷ gs) (m ∷ ls) g l h k = (h.0, groups_more both asked moves gs ls g l h.1 k)
+pub groups_more : (labels : Bool) (both : Both) (asked : Diff) (moves : List Move) (gs : List Group) (ls : List Line) (g : Group) (l : Line) → TellsGroups labels both asked moves gs ls → TellsGroup labels both asked moves g l → TellsGroups labels both asked moves (gs ++ (g ∷ [])) (ls ++ (l ∷ []))
+groups_more labels both asked moves [] [] g l h k = (k, tt)
+groups_more labels both asked moves [] (m ∷ ls) g l h k = absurd h
+groups_more labels both asked moves (e ∷ gs) [] g l h k = absurd h
+groups_more labels both asked moves (e ∷ gs) (m ∷ ls) g l h k = (h.0, groups_more labels both asked moves gs ls g l h.1 k)
 
-pub groups_next : (both : Both) (asked : Diff) (moves : List Move) (gs : List Group) (ls new : List Line) (i : ℕ) (d e : Group) (l : Line) → i < length gs → e ≡ get_or gs i d → TellsGroups both asked moves (take i gs) ls → TellsGroup both asked moves e l → new ≡ ls ++ (l ∷ []) → TellsGroups both asked moves (take (i + 1) gs) new
-groups_next both asked moves gs ls new i d e l m q h k p =
-    subst (λ z. TellsGroups both asked moves z new) (sym (take_more gs i d m)) (subst (TellsGroups both asked moves (take i gs ++ (get_or gs i d ∷ []))) (sym p) (groups_more both asked moves (take i gs) ls (get_or gs i d) l h (subst (λ z. TellsGroup both asked moves z l) q k)))
+pub groups_next : (labels : Bool) (both : Both) (asked : Diff) (moves : List Move) (gs : List Group) (ls new : List Line) (i : ℕ) (d e : Group) (l : Line) → i < length gs → e ≡ get_or gs i d → TellsGroups labels both asked moves (take i gs) ls → TellsGroup labels both asked moves e l → new ≡ ls ++ (l ∷ []) → TellsGroups labels both asked moves (take (i + 1) gs) new
+groups_next labels both asked moves gs ls new i d e l m q h k p =
+    subst (λ z. TellsGroups labels both asked moves z new) (sym (take_more gs i d m)) (subst (TellsGroups labels both asked moves (take i gs ++ (get_or gs i d ∷ []))) (sym p) (groups_more labels both asked moves (take i gs) ls (get_or gs i d) l h (subst (λ z. TellsGroup labels both asked moves z l) q k)))
 
-pub groups_all : (both : Both) (asked : Diff) (moves : List Move) (gs : List Group) (ls : List Line) (i : ℕ) → length gs ≤ i → TellsGroups both asked moves (take i gs) ls → TellsGroups both asked moves gs ls
-groups_all both asked moves gs ls i m h = subst (λ z. TellsGroups both asked moves z ls) (take_all i gs m) h
+pub groups_all : (labels : Bool) (both : Both) (asked : Diff) (moves : List Move) (gs : List Group) (ls : List Line) (i : ℕ) → length gs ≤ i → TellsGroups labels both asked moves (take i gs) ls → TellsGroups labels both asked moves gs ls
+groups_all labels both asked moves gs ls i m h = subst (λ z. TellsGroups labels both asked moves z ls) (take_all i gs m) h
 
 -- so many of the groups
 pub first_all : (groups : List Group) (room : ℕ) → length groups ≤ room → groups ≡ take room groups
 first_all groups room l = sym (take_all room groups l)
 
 -- the lines of moves, of whose groups a list is seen
-pub moves_told : (folds plain : Bool) (both : Both) (asked : Diff) (f : Found) (groups seen told : List Group) (moves : List Move) (ls : List Line) (room : ℕ) (whole : Bool) → plain ≡ is_plain asked.paths → Groups folds plain f 0 (length f.moves.items) groups → seen ≡ groups
-    → moves ≡ f.moves.items → room ≡ moves_room asked f → told ≡ take room seen → TellsGroups both asked moves told ls → whole ≡ nat_le (length groups) room → TellsMoves folds both asked f ls whole
-moves_told folds plain both asked f groups seen told moves ls room whole p g s m r t h w = record {
+pub moves_told : (folds labels has plain : Bool) (both : Both) (asked : Diff) (f : Found) (groups seen told : List Group) (moves : List Move) (ls : List Line) (room : ℕ) (whole : Bool) → has ≡ labels → plain ≡ is_plain asked.paths → Groups folds plain f 0 (length f.moves.items) groups → seen ≡ groups
+    → moves ≡ f.moves.items → room ≡ moves_room asked f → told ≡ take room seen → TellsGroups has both asked moves told ls → whole ≡ nat_le (length groups) room → TellsMoves folds labels both asked f ls whole
+moves_told folds labels has plain both asked f groups seen told moves ls room whole b p g s m r t h w = record {
   groups = groups;
   grouped = subst (λ z. Groups folds z f 0 (length f.moves.items) groups) p g;
-  each = subst (λ z. TellsGroups both asked z (take (moves_room asked f) groups) ls) m (subst (λ z. TellsGroups both asked moves z ls) (t ∙ ap (take room) s ∙ ap (λ z. take z groups) r) h);
+  each =
+      subst (λ z. TellsGroups labels both asked z (take (moves_room asked f) groups) ls) m
+      (subst (λ z. TellsGroups labels both asked moves z ls) (t ∙ ap (take room) s ∙ ap (λ z. take z groups) r) (subst (λ z. TellsGroups z both asked moves told ls) b h));
   all = w ∙ ap (nat_le (length groups)) r;
 }
 
+-- where there is no room, or no move
+pub moves_untold : (folds labels plain : Bool) (both : Both) (asked : Diff) (f : Found) (groups seen told : List Group) (ls : List Line) (room : ℕ) (whole : Bool) → plain ≡ is_plain asked.paths → Groups folds plain f 0 (length f.moves.items) groups → seen ≡ groups
+    → room ≡ moves_room asked f → told ≡ take room seen → length told ≡ 0 → ls ≡ [] → whole ≡ nat_le (length groups) room → TellsMoves folds labels both asked f ls whole
+moves_untold folds labels plain both asked f groups seen told ls room whole p g s r t n e w =
+    moves_told folds labels labels plain both asked f groups seen told f.moves.items ls room whole refl p g s refl r t (none told ls n e) w
+  where
+    none : (gs : List Group) (ls : List Line) → length gs ≡ 0 → ls ≡ [] → TellsGroups labels both asked f.moves.items gs ls
+    none [] [] n e = tt
+    none [] (l ∷ ls) n e = absurd (cc)
+    none (g ∷ gs) ls n e = absurd (omega (arith, n))
+
 -- the lines of a list
 pub found_listed : (both : Both) (asked : Diff) (f : Found) (listed : Listed) (seen : List Difference) (all : Bool) → seen ≡ f.list.items → TellsEach both asked seen listed.lines.items → Folds false seen (map (λ l. l.count) listed.lines.items)
-    → TellsMoves false both asked f listed.moves.items all → listed.whole ≡ (f.whole && all) → listed.same ≡ ((f.whole && (length f.list.items == 0)) && (length f.moves.items == 0)) → ListsFound both asked f listed
+    → TellsMoves false false both asked f listed.moves.items all → listed.whole ≡ (f.whole && all) → listed.same ≡ ((f.whole && (length f.list.items == 0)) && (length f.moves.items == 0)) → ListsFound both asked f listed
 found_listed both asked f listed seen all s h k m w n = record {
   each = subst (λ z. TellsEach both asked z listed.lines.items) s h;
   alone = subst (λ z. Folds false z (map (λ l. l.count) listed.lines.items)) s k;
@@ -100,12 +113,12 @@ lines_next f ls i d o a whole l h e =
 pub lines_all : (f : Diff) (ls : List Line) (i : ℕ) (o whole : List ℕ) → length ls ≤ i → o ++ lines_text f (drop i ls) ≡ whole → o ≡ whole
 lines_all f ls i o whole l h = sym (append-nil o) ∙ ap (λ z. o ++ lines_text f z) (sym (drop_of_length-le ls l)) ∙ h
 
-module _ (folds_asked : Bool) (both : Both) (asked : Diff) (f : Found) (ls ms : List Line) (all : Bool) (o a c : List ℕ) (asks : folds_asked ≡ folds_moves asked) (each : TellsEach both asked f.list.items ls) (folds : Folds asked.folds f.list.items (map (λ l. l.count) ls)) (moves : TellsMoves folds_asked both asked f ms all) (empty : o ≡ []) (put : a ≡ o ++ lines_text asked ls) (more : c ≡ a ++ lines_text asked ms) where
+module _ (folds_asked labels : Bool) (both : Both) (asked : Diff) (f : Found) (ls ms : List Line) (all : Bool) (o a c : List ℕ) (asks : folds_asked ≡ folds_moves asked) (labelled : labels ≡ is_line asked.form) (each : TellsEach both asked f.list.items ls) (folds : Folds asked.folds f.list.items (map (λ l. l.count) ls)) (moves : TellsMoves folds_asked labels both asked f ms all) (empty : o ≡ []) (put : a ≡ o ++ lines_text asked ls) (more : c ≡ a ++ lines_text asked ms) where
   all_put : c ≡ lines_text asked ls ++ lines_text asked ms
   all_put = more ∙ ap (λ z. z ++ lines_text asked ms) (put ∙ ap (λ z. z ++ lines_text asked ls) empty)
 
-  as_asked : TellsMoves (folds_moves asked) both asked f ms all
-  as_asked = subst (λ z. TellsMoves z both asked f ms all) asks moves
+  as_asked : TellsMoves (folds_moves asked) (is_line asked.form) both asked f ms all
+  as_asked = subst (λ z. TellsMoves z (is_line asked.form) both asked f ms all) asks (subst (λ z. TellsMoves folds_asked z both asked f ms all) labelled moves)
 
   -- the lines of a whole list
   pub found_whole : (f.whole && all) ≡ true → TellsFound both asked f c

@@ -15,7 +15,7 @@ pub record ListsFound (both : Both) (asked : Diff) (f : Found) (listed : Listed)
   pub each : TellsEach both asked f.list.items listed.lines.items
   pub alone : Folds false f.list.items (map (λ l. l.count) listed.lines.items)
   pub all_moves : Bool
-  pub moves : TellsMoves false both asked f listed.moves.items all_moves
+  pub moves : TellsMoves false false both asked f listed.moves.items all_moves
   pub whole : listed.whole ≡ (f.whole && all_moves)
   pub is_none : listed.same ≡ ((f.whole && (length f.list.items == 0)) && (length f.moves.items == 0))
 

@@ -1,9 +1,10 @@
 //! The lines of items that moved.
-ghost use Rattle.std.specs.Prelude.{◌≡◌, ◌++◌, ◌∷◌, None, take, string_bytes, OnOk, IfOk};
+ghost use Rattle.std.specs.Prelude.{◌≡◌, ◌++◌, ◌∷◌, None, cond, take, option_map, is_some, string_bytes, OnOk, IfOk, IfSome};
 ghost use Rattle.yaml_rank.specs.RanksView.{RanksAre};
 ghost use Rattle.yaml_diff.specs.Lines.{way_of};
 ghost use Rattle.yaml_diff.specs.declared.difference.Step.TheVariants.{Item};
-ghost use Rattle.review_lines.specs.Compared.{is_numbered, path_as, is_plain, last_of, range_of, before_text, range_path, group_text, moves_room, IsFirst, TellsGroup, TellsGroups, TellsMoves};
+ghost use Rattle.review_labels.specs.Labels.{label, AreKeys};
+ghost use Rattle.review_lines.specs.Compared.{is_numbered, room_of, path_as, is_plain, last_of, range_of, before_text, range_path, group_text, moves_room, IsFirst, TellsGroup, TellsGroups, TellsMoves};
 
 use crate::diff::{is_numbered, members_in, room_of};
 use crate::lines::Line;
@@ -174,7 +175,8 @@ fn group_path(
     }
 }
 
-/// The label of a group, where labels are told.
+/// The label of a group, where there are keys.
+#[tactic(auto, using(crate::proofs::MoveLaws::label_some, crate::proofs::MoveLaws::label_none))]
 fn label_if(
     alloc: Global,
     both: &Both<'_>,
@@ -184,6 +186,8 @@ fn label_if(
     path: &[Step],
 ) -> Result<Option<String>, Fault>
     requires ranked { RanksAre both.now.graph both.now.ranks }
+    requires keys { IfSome keys.now (AreKeys both.now) }
+    ensures { IfOk result (λ told. option_map string_bytes told ≡ cond (is_some keys.now) (label both.now (room_of asked.now.whole) group path.now) None) }
 {
     match keys {
         Some(keys) => label_of(alloc, both, keys, group, path, room_of(asked.whole)),
@@ -203,7 +207,8 @@ fn line_of_group(
     places: (Option<Place>, Option<Place>),
 ) -> Result<Line, Fault>
     requires ranked { RanksAre both.now.graph both.now.ranks }
-    ensures { IfOk result (TellsGroup both.now asked.now moves.now group) }
+    requires keys { IfSome keys.now (AreKeys both.now) }
+    ensures { IfOk result (TellsGroup (is_some keys.now) both.now asked.now moves.now group) }
 {
     let first = first_of(alloc, moves, group)?;
     let last = last_of(moves, group);
@@ -245,7 +250,8 @@ fn lines_of_groups(
     sides: Option<(Traced<'_>, Traced<'_>)>,
 ) -> Result<Vec<Line>, Fault>
     requires ranked { RanksAre both.now.graph both.now.ranks }
-    ensures { IfOk result (λ lines. TellsGroups both.now asked.now moves.now groups.now lines.items) }
+    requires keys { IfSome keys.now (AreKeys both.now) }
+    ensures { IfOk result (λ lines. TellsGroups (is_some keys.now) both.now asked.now moves.now groups.now lines.items) }
 {
     let firsts = firsts(alloc, moves, groups)?;
     let sides = if firsts.is_empty() { None } else { sides };
@@ -262,13 +268,12 @@ fn lines_of_groups(
 }
 
 /// The keys that name items, where there are labels.
-fn keys_if(
-    alloc: Global,
-    both: &Both<'_>,
-    has_labels: bool,
-    groups: &[Group],
-) -> Result<Option<Keys>, Fault> {
-    if has_labels && !groups.is_empty() {
+fn keys_if(alloc: Global, both: &Both<'_>, has_labels: bool) -> Result<Option<Keys>, Fault>
+    requires ranked { RanksAre both.now.graph both.now.ranks }
+    ensures are { IfOk result (λ keys. IfSome keys (AreKeys both.now)) }
+    ensures told { IfOk result (λ keys. is_some keys ≡ has_labels) }
+{
+    if has_labels {
         return Ok(Some(Keys::new(alloc, both)?));
     }
     Ok(None)
@@ -298,7 +303,7 @@ fn first_groups(groups: &[Group], room: usize) -> &[Group]
 
 /// The lines of pairs of items that moved, as far as there is room, each with a label if that is asked for. With folds, one line may tell
 /// several pairs.
-#[tactic(auto, using(crate::proofs::CompareLaws::moves_told))]
+#[tactic(auto, using(crate::proofs::CompareLaws::moves_told, crate::proofs::CompareLaws::moves_untold))]
 pub(crate) fn lines_of_moves(
     alloc: Global,
     both: &Both<'_>,
@@ -309,13 +314,19 @@ pub(crate) fn lines_of_moves(
     has_labels: bool,
 ) -> Result<MoveLines, Fault>
     requires ranked { RanksAre both.now.graph both.now.ranks }
-    ensures { IfOk result (λ told. TellsMoves folds both.now asked.now found.now told.lines.items told.whole) }
+    ensures { IfOk result (λ told. TellsMoves folds has_labels both.now asked.now found.now told.lines.items told.whole) }
 {
     let groups = groups(alloc, folds, is_plain(asked.paths), found)?;
     let room = moves_room(asked, found);
     let told = first_groups(&groups, room);
     let whole = groups.len() <= room;
-    let keys = keys_if(alloc, both, has_labels, told)?;
+    if told.is_empty() {
+        return Ok(MoveLines {
+            lines: Vec::new(alloc),
+            whole,
+        });
+    }
+    let keys = keys_if(alloc, both, has_labels)?;
     let lines = lines_of_groups(alloc, both, asked, &found.moves, told, &keys, sides)?;
     Ok(MoveLines { lines, whole })
 }

@@ -1,4 +1,4 @@
-use Rattle.std.proofs.Common.{◌≡◌, ◌≤◌, true, false, refl, sym, ◌∙◌, ap, subst, arith}
+use Rattle.std.proofs.Common.{◌≡◌, true, false, sym, ◌∙◌, ap, arith}
 use Rattle.review_lines.specs.Searched.{room_for, search_room}
 use Rattle.review_lines.proofs.ListLaws.{if_ok}
 use Rattle.review_lines.proofs.search.searched.Goals as goal
