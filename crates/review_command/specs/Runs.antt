@@ -15,6 +15,7 @@ use Rattle.review_command.specs.declared.diff.NoDiff.{NoDiff}
 use Rattle.review_args.specs.declared.words.Merge.{Merge}
 use Rattle.review_args.specs.declared.words.Sum.{Sum}
 use Rattle.review_merge.specs.Merges.{MergeTells}
+use Rattle.review_merge.specs.Refusals.{MergeRefuses}
 use Rattle.review_merge.specs.declared.merge.Names.{Names}
 use Rattle.review_merge.specs.declared.merge.NoMerge.{NoMerge}
 use Rattle.review_args.specs.declared.words.Warn.{Warn}
@@ -122,7 +123,7 @@ module _ {R W E : Type 0} (holds : List ℕ → Option (List ℕ)) (remaining : 
   -- it is told why nothing is said of a merge, which the status tells too
   abbrev pub MergeNone : Names → R → R → Counted W → Counted W → E → ℕ → Type 0
   MergeNone names input end old new err status =
-      (none : NoMerge) × TellsNoMerge told none err status × (2 ≤ status)
+      (none : NoMerge) × MergeRefuses holds remaining contents names input end old new none × TellsNoMerge told none err status × (2 ≤ status)
 
   -- It is said whether two changes can be merged, or whether a file is the merge. Else the status is 2 or more.
   pub record MergeRuns (asked : Merge) (input : R) (out : W) (err : E) (status : ℕ) : Type 0 where
