@@ -234,7 +234,7 @@ fn both_found<S: Shelf>(
             let (left, right) = (left_path.as_str(), right_path.as_str());
             let part = Part {
                 name: None,
-                list: list_found(alloc, asked, &listed, left, right)?,
+                list: list_found(alloc, &listed, left, right)?,
                 shown: lines_shown(alloc, page, left, one, right, other)?,
                 whole: listed.whole,
             };

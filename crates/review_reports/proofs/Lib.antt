@@ -1,3 +1,4 @@
+mod DifferenceLaws
 mod PageLaws
 mod ReportLaws
 mod WarningLaws

@@ -7,6 +7,7 @@ use Rattle.yaml_text.specs.declared.counted.Counted.{Counted}
 use Rattle.yaml_text.specs.Writers.{Printed, Broken}
 use Rattle.yaml_canon.specs.Claims.{CanonicalRefuses}
 use Rattle.yaml_canon.specs.FaultPlaces.{TellsPlace}
+use Rattle.review_args.specs.declared.words.Page.{Page}
 use Rattle.review_args.specs.declared.words.Warn.{Warn}
 use Rattle.review_formats.specs.declared.finding.Finding.{Finding}
 use Rattle.review_text.specs.Hidden.{visible}
@@ -18,6 +19,7 @@ use Rattle.review_faults.specs.declared.warn.Warning.{Warning}
 use Rattle.review_files.specs.Named.{ReadsNamed, ReadsNot}
 use Rattle.review_files.specs.Told.{IsAccepted}
 use Rattle.review_reports.specs.Reports.{HasNoText}
+use Rattle.review_reports.specs.Texts.{IsListText}
 use Rattle.review_files.specs.Statuses.{fault_status, unread_status}
 use Rattle.review_files.specs.declared.unread.Unread.{Unread}
 use Rattle.review_files.specs.declared.unread.Unread.TheVariants as unread
@@ -69,11 +71,11 @@ FindsBytes kind name bytes list status =
 -- ---- what is written
 
 module _ {W : Type 0} (contents : W → Option (List ℕ)) where
-  -- Some text was written of what was found, and the status is that; or the output fails behind a beginning of it, or nothing is written because of a fault.
-  abbrev pub WritesPage : Counted W → Counted W → ℕ → ℕ → Type 0
-  WritesPage out end found status =
-      ((text : List ℕ) × Printed contents out end text × (status ≡ found))
-      ⊎ (((text : List ℕ) × Broken contents out end text × (status ≡ max found 3))
+  -- What was found is written as text, and the status is that; or the output fails behind a beginning of it, or nothing is written because of a fault.
+  abbrev pub WritesPage : Page → List Finding → Counted W → Counted W → ℕ → ℕ → Type 0
+  WritesPage page list out end found status =
+      ((text : List ℕ) × IsListText page list text × Printed contents out end text × (status ≡ found))
+      ⊎ (((text : List ℕ) × IsListText page list text × Broken contents out end text × (status ≡ max found 3))
       ⊎ ((fault : Fault) × (end ≡ out) × (status ≡ max found (fault_status fault))))
 
 -- ---- a file
@@ -101,7 +103,7 @@ module _ {R : Type 0} (holds : List ℕ → Option (List ℕ)) (remaining : R �
 
   module _ {W : Type 0} (contents : W → Option (List ℕ)) where
     -- The files are looked at in turn and the page is written. Where memory for what was found is refused, nothing is written, and the status tells it.
-    abbrev pub TellsPage : Kind → List (List ℕ) → R → R → Counted W → Counted W → ℕ → Type 0
-    TellsPage kind names old new out end status =
-        ((list : List Finding) × (found : ℕ) × FindsFiles kind names old new list found × WritesPage contents out end found status)
+    abbrev pub TellsPage : Kind → Page → List (List ℕ) → R → R → Counted W → Counted W → ℕ → Type 0
+    TellsPage kind page names old new out end status =
+        ((list : List Finding) × (found : ℕ) × FindsFiles kind names old new list found × WritesPage contents page list out end found status)
         ⊎ ((fault : Fault) × (end ≡ out) × (status ≡ fault_status fault))
