@@ -176,7 +176,7 @@ fn report_as<S: Shelf, R: Read + Drop, W: Write + Drop, E: Write + Drop>(
     out: W,
     mut err: E,
 ) -> u8
-    ensures { PagesTell (S.holds shelf.now) R.remaining W.contents E.contents told.entry.0 asked.now input out result }
+    ensures { PagesTell (S.holds shelf.now) R.remaining W.contents E.contents told.entry.0 told.entry.1 asked.now input out result }
 {
     let mut out = Counted::new(out);
     pages(shelf, alloc, told, asked, &mut input, &mut out, &mut err)
@@ -325,9 +325,12 @@ fn folders<T: Files + AllocGlobal + Clone + Drop, W: Write, E: Write>(
         Err(fault) => return tell_bare(fault, err),
     };
     let shelf = Host::new(rt);
+    let mut out = Counted::new(out);
     match page {
-        None => folder_lines(&shelf, alloc, asked, ignored, &entries, out, err),
-        Some(page) => folder_page(&shelf, alloc, (asked, page), ignored, &entries, out, err),
+        None => folder_lines(&shelf, alloc, asked, ignored, &entries, &mut out, err),
+        Some(page) => {
+            folder_page(&shelf, alloc, (asked, page), ignored, &entries, &mut out, err)
+        }
     }
 }
 

@@ -1,2 +1,4 @@
 pub mod Folders
+pub mod Pages
 pub mod Parts
+pub mod Printed

@@ -1,5 +1,5 @@
 //! Parts of a page: what two files have differently.
-ghost use Rattle.std.specs.Prelude.{IfOk, string_bytes};
+ghost use Rattle.std.specs.Prelude.{◌≡◌, IfOk, IfErr, string_bytes};
 ghost use Rattle.review_folders.specs.Parts.{ListsAll, IsShown, ShowsLines, IsPartsText};
 
 use review_args::{Diff, Page};
@@ -22,7 +22,8 @@ pub fn list_found(
     left: &str,
     right: &str,
 ) -> Result<Vec<Finding>, Fault>
-    ensures { IfOk result (λ list. ListsAll left.now right.now listed.now list.items) }
+    ensures ok { IfOk result (λ list. ListsAll left.now right.now listed.now list.items) }
+    ensures err { IfErr result (λ fault. fault ≡ Fault.OutOfMemory) }
 {
     let mut list = differences_found(alloc, left, right, &listed.lines)?;
     let mut moves = differences_found(alloc, left, right, &listed.moves)?;
@@ -32,7 +33,8 @@ pub fn list_found(
 
 /// A file of which lines are shown, with escapes for the characters that would not be seen.
 fn shown_of(alloc: Global, name: &str, bytes: &[u8]) -> Result<Shown, Fault>
-    ensures { IfOk result (IsShown name.now bytes.now) }
+    ensures ok { IfOk result (IsShown name.now bytes.now) }
+    ensures err { IfErr result (λ fault. fault ≡ Fault.OutOfMemory) }
 {
     let mut text = String::new(alloc);
     put_visible(&mut text, str::from_utf8(bytes).unwrap_or(""))?;
@@ -54,7 +56,8 @@ pub fn lines_shown(
     right_name: &str,
     right: &[u8],
 ) -> Result<Option<(Shown, Shown)>, Fault>
-    ensures { IfOk result (ShowsLines page left_name.now left.now right_name.now right.now) }
+    ensures ok { IfOk result (ShowsLines page left_name.now left.now right_name.now right.now) }
+    ensures err { IfErr result (λ fault. fault ≡ Fault.OutOfMemory) }
 {
     if page != Page::Html {
         return Ok(None);
@@ -74,7 +77,8 @@ pub fn parts_text(
     page: Page,
     parts: Vec<Part>,
 ) -> Result<String, Fault>
-    ensures { IfOk result (λ text. IsPartsText asked.now.left.now asked.now.right.now page parts.items (string_bytes text)) }
+    ensures ok { IfOk result (λ text. IsPartsText asked.now.left.now asked.now.right.now page parts.items (string_bytes text)) }
+    ensures err { IfErr result (λ fault. fault ≡ Fault.OutOfMemory) }
 {
     let found = Findings {
         command: "diff",

@@ -2,7 +2,7 @@
 use Rattle.std.specs.Prelude.{◌≡◌, ℕ, List, [], ◌∷◌, ◌++◌, Option, Some, None, codes, option_map, string_bytes}
 use Rattle.review_formats.specs.Findings.{sign_word, sign_says}
 use Rattle.review_formats.specs.declared.finding.Finding.{Finding}
-use Rattle.review_formats.specs.declared.finding.Level.TheVariants as level
+use Rattle.review_formats.specs.declared.finding.Level.TheVariants as levels
 use Rattle.review_formats.specs.declared.finding.Sides.{Sides}
 use Rattle.review_formats.specs.declared.finding.Sign.{Sign}
 use Rattle.review_formats.specs.declared.finding.Sign.TheVariants.{Changed, Left, Right, Moved}
@@ -55,7 +55,7 @@ pub record IsDifference (left right : List ℕ) (line : Line) (one : Finding) : 
   pub has : one.sides ≡ Some sides
   pub are : AreSides line sides
   pub rule : one.rule.now ≡ sign_word sides.sign
-  pub level : one.level ≡ level.Note
+  pub level : one.level ≡ levels.Note
   pub file : string_bytes one.file ≡ file_of sides.sign left right
   pub place : one.place ≡ place_of sides.sign line
   pub path : option_map string_bytes one.path ≡ Some (visible (string_bytes line.path))

@@ -10,6 +10,7 @@ use Rattle.yaml_canon.specs.FaultPlaces.{TellsPlace}
 use Rattle.review_args.specs.declared.words.Page.{Page}
 use Rattle.review_args.specs.declared.words.Warn.{Warn}
 use Rattle.review_formats.specs.declared.finding.Finding.{Finding}
+use Rattle.review_formats.specs.declared.finding.Level.TheVariants as levels
 use Rattle.review_text.specs.Hidden.{visible}
 use Rattle.review_text.specs.Shown.{front}
 use Rattle.review_text.specs.declared.yaml11.Older.{Older}
@@ -32,6 +33,7 @@ use Rattle.review_reports.specs.declared.reports.Kind.TheVariants.{Faults, Warni
 pub record IsFault (name bytes : List ℕ) (fault : Fault) (one : Finding) : Type 0 where
   pub file : string_bytes one.file ≡ name
   pub rule : one.rule.now ≡ fault_name fault
+  pub level : one.level ≡ levels.Error
   pub place : IsSpotted bytes fault one.place
 
 -- one fault is found
@@ -42,6 +44,7 @@ FindsFault name bytes fault list = (one : Finding) × (list ≡ one ∷ []) × I
 pub record IsFoundWarning (name : List ℕ) (w : Warning) (one : Finding) : Type 0 where
   pub file : string_bytes one.file ≡ name
   pub rule : one.rule.now ≡ codes "yaml-1.1"
+  pub level : one.level ≡ levels.Warning
   pub place : one.place ≡ Some w.place
   pub message : string_bytes one.message ≡ visible (front 60 (string_bytes w.text)) ++ (codes ": " ++ string_bytes w.words)
 
@@ -72,10 +75,10 @@ FindsBytes kind name bytes list status =
 
 module _ {W : Type 0} (contents : W → Option (List ℕ)) where
   -- What was found is written as text, and the status is that; or the output fails behind a beginning of it, or nothing is written because of a fault.
-  abbrev pub WritesPage : Page → List Finding → Counted W → Counted W → ℕ → ℕ → Type 0
-  WritesPage page list out end found status =
-      ((text : List ℕ) × IsListText page list text × Printed contents out end text × (status ≡ found))
-      ⊎ (((text : List ℕ) × IsListText page list text × Broken contents out end text × (status ≡ max found 3))
+  abbrev pub WritesPage : Kind → Page → List Finding → Counted W → Counted W → ℕ → ℕ → Type 0
+  WritesPage kind page list out end found status =
+      ((text : List ℕ) × IsListText kind page list text × Printed contents out end text × (status ≡ found))
+      ⊎ (((text : List ℕ) × IsListText kind page list text × Broken contents out end text × (status ≡ max found 3))
       ⊎ ((fault : Fault) × (end ≡ out) × (status ≡ max found (fault_status fault))))
 
 -- ---- a file
@@ -105,5 +108,5 @@ module _ {R : Type 0} (holds : List ℕ → Option (List ℕ)) (remaining : R �
     -- The files are looked at in turn and the page is written. Where memory for what was found is refused, nothing is written, and the status tells it.
     abbrev pub TellsPage : Kind → Page → List (List ℕ) → R → R → Counted W → Counted W → ℕ → Type 0
     TellsPage kind page names old new out end status =
-        ((list : List Finding) × (found : ℕ) × FindsFiles kind names old new list found × WritesPage contents page list out end found status)
+        ((list : List Finding) × (found : ℕ) × FindsFiles kind names old new list found × WritesPage contents kind page list out end found status)
         ⊎ ((fault : Fault) × (end ≡ out) × (status ≡ fault_status fault))

@@ -1,5 +1,5 @@
 //! What is found, by its parts.
-ghost use Rattle.std.specs.Prelude.{◌≡◌, ◌++◌, codes, option_map, IfOk, OnOk, string_bytes};
+ghost use Rattle.std.specs.Prelude.{◌≡◌, ◌++◌, codes, option_map, IfOk, IfErr, OnOk, string_bytes};
 ghost use Rattle.review_text.specs.Hidden.{visible};
 ghost use Rattle.review_text.specs.Shown.{front};
 ghost use Rattle.review_reports.specs.Differences.{sign_of, file_of, place_of, sides_text, message_text, AreSides, IsDifference, AreDifferences};
@@ -16,7 +16,8 @@ use yaml_text::fault::Fault;
 
 /// A text with escapes for the characters that would not be seen.
 fn visible(alloc: Global, text: &str) -> Result<String, Fault>
-    ensures { IfOk result (λ s. string_bytes s ≡ visible text.now) }
+    ensures ok { IfOk result (λ s. string_bytes s ≡ visible text.now) }
+    ensures err { IfErr result (λ fault. fault ≡ Fault.OutOfMemory) }
 {
     let mut out = String::new(alloc);
     put_visible(&mut out, text)?;
@@ -25,7 +26,8 @@ fn visible(alloc: Global, text: &str) -> Result<String, Fault>
 
 /// The same, if there is a text.
 fn visible_of(alloc: Global, text: &Option<String>) -> Result<Option<String>, Fault>
-    ensures { IfOk result (λ s. option_map string_bytes s ≡ option_map (λ t. visible (string_bytes t)) text.now) }
+    ensures ok { IfOk result (λ s. option_map string_bytes s ≡ option_map (λ t. visible (string_bytes t)) text.now) }
+    ensures err { IfErr result (λ fault. fault ≡ Fault.OutOfMemory) }
 {
     match text {
         Some(text) => Ok(Some(visible(alloc, text)?)),
@@ -47,7 +49,8 @@ fn sign_of(line: &Line) -> Sign
 
 /// Writes the texts of both sides.
 fn put_sides(out: &mut String, sides: &Sides) -> Result<(), Fault>
-    ensures { OnOk result (string_bytes out.new ≡ string_bytes out.old ++ sides_text (option_map string_bytes sides.now.left) (option_map string_bytes sides.now.right)) }
+    ensures ok { OnOk result (string_bytes out.new ≡ string_bytes out.old ++ sides_text (option_map string_bytes sides.now.left) (option_map string_bytes sides.now.right)) }
+    ensures err { IfErr result (λ fault. fault ≡ Fault.OutOfMemory) }
 {
     match (&sides.left, &sides.right) {
         (Some(left), Some(right)) => put_all(out, &[": ", left, " -> ", right]),
@@ -58,7 +61,8 @@ fn put_sides(out: &mut String, sides: &Sides) -> Result<(), Fault>
 
 /// What is said of a difference behind its path.
 fn message_of(alloc: Global, sides: &Sides) -> Result<String, Fault>
-    ensures { IfOk result (λ s. string_bytes s ≡ message_text sides.now.sign (option_map string_bytes sides.now.left) (option_map string_bytes sides.now.right)) }
+    ensures ok { IfOk result (λ s. string_bytes s ≡ message_text sides.now.sign (option_map string_bytes sides.now.left) (option_map string_bytes sides.now.right)) }
+    ensures err { IfErr result (λ fault. fault ≡ Fault.OutOfMemory) }
 {
     let mut out = String::new(alloc);
     out.push_str(sides.sign.says())?;
@@ -68,7 +72,8 @@ fn message_of(alloc: Global, sides: &Sides) -> Result<String, Fault>
 
 /// The changed lines of two strings, if there are.
 fn changes_of(alloc: Global, line: &Line) -> Result<Option<String>, Fault>
-    ensures { IfOk result (λ s. option_map string_bytes s ≡ option_map (λ changes. visible (string_bytes changes.text)) line.now.changes) }
+    ensures ok { IfOk result (λ s. option_map string_bytes s ≡ option_map (λ changes. visible (string_bytes changes.text)) line.now.changes) }
+    ensures err { IfErr result (λ fault. fault ≡ Fault.OutOfMemory) }
 {
     match &line.changes {
         Some(changes) => Ok(Some(visible(alloc, &changes.text)?)),
@@ -78,7 +83,8 @@ fn changes_of(alloc: Global, line: &Line) -> Result<Option<String>, Fault>
 
 /// What both sides have.
 fn sides_of(alloc: Global, line: &Line) -> Result<Sides, Fault>
-    ensures { IfOk result (AreSides line.now) }
+    ensures ok { IfOk result (AreSides line.now) }
+    ensures err { IfErr result (λ fault. fault ≡ Fault.OutOfMemory) }
 {
     Ok(Sides {
         sign: sign_of(line),
@@ -112,7 +118,8 @@ fn place_of(line: &Line, sign: Sign) -> Option<Place>
 
 /// A difference of two files of these names, at the right one unless that has nothing there.
 fn difference_found(alloc: Global, left: &str, right: &str, line: &Line) -> Result<Finding, Fault>
-    ensures { IfOk result (IsDifference left.now right.now line.now) }
+    ensures ok { IfOk result (IsDifference left.now right.now line.now) }
+    ensures err { IfErr result (λ fault. fault ≡ Fault.OutOfMemory) }
 {
     let sides = sides_of(alloc, line)?;
     Ok(Finding {
@@ -137,7 +144,8 @@ pub fn differences_found(
     right: &str,
     lines: &[Line],
 ) -> Result<Vec<Finding>, Fault>
-    ensures { IfOk result (λ list. AreDifferences left.now right.now lines.now list.items) }
+    ensures ok { IfOk result (λ list. AreDifferences left.now right.now lines.now list.items) }
+    ensures err { IfErr result (λ fault. fault ≡ Fault.OutOfMemory) }
 {
     let mut list = Vec::new(alloc);
     'lines: for line in lines {

@@ -2,7 +2,7 @@
 ghost use Rattle.std.specs.Prelude.{◌≡◌, ◌<◌, ◌-◌, ◌^◌, ◌++◌, map, [], IfOk, IfErr, OnOk, string_bytes};
 ghost use Rattle.yaml_text.specs.CountedModel.{faults_of};
 ghost use Rattle.review_reports.specs.Reports.{HasNoText};
-ghost use Rattle.review_reports.specs.Texts.{IsPageText, AreFound, IsListText};
+ghost use Rattle.review_reports.specs.Texts.{IsPageText, command_word, AreFound, IsListText};
 ghost use Rattle.review_reports.specs.Pages.{AreFoundWarnings, FindsWarnings, FindsAccepted, FindsFault, FindsBytes, HasFound, FindsFile, FindsFiles, WritesPage, TellsPage};
 
 use crate::findings::{fault_found, warning_found};
@@ -42,8 +42,13 @@ pub fn page_text(alloc: Global, page: Page, found: &Findings) -> Result<String, 
     }
 }
 
-/// A fault of a file, as a list.
-fn fault_list(alloc: Global, name: &str, bytes: &[u8], fault: Fault) -> Result<Vec<Finding>, Fault>
+/// A fault of a file of this name and these bytes, as a list.
+pub fn fault_list(
+    alloc: Global,
+    name: &str,
+    bytes: &[u8],
+    fault: Fault,
+) -> Result<Vec<Finding>, Fault>
     ensures { IfOk result (λ list. FindsFault name.now bytes.now fault list.items) }
 {
     let mut list = Vec::new(alloc);
@@ -182,9 +187,19 @@ fn files_list<S: Shelf, R: Read, E: Write>(
     Ok((list, status))
 }
 
+/// The command.
+fn word_of(kind: Kind<'_>) -> &'static str
+    ensures { result.now ≡ command_word kind.entry }
+{
+    match kind {
+        Kind::Faults => "faults",
+        Kind::Warnings(_) => "warn",
+    }
+}
+
 /// What a command found, of which all is listed.
 fn as_found(alloc: Global, kind: Kind<'_>, list: Vec<Finding>) -> Result<Findings, Fault>
-    ensures ok { IfOk result (AreFound list.items) }
+    ensures ok { IfOk result (AreFound kind.entry list.items) }
     ensures err { IfErr result (λ fault. fault ≡ Fault.OutOfMemory) }
 {
     let mut parts = Vec::new(alloc);
@@ -195,10 +210,7 @@ fn as_found(alloc: Global, kind: Kind<'_>, list: Vec<Finding>) -> Result<Finding
         whole: true,
     })?;
     Ok(Findings {
-        command: match kind {
-            Kind::Faults => "faults",
-            Kind::Warnings(_) => "warn",
-        },
+        command: word_of(kind),
         names: None,
         parts,
     })
@@ -211,7 +223,7 @@ fn found_text(
     page: Page,
     list: Vec<Finding>,
 ) -> Result<String, Fault>
-    ensures ok { IfOk result (λ text. IsListText page list.items (string_bytes text)) }
+    ensures ok { IfOk result (λ text. IsListText kind.entry page list.items (string_bytes text)) }
     ensures err { IfErr result (λ fault. fault ≡ Fault.OutOfMemory) }
 {
     page_text(alloc, page, &as_found(alloc, kind, list)?)
@@ -226,7 +238,7 @@ fn put_page<W: Write, E: Write>(
     err: &mut E,
 ) -> u8
     requires { faults_of out.old < 2 ^ 64 - 1 }
-    ensures { WritesPage W.contents told.entry.1 found.0.items out.old out.new found.1 result }
+    ensures { WritesPage W.contents told.entry.0 told.entry.1 found.0.items out.old out.new found.1 result }
 {
     let (kind, page) = told;
     let (list, status) = found;
