@@ -329,7 +329,15 @@ fn folders<T: Files + AllocGlobal + Clone + Drop, W: Write, E: Write>(
     match page {
         None => folder_lines(&shelf, alloc, asked, ignored, &entries, &mut out, err),
         Some(page) => {
-            folder_page(&shelf, alloc, (asked, page), ignored, &entries, &mut out, err)
+            folder_page(
+                &shelf,
+                alloc,
+                (asked, page),
+                ignored,
+                &entries,
+                &mut out,
+                err,
+            )
         }
     }
 }

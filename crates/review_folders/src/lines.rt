@@ -77,12 +77,7 @@ fn put_name(alloc: Global, out: &mut String, form: Form, name: &str) -> Result<(
 }
 
 /// Writes that one folder alone has a file: the words below its name, or before it where no lines are printed.
-fn put_alone_line(
-    out: &mut String,
-    is_listed: bool,
-    words: &str,
-    name: &str,
-) -> Result<(), Fault>
+fn put_alone_line(out: &mut String, is_listed: bool, words: &str, name: &str) -> Result<(), Fault>
     ensures { OnOk result (string_bytes out.new ≡ string_bytes out.old ++ alone_line is_listed words.now name.now) }
 {
     if is_listed {
@@ -265,11 +260,7 @@ fn told_of<S: Shelf>(
 }
 
 /// Writes what is printed of a file, and answers its status.
-fn put_told<W: Write, E: Write>(
-    told: &Told,
-    out: &mut Counted<W>,
-    err: &mut E,
-) -> Result<u8, Fault>
+fn put_told<W: Write, E: Write>(told: &Told, out: &mut Counted<W>, err: &mut E) -> Result<u8, Fault>
     requires { faults_of out.old < 2 ^ 64 - 1 }
     ensures line { TakesLine E.contents err.old err.new (string_bytes told.now.err) }
     ensures printed { OnOk result (Printed W.contents out.old out.new (string_bytes told.now.out)) }

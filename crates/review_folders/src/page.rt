@@ -218,11 +218,7 @@ fn new_found<S: Shelf>(
 }
 
 /// Why two files are not compared: the faults of each.
-fn faults_found(
-    alloc: Global,
-    left: Named<'_>,
-    right: Named<'_>,
-) -> Result<Part, Fault>
+fn faults_found(alloc: Global, left: Named<'_>, right: Named<'_>) -> Result<Part, Fault>
     ensures { IfOk result (λ part. (first : List Finding) × (second : List Finding) × FileFaults left.entry first × FileFaults right.entry second × IsList (first ++ second) part) }
 {
     let mut list = file_faults(alloc, left)?;
