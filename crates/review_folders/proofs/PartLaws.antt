@@ -1,15 +1,26 @@
 -- The parts of a page, by the files of two folders in turn.
-use Rattle.std.proofs.Common.{◌≡◌, ℕ, ◌+◌, ◌<◌, ◌≤◌, max, List, [], ◌∷◌, ◌++◌, Option, length, drop, get_or, refl, sym, ◌∙◌, ap, subst, arith}
+use Rattle.std.proofs.Common.{◌≡◌, ℕ, ◌+◌, ◌<◌, ◌≤◌, max, List, [], ◌∷◌, ◌++◌, Option, length, drop, get_or, inl, inr, refl, sym, ◌∙◌, ap, subst, arith}
 use Rattle.std.proofs.lemmas.List.{append_assoc, append-nil}
 use Rattle.std.proofs.Math.ListN.{drop_of_length-le}
+use Rattle.yaml_text.specs.declared.fault.Fault.{Fault}
+use Rattle.yaml_text.specs.declared.fault.Fault.TheVariants.{WriteFault}
+use Rattle.yaml_text.specs.declared.counted.Counted.{Counted}
+use Rattle.yaml_command.specs.Printing.{PrintFails}
 use Rattle.review_text.proofs.Pieces.{drop_next}
 use Rattle.review_patterns.specs.declared.pattern.Pattern.{Pattern}
 use Rattle.review_args.specs.declared.words.Diff.{Diff}
 use Rattle.review_args.specs.declared.words.Page.{Page}
 use Rattle.review_formats.specs.declared.finding.Part.{Part}
 use Rattle.review_files.specs.Lines.{TakesLine}
+use Rattle.review_files.specs.Statuses.{fault_status}
 use Rattle.review_folders.specs.declared.entry.Entry.{Entry}
-use Rattle.review_folders.specs.Pages.{HasFound, HasPart, FindsParts}
+use Rattle.review_folders.specs.Parts.{IsPartsText}
+use Rattle.review_folders.specs.Pages.{HasFound, HasPart, FindsParts, WritesParts}
+
+-- the output fails behind a beginning of the text
+pub parts_cut : {W : Type 0} (contents : W → Option (List ℕ)) (asked : Diff) (page : Page) (parts : List Part) (out end : Counted W) (text : List ℕ) (found last all : ℕ) (fault : Fault) → IsPartsText asked.left.now asked.right.now page parts text → PrintFails contents out end text fault → last ≡ fault_status fault → all ≡ max found last → WritesParts contents asked page parts out end found all
+parts_cut contents asked page parts out end text found last all WriteFault is p l m = inr (inr (inl (text, is, p, m ∙ ap (max found) l)))
+parts_cut contents asked page parts out end text found last all _ is p l m = absurd p
 
 module _ {E : Type 0} (holds : List ℕ → Option (List ℕ)) (told : E → Option (List ℕ)) (asked : Diff) (ignored : List Pattern) (page : Page) (entries : List Entry) (before : E) where
   abbrev All : List Entry → List Part → E → E → ℕ → Type 0

@@ -2,12 +2,16 @@
 use Rattle.std.specs.Prelude.{IfOk, IfErr}
 use Rattle.std.proofs.Common.{◌≡◌, ℕ, max, Bool, cond, List, [], Option, Result, Ok, Err, Vec, inr, inl, sym, ◌∙◌, subst}
 use Rattle.std.specs.declared.alloc.Global.{Global}
+use Rattle.yaml_text.specs.declared.fault.Fault.{Fault}
 use Rattle.yaml_text.specs.declared.side.Side.{Side}
 use Rattle.yaml_canon.specs.Comparing.{Compares}
 use Rattle.yaml_command.specs.Shelves.{IsOf}
 use Rattle.review_patterns.specs.declared.pattern.Pattern.{Pattern}
 use Rattle.review_args.specs.declared.words.Diff.{Diff}
 use Rattle.review_args.specs.declared.words.Form.{Form}
+use Rattle.review_args.specs.declared.words.Page.{Page}
+use Rattle.review_formats.specs.declared.finding.Finding.{Finding}
+use Rattle.review_formats.specs.declared.finding.Shown.{Shown}
 use Rattle.review_lines.specs.declared.listed.Listed.{Listed}
 use Rattle.review_compare.specs.Compared.{DiffLines, DiffLists}
 use Rattle.review_files.specs.Named.{IsUnread, NotBothRead}
@@ -15,6 +19,8 @@ use Rattle.review_files.specs.Told.{TellsFile, TellsBoth, TellsNotCompared}
 use Rattle.review_files.specs.declared.rejected.Named.{Named}
 use Rattle.review_files.specs.declared.unread.Unread.{Unread}
 use Rattle.review_folders.specs.Folders.{IsPath, IsRead, AreCompared, AreRejected, NewTold}
+use Rattle.review_folders.specs.Pages.{BytesFaults, AnswerFaults, FileFaults}
+use Rattle.review_folders.specs.Parts.{ShowsLines}
 use Rattle.review_folders.specs.Printed.{lines_text, AsksFiles, LinesCompared}
 
 -- not both are read
@@ -30,6 +36,16 @@ pub read_is : (held : Option (List ℕ)) (answer : Result (Vec ℕ Global) Unrea
 read_is held answer bytes e h =
     let P : Result (Vec ℕ Global) Unread → Type 0 = λ z. IfOk z (λ v. IsOf held v.items) in
     subst P e h
+
+-- the faults of a file that is read
+pub faults_at : (r : Result (Vec Finding Global) Fault) (file : Named) (bytes : Vec ℕ Global) → file.answer.now ≡ Ok bytes → IfOk r (λ list. BytesFaults file.name.now bytes.items list.items) → IfOk r (λ list. FileFaults file list.items)
+faults_at (Ok list) file bytes e h = subst (λ z. AnswerFaults file.name.now z list.items) (sym e) h
+faults_at (Err fault) file bytes e h = tt
+
+-- the lines of two files, by other terms for their names and bytes
+pub shown_as : (page : Page) (a b c d e f g h : List ℕ) (shown : Option (Shown × Shown)) → a ≡ b → c ≡ d → e ≡ f → g ≡ h → ShowsLines page a c e g shown → ShowsLines page b d f h shown
+shown_as page a b c d e f g h shown i j k l s =
+    subst (λ z. ShowsLines page b d f z shown) l (subst (λ z. ShowsLines page b d z g shown) k (subst (λ z. ShowsLines page b z e g shown) j (subst (λ z. ShowsLines page z c e g shown) i s)))
 
 module _ (holds : List ℕ → Option (List ℕ)) where
   -- what reading a path gave is what reading the name that is printed gave

@@ -1,5 +1,6 @@
 -- What a page has of two files.
-use Rattle.std.specs.Prelude.{◌≡◌, ⊥, ℕ, List, ◌++◌, Option, Some, None, option_map, codes, string_bytes}
+use Rattle.std.specs.Prelude.{◌≡◌, ℕ, List, ◌++◌, Option, Some, None, String, codes, string_bytes}
+use Rattle.std.specs.declared.alloc.Global.{Global}
 use Rattle.std.specs.Str.{IsUtf8}
 use Rattle.review_args.specs.declared.words.Page.{Page}
 use Rattle.review_args.specs.declared.words.Page.TheVariants.{Html, Markdown, Sarif, Github}
@@ -32,10 +33,17 @@ ShowsLines Markdown left_name left right_name right both = both ≡ None
 ShowsLines Sarif left_name left right_name right both = both ≡ None
 ShowsLines Github left_name left right_name right both = both ≡ None
 
--- the text of what is found in these parts of what has these names
-pub record IsPartsText (left right : List ℕ) (page : Page) (parts : List Part) (text : List ℕ) : Type 0 where
-  pub found : Findings
+-- two files or folders of these names
+abbrev pub AreNames : List ℕ → List ℕ → Option (String Global × String Global) → Type 0
+AreNames left right None = ⊥
+AreNames left right (Some names) = (string_bytes names.0 ≡ left) × (string_bytes names.1 ≡ right)
+
+-- what `diff` finds in these parts of what has these names
+pub record AreParts (left right : List ℕ) (parts : List Part) (found : Findings) : Type 0 where
   pub command : found.command.now ≡ codes "diff"
-  pub named : option_map (λ names. (string_bytes names.0, string_bytes names.1)) found.names ≡ Some (left, right)
+  pub named : AreNames left right found.names
   pub parted : found.parts.items ≡ parts
-  pub is : IsPageText page found text
+
+-- the text of it
+abbrev pub IsPartsText : List ℕ → List ℕ → Page → List Part → List ℕ → Type 0
+IsPartsText left right page parts text = (found : Findings) × AreParts left right parts found × IsPageText page found text

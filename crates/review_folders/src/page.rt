@@ -175,7 +175,7 @@ fn deleted_found<S: Shelf>(
     page: Page,
     name: &str,
 ) -> Result<Found, Fault>
-    ensures { IfOk result (λ found. DeletedFound asked.now page name.now found.part (string_bytes found.err) found.status) }
+    ensures { IfOk result (λ found. DeletedFound (S.holds shelf.now) asked.now page name.now found.part (string_bytes found.err) found.status) }
 {
     let path = path_in(alloc, asked.left, name)?;
     let answer = read_file(shelf, alloc, path.as_str());
@@ -258,11 +258,10 @@ fn both_found<S: Shelf>(
     };
     match list_sides(alloc, asked, ignored, one, other) {
         Ok(listed) => {
-            let (left, right) = (left_path.as_str(), right_path.as_str());
             let part = Part {
                 name: None,
-                list: list_found(alloc, &listed, left, right)?,
-                shown: lines_shown(alloc, page, left, one, right, other)?,
+                list: list_found(alloc, &listed, first.name, second.name)?,
+                shown: lines_shown(alloc, page, first.name, one, second.name, other)?,
                 whole: listed.whole,
             };
             Ok(Found {

@@ -1,6 +1,6 @@
 //! Parts of a page: what two files have differently.
 ghost use Rattle.std.specs.Prelude.{◌≡◌, IfOk, IfErr, string_bytes};
-ghost use Rattle.review_folders.specs.Parts.{ListsAll, IsShown, ShowsLines, IsPartsText};
+ghost use Rattle.review_folders.specs.Parts.{ListsAll, IsShown, ShowsLines, AreParts, IsPartsText};
 
 use review_args::{Diff, Page};
 use review_formats::{Finding, Findings, Part, Shown};
@@ -67,6 +67,18 @@ pub fn lines_shown(
     Ok(Some((first, second)))
 }
 
+/// What two files or folders have differently, of which these are the parts.
+fn parts_found(alloc: Global, asked: &Diff<'_>, parts: Vec<Part>) -> Result<Findings, Fault>
+    ensures ok { IfOk result (AreParts asked.now.left.now asked.now.right.now parts.items) }
+    ensures err { IfErr result (λ fault. fault ≡ Fault.OutOfMemory) }
+{
+    Ok(Findings {
+        command: "diff",
+        names: Some((asked.left.to_string(alloc)?, asked.right.to_string(alloc)?)),
+        parts,
+    })
+}
+
 /// What two files or folders have differently as a page.
 ///
 /// # Errors
@@ -80,10 +92,5 @@ pub fn parts_text(
     ensures ok { IfOk result (λ text. IsPartsText asked.now.left.now asked.now.right.now page parts.items (string_bytes text)) }
     ensures err { IfErr result (λ fault. fault ≡ Fault.OutOfMemory) }
 {
-    let found = Findings {
-        command: "diff",
-        names: Some((asked.left.to_string(alloc)?, asked.right.to_string(alloc)?)),
-        parts,
-    };
-    page_text(alloc, page, &found)
+    page_text(alloc, page, &parts_found(alloc, asked, parts)?)
 }

@@ -1,7 +1,5 @@
 //! What is open before an offset of a text that breaks off there: quotes, brackets and braces. The text is read only roughly, by
 //! its indicators, since it is no YAML as a whole.
-ghost use Rattle.std.specs.Prelude.{◌≡◌, IfErr};
-
 use std::alloc::Global;
 use yaml_text::fault::Fault;
 
@@ -60,9 +58,7 @@ impl Scan {
     ///
     /// # Errors
     /// `OutOfMemory`
-    pub fn of(alloc: Global, before: &str) -> Result<Scan, Fault>
-        ensures err { IfErr result (λ fault. fault ≡ Fault.OutOfMemory) }
-    {
+    pub fn of(alloc: Global, before: &str) -> Result<Scan, Fault> {
         let mut scan = Scan {
             mode: Mode::Start,
             flow: Vec::new(alloc),
@@ -148,9 +144,7 @@ impl Scan {
         }
     }
 
-    fn take(&mut self, at: usize, byte: u8) -> Result<(), Fault>
-        ensures err { IfErr result (λ fault. fault ≡ Fault.OutOfMemory) }
-    {
+    fn take(&mut self, at: usize, byte: u8) -> Result<(), Fault> {
         if is_blank(byte) {
             self.end_word(at);
         }
@@ -177,9 +171,7 @@ impl Scan {
     }
 
     /// Where a node may start.
-    fn start(&mut self, at: usize, byte: u8) -> Result<(), Fault>
-        ensures err { IfErr result (λ fault. fault ≡ Fault.OutOfMemory) }
-    {
+    fn start(&mut self, at: usize, byte: u8) -> Result<(), Fault> {
         if is_blank(byte) {
             return Ok(());
         }
@@ -203,9 +195,7 @@ impl Scan {
         Ok(())
     }
 
-    fn plain(&mut self, at: usize, byte: u8) -> Result<(), Fault>
-        ensures err { IfErr result (λ fault. fault ≡ Fault.OutOfMemory) }
-    {
+    fn plain(&mut self, at: usize, byte: u8) -> Result<(), Fault> {
         match byte {
             b'#' if is_blank(self.last) => self.mode = Mode::Comment,
             b'[' | b'{' if !self.flow.is_empty() => {
@@ -220,9 +210,7 @@ impl Scan {
     }
 
     /// After a node that a character of its own has ended.
-    fn behind(&mut self, byte: u8) -> Result<(), Fault>
-        ensures err { IfErr result (λ fault. fault ≡ Fault.OutOfMemory) }
-    {
+    fn behind(&mut self, byte: u8) -> Result<(), Fault> {
         match byte {
             b']' | b'}' => {
                 self.flow.pop();
@@ -237,9 +225,7 @@ impl Scan {
     }
 
     /// At the start of a line after a block scalar's header.
-    fn block(&mut self, at: usize, byte: u8) -> Result<(), Fault>
-        ensures err { IfErr result (λ fault. fault ≡ Fault.OutOfMemory) }
-    {
+    fn block(&mut self, at: usize, byte: u8) -> Result<(), Fault> {
         if byte == b' ' || byte == b'\r' {
             return Ok(());
         }

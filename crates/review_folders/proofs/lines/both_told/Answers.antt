@@ -8,13 +8,13 @@ returns-in_default g c =
     let left = string_bytes c.in_ok-left_path.left_path in
     let right = string_bytes c.in_ok-right_path.right_path in
     let told = c.in_ok-status.ensures in
-    let is : string_bytes c.put_rejections-status.new.out ≡ told.0 = told.1 ∙ ap (λ z. z ++ told.0) c.new-err.ensures.bytes in
+    let is : string_bytes c.put_rejections.new.out ≡ told.0 = told.1 ∙ ap (λ z. z ++ told.0) c.new-err.ensures.bytes in
     let h = not_read (g.S.Shelf.holds c.args.shelf.now) left right c.as_str.result.now c.as_str-2.result.now c.as_str.ensures.value c.as_str-2.ensures.value c.args.asked.now.form _ _ told.0 _ c.in_ok-status.status is c.as_str-3.ensures.value c.as_str-4.ensures.value c.read_file-left.ensures.ok c.read_file-left.ensures.err c.read_file-right.ensures.ok c.read_file-right.ensures.err told.2
     (elim c.in_default.branch [
       | in_default-via-in-Ok+in_default w ↦ right_unread c.read_file-left.result c.read_file-right.result w.in_default.field-0-1 w.in_default.is-1
       | in_default-via-in_default w ↦ left_unread c.read_file-left.result c.read_file-right.result w.in_default.field-0-0 w.in_default.is-0
     ]) in
-    (left, right, c.in_ok-left_path.ensures, c.in_ok-right_path.ensures, inr (h, c.new-out.ensures.bytes))
+    (left, right, c.in_ok-left_path.ensures, c.in_ok-right_path.ensures, inr (h, c.new.ensures.bytes))
 
 pub returns-in-Ok : goal.returns-in-Ok
 returns-in-Ok g c =
@@ -24,7 +24,7 @@ returns-in-Ok g c =
     (read_is (g.S.Shelf.holds c.args.shelf.now c.as_str.result.now) c.read_file-left.result c.in-Ok-Ok.one c.in-Ok-Ok.is-0 c.read_file-left.ensures.ok)
     (read_is (g.S.Shelf.holds c.args.shelf.now c.as_str-2.result.now) c.read_file-right.result c.in-Ok-Ok.other c.in-Ok-Ok.is-1 c.read_file-right.ensures.ok)
     c.args.name.now c.in-Ok.compared.same c.of_files.result _ _ (rw c.deref-2.ensures.value at (rw c.deref.ensures.value at c.in-Ok.ensures.same)) c.of_files.ensures
-    (rw c.deref-2.ensures.value at (rw c.deref.ensures.value at c.in-Ok.ensures.lines)) c.in_ok-lines_of.ensures c.status_of.ensures in
+    (rw c.deref-2.ensures.value at (rw c.deref.ensures.value at c.in-Ok.ensures.lines)) c.in_ok-lines_of-in-Ok.ensures c.status_of.ensures in
     (left, right, c.in_ok-left_path.ensures, c.in_ok-right_path.ensures, inl (h, c.new-err.ensures.bytes))
 
 pub returns : goal.returns
@@ -32,6 +32,6 @@ returns g c =
     let left = string_bytes c.in_ok-left_path.left_path in
     let right = string_bytes c.in_ok-right_path.right_path in
     let told = c.in_ok-status-in-Err.ensures in
-    let is : string_bytes c.put_not_compared-status.new.out ≡ told.0 = told.1 ∙ ap (λ z. z ++ told.0) c.new-err.ensures.bytes in
+    let is : string_bytes c.put_not_compared.new.out ≡ told.0 = told.1 ∙ ap (λ z. z ++ told.0) c.new-err.ensures.bytes in
     let h = not_compared (g.S.Shelf.holds c.args.shelf.now) left right c.as_str.result.now c.as_str-2.result.now c.as_str.ensures.value c.as_str-2.ensures.value c.args.asked.now.form _ _ told.0 _ c.in_ok-status-in-Err.status is c.as_str-3.ensures.value c.as_str-4.ensures.value c.read_file-left.ensures.ok c.read_file-left.ensures.err c.read_file-right.ensures.ok c.read_file-right.ensures.err c.in-Err.side told.2 in
-    (left, right, c.in_ok-left_path.ensures, c.in_ok-right_path.ensures, inr (h, c.new-out-in-Err.ensures.bytes))
+    (left, right, c.in_ok-left_path.ensures, c.in_ok-right_path.ensures, inr (h, c.new-in-Err.ensures.bytes))

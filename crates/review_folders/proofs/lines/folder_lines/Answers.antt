@@ -1,4 +1,4 @@
-use Rattle.std.proofs.Common.{arith}
+use Rattle.std.proofs.Common.{get_or, arith}
 use Rattle.review_folders.proofs.LineLaws.{begins, entry_kept, one_more_at, stops_at, all_printed}
 use Rattle.review_folders.proofs.lines.folder_lines.Goals as goal
 
@@ -15,7 +15,7 @@ returns-in-Err g c =
 
 pub entries-preserved : goal.entries-preserved
 entries-preserved g c =
-    let kept = entry_kept (g.S.Shelf.holds c.args.shelf.now) g.W.Write.contents g.E.Write.contents c.args.asked.now c.args.ignored.now _ c.entries.out c.tell_of.new.out c.entries.err c.tell_of.new.err _ c.in-Ok.ensures.ok in
+    let kept = entry_kept (g.S.Shelf.holds c.args.shelf.now) g.W.Write.contents g.E.Write.contents c.args.asked.now c.args.ignored.now (get_or c.args.entries.now c.entries.entry-index _) c.entries.out c.tell_of.new.out c.entries.err c.tell_of.new.err _ c.in-Ok.ensures.ok in
     let few = c.entries.invariant.few in
     record {
       few = omega (arith, kept, few);

@@ -11,7 +11,7 @@ returns g c =
     let told = c.in_ok-status.ensures in
     let one = c.in_ok-alone.field-0 in
     let faults = c.in_ok-faults.faults.items in
-    let is : string_bytes c.put_rejection-status.new.out ≡ told.0 = told.1 ∙ ap (λ z. z ++ told.0) c.new-err.ensures.bytes in
+    let is : string_bytes c.put_rejection.new.out ≡ told.0 = told.1 ∙ ap (λ z. z ++ told.0) c.new-err.ensures.bytes in
     let listed = c.in_ok-append.ensures.items ∙ ap (λ z. z ++ faults) (c.in_ok-push.ensures.items ∙ ap (λ z. z ++ (one ∷ [])) c.new-list.ensures.items) in
     record {
       told = new_told (g.S.Shelf.holds c.args.shelf.now) c.args.asked.now c.args.name.now file _ c.as_str.result.now told.0 _ c.in_ok-status.status _ is c.in_ok-path.ensures c.as_str-2.ensures.value c.as_str.ensures.value c.read_file-answer.ensures.ok c.read_file-answer.ensures.err told.2 c.greater.ensures;
