@@ -1,5 +1,5 @@
 -- What the program does, by its words.
-use Rattle.std.specs.Prelude.{◌≡◌, ◌⊎◌, ℕ, Bool, true, false, List, Option, None}
+use Rattle.std.specs.Prelude.{◌≡◌, ◌⊎◌, ℕ, Bool, true, false, List, Option, Some, None, ◌≤◌}
 use Rattle.clap.specs.declared.error.kind.ErrorKind.{ErrorKind}
 use Rattle.clap.specs.declared.error.kind.ErrorKind.TheVariants as kind
 use Rattle.yaml_text.specs.CountedModel.{inner_of, faults_of}
@@ -12,9 +12,11 @@ use Rattle.review_args.specs.Words.{Asks, HasKeys, Refuses}
 use Rattle.review_args.specs.declared.words.Asked.{Asked}
 use Rattle.review_args.specs.declared.words.Asked.TheVariants as asks
 use Rattle.review_args.specs.declared.words.Diff.{Diff}
+use Rattle.review_args.specs.declared.words.Page.{Page}
 use Rattle.review_files.specs.Lines.{TakesLine, bare_line}
 use Rattle.review_files.specs.Statuses.{fault_status}
-use Rattle.review_folders.specs.Folders.{FolderEnds}
+use Rattle.review_folders.specs.Pages.{FolderShows}
+use Rattle.review_folders.specs.Printed.{FolderPrints}
 use Rattle.review_folders.specs.declared.entry.Entry.{Entry}
 use Rattle.review_command.specs.Runs.{Does}
 
@@ -79,15 +81,38 @@ module _ {W E : Type 0} (contents : W → Option (List ℕ)) (told : E → Optio
 abbrev pub unknown : List ℕ → Option (List ℕ)
 unknown name = None
 
--- The files of two folders are compared by some names. Or the names are not read, or memory is refused, and the status is 2 or more.
-abbrev pub FoldersEnd : Diff → List Pattern → ℕ → Type 0
-FoldersEnd asked ignored status = (entries : List Entry) × FolderEnds unknown asked ignored entries status
+module _ {W E : Type 0} (contents : W → Option (List ℕ)) (told : E → Option (List ℕ)) where
+  -- the files of two folders are told of by some names, by some states of both writers
+  pub record FoldersPrint (asked : Diff) (ignored : List Pattern) (out : W) (status : ℕ) : Type 0 where
+    pub entries : List Entry
+    pub old : Counted W
+    pub new : Counted W
+    pub before : E
+    pub after : E
+    pub writer : inner_of old ≡ out
+    pub no_write : faults_of old ≡ 0
+    pub prints : FolderPrints unknown contents told asked ignored entries old new before after status
+
+  -- the same as a page
+  pub record FoldersShow (asked : Diff) (ignored : List Pattern) (page : Page) (out : W) (status : ℕ) : Type 0 where
+    pub entries : List Entry
+    pub old : Counted W
+    pub new : Counted W
+    pub before : E
+    pub writer : inner_of old ≡ out
+    pub no_write : faults_of old ≡ 0
+    pub shows : FolderShows unknown contents told asked ignored page entries old new before status
+
+  -- Or the names are not read, or there is no memory, and the status is 2 or more.
+  abbrev pub FoldersEnd : Diff → List Pattern → Option Page → W → ℕ → Type 0
+  FoldersEnd asked ignored None out status = FoldersPrint asked ignored out status ⊎ (2 ≤ status)
+  FoldersEnd asked ignored (Some page) out status = FoldersShow asked ignored page out status ⊎ (2 ≤ status)
 
 module _ {R W E : Type 0} (remaining : R → Option (List ℕ)) (contents : W → Option (List ℕ)) (told : E → Option (List ℕ)) where
   -- two folders are compared, if `diff` is asked for and both names are those of folders
   abbrev pub FoldersDo : Asked → R → W → E → ℕ → Type 0
-  FoldersDo (asks.Diff asked ignored) input out err status = FoldersEnd asked ignored.items status
-  FoldersDo (asks.DiffPage page asked ignored) input out err status = FoldersEnd asked ignored.items status
+  FoldersDo (asks.Diff asked ignored) input out err status = FoldersEnd contents told asked ignored.items None out status
+  FoldersDo (asks.DiffPage page asked ignored) input out err status = FoldersEnd contents told asked ignored.items (Some page) out status
   FoldersDo asked input out err status = Does unknown remaining contents told asked input out err status
 
   abbrev pub HostDoes : Bool → Asked → R → W → E → ℕ → Type 0

@@ -6,6 +6,7 @@ use Rattle.yaml_text.specs.CountedModel.{inner_of, faults_of}
 use Rattle.review_args.specs.declared.words.Asked.{Asked}
 use Rattle.review_args.specs.declared.words.Asked.TheVariants as asks
 use Rattle.review_args.specs.declared.words.Diff.{Diff}
+use Rattle.review_args.specs.declared.words.Page.{Page}
 use Rattle.review_args.specs.declared.words.Report.{Report}
 use Rattle.review_patterns.specs.declared.pattern.Pattern.{Pattern}
 use Rattle.review_command.specs.Diffs.{DiffTells, DiffShows}
@@ -64,13 +65,13 @@ module _ {R W E : Type 0} (holds : List ℕ → Option (List ℕ)) (remaining : 
     pub tells : TellsFiles holds remaining contents kind asked.form (map (λ s. s.now) asked.files.items) input end old new status
 
   -- the same of a page
-  pub record PagesTell (kind : Kind) (asked : Report) (input : R) (out : W) (status : ℕ) : Type 0 where
+  pub record PagesTell (kind : Kind) (page : Page) (asked : Report) (input : R) (out : W) (status : ℕ) : Type 0 where
     pub end : R
     pub old : Counted W
     pub new : Counted W
     pub writer : inner_of old ≡ out
     pub no_write : faults_of old ≡ 0
-    pub tells : TellsPage holds remaining contents kind (map (λ s. s.now) asked.files.items) input end old new status
+    pub tells : TellsPage holds remaining contents kind page (map (λ s. s.now) asked.files.items) input end old new status
 
   -- what is shown of files, by some state of the reader and of both writers
   pub record ShowRuns (asked : Show) (input : R) (out : W) (err : E) (status : ℕ) : Type 0 where
@@ -142,8 +143,8 @@ module _ {R W E : Type 0} (holds : List ℕ → Option (List ℕ)) (remaining : 
   Does (asks.DiffPage page asked ignored) input out err status = PageRuns asked ignored.items input out err status
   Does (asks.Faults asked) input out err status = ReportsTell Faults asked input out status
   Does (asks.Warn asked warn) input out err status = (kind : Kind) × AsksWarnings warn kind × ReportsTell kind asked input out status
-  Does (asks.FaultsPage page asked) input out err status = PagesTell Faults asked input out status
-  Does (asks.WarnPage page asked warn) input out err status = (kind : Kind) × AsksWarnings warn kind × PagesTell kind asked input out status
+  Does (asks.FaultsPage page asked) input out err status = PagesTell Faults page asked input out status
+  Does (asks.WarnPage page asked warn) input out err status = (kind : Kind) × AsksWarnings warn kind × PagesTell kind page asked input out status
   Does (asks.Show asked) input out err status = ShowRuns asked input out err status
   Does (asks.Git words) input out err status = GitRuns (map (λ s. s.now) words.items) out status
   Does (asks.Sum asked) input out err status = (is : SumAsked) × AsksSum asked is × SumRuns is input out err status

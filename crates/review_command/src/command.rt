@@ -185,7 +185,7 @@ fn report_as<S: Shelf, R: Read + Drop, W: Write + Drop, E: Write + Drop>(
     out: W,
     mut err: E,
 ) -> u8
-    ensures { PagesTell (S.holds shelf.now) R.remaining W.contents E.contents told.entry.0 asked.now input out result }
+    ensures { PagesTell (S.holds shelf.now) R.remaining W.contents E.contents told.entry.0 told.entry.1 asked.now input out result }
 {
     let mut out = Counted::new(out);
     pages(shelf, alloc, told, asked, &mut input, &mut out, &mut err)
@@ -341,10 +341,10 @@ fn compare_folders<T: Files + AllocGlobal + Clone + Drop, W: Write + Drop, E: Wr
     alloc: Global,
     told: (&Diff<'_>, Option<Page>),
     ignored: &[Pattern<'_>],
-    mut out: W,
+    out: W,
     mut err: E,
 ) -> u8
-    ensures { FoldersEnd told.entry.0.now ignored.now result }
+    ensures { FoldersEnd W.contents E.contents told.entry.0.now ignored.now told.entry.1 out result }
 {
     let (asked, page) = told;
     let names = match names_of(rt, alloc, asked, &mut err) {
@@ -356,6 +356,7 @@ fn compare_folders<T: Files + AllocGlobal + Clone + Drop, W: Write + Drop, E: Wr
         Err(_) => return tell_bare(Fault::OutOfMemory, &mut err),
     };
     let shelf = Host::new(rt);
+    let mut out = Counted::new(out);
     match page {
         None => folder_lines(&shelf, alloc, asked, ignored, &entries, &mut out, &mut err),
         Some(page) => {
