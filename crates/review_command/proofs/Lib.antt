@@ -3,3 +3,4 @@ mod RejectionLaws
 mod GitLaws
 mod RunLaws
 mod MergeLaws
+mod FolderLaws

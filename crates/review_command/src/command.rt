@@ -336,6 +336,7 @@ fn at_least(status: u8) -> u8
 }
 
 /// Compares the files of two folders, as lines or as a page, and answers the status.
+#[tactic(auto, using(crate::proofs::FolderLaws::folders_cut, crate::proofs::FolderLaws::folders_printed, crate::proofs::FolderLaws::folders_shown))]
 fn compare_folders<T: Files + AllocGlobal + Clone + Drop, W: Write + Drop, E: Write + Drop>(
     rt: &T,
     alloc: Global,
