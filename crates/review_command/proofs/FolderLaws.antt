@@ -1,5 +1,5 @@
 -- How a comparison of two folders ends.
-use Rattle.std.proofs.Common.{◌≡◌, ℕ, List, Option, Some, None, inl, inr, cc, absurd}
+use Rattle.std.proofs.Common.{◌≡◌, ℕ, List, Option, Some, None, inl, inr}
 use Rattle.std.specs.Prelude.{◌≤◌}
 use Rattle.yaml_text.specs.CountedModel.{inner_of, faults_of}
 use Rattle.yaml_text.specs.declared.counted.Counted.{Counted}

@@ -124,12 +124,12 @@ pub static GROUPS: [Row; 22] = [
         err: "",
     },
     Row {
-        name: "a list of which not all moves are known",
+        name: "one line has room for all moves of a list in another order",
         words: &["diff", "--no-places", "--lines", "1", "left", "right"],
         left: NAMED,
         right: SHUFFLED,
         status: 1,
-        out: ">\t[3:0]\tname \"d\"\t\n...\n",
+        out: ">\t.\t4 items in another order, none changed\t\n",
         err: "",
     },
     Row {
