@@ -1,6 +1,11 @@
--- What a trail of events holds.
-use Rattle.std.specs.Prelude.{ℕ, ◌+◌, ◌^◌, ◌-◌, min, List}
-use Rattle.yaml_definitions.specs.model.Event.{Event, document_end}
+-- What a trail of events holds, and the steps of its path.
+use Rattle.std.specs.Prelude.{ℕ, ◌+◌, ◌^◌, ◌-◌, min, ◌%◌, ◌==◌, ◌&&◌, nat_lt, Bool, true, false, not, cond, List, [], ◌++◌, codes, length, flat_map, slice_get, Option, Some, None, Ok, Err}
+use Rattle.std.specs.List.{count_by}
+use Rattle.std.specs.Fmt.{decimal}
+use Rattle.yaml_definitions.specs.model.Event.{Event, stream_start, stream_end, document_start, document_end, sequence_start, sequence_end, mapping_start, mapping_end, scalar_event, alias_event}
+use Rattle.yaml_definitions.specs.model.Core.{Resolved, resolve}
+use Rattle.yaml_definitions.specs.model.Tree.{scalar}
+use Rattle.review_text.specs.PathText.{key_text}
 use Rattle.review_places.specs.declared.trail.Trail.{Trail}
 use Rattle.review_places.specs.declared.trail.Frame.{Frame}
 
@@ -16,3 +21,73 @@ open_frames trail = trail.frames.items
 abbrev pub documents_after : Event → ℕ → ℕ
 documents_after (document_end explicit) n = min (n + 1) (2 ^ 64 - 1)
 documents_after _ n = n
+
+-- the step to the value of a key that no path has
+abbrev pub untold : List ℕ
+untold = codes "[?]"
+
+-- of a scalar the step that a path has to its tag and content, if it has a value
+abbrev pub resolved_step : Resolved → List ℕ
+resolved_step (Ok s) = key_text (scalar s.0 s.1)
+resolved_step (Err cause) = untold
+
+-- the step to the value of the key that an event begins: of an alias its name
+abbrev pub key_step : Option Event → List ℕ
+key_step None = untold
+key_step (Some (scalar_event a t style text)) = resolved_step (resolve t style text)
+key_step (Some (alias_event name)) = codes "[*" ++ (name ++ codes "]")
+key_step (Some (sequence_start flow a t)) = untold
+key_step (Some (mapping_start flow a t)) = untold
+key_step (Some sequence_end) = untold
+key_step (Some mapping_end) = untold
+key_step (Some stream_start) = untold
+key_step (Some stream_end) = untold
+key_step (Some (document_start explicit)) = untold
+key_step (Some (document_end explicit)) = untold
+
+-- a part began in the collection
+abbrev pub has_part : Frame → Bool
+has_part frame = nat_lt 0 frame.parts
+
+-- in a mapping, keys and values begin in turn
+abbrev pub is_key : Option Frame → Bool
+is_key None = false
+is_key (Some frame) = frame.is_mapping && (frame.parts % 2 == 1)
+
+-- the event of the key that began last in a mapping
+abbrev pub key_event : Frame → ℕ
+key_event frame = cond (frame.parts % 2 == 1) frame.last frame.key
+
+-- the step from a collection to the part that began last, if one began: to the value of a key, or to the item at a place
+abbrev pub frame_step : List Event → Frame → List ℕ
+frame_step events frame = cond (frame.parts == 0) [] (cond frame.is_mapping (key_step (slice_get events (key_event frame))) (codes "[" ++ (decimal (frame.parts - 1) ++ codes "]")))
+
+abbrev pub begins_document : Event → Bool
+begins_document (document_start explicit) = true
+begins_document stream_start = false
+begins_document stream_end = false
+begins_document (document_end explicit) = false
+begins_document (sequence_start flow a t) = false
+begins_document (mapping_start flow a t) = false
+begins_document sequence_end = false
+begins_document mapping_end = false
+begins_document (scalar_event a t style text) = false
+begins_document (alias_event name) = false
+
+-- unless the stream has one document, a path begins with the number of the document
+abbrev pub is_numbered : List Event → Bool
+is_numbered events = not (count_by begins_document events == 1)
+
+abbrev pub number_text : List Event → ℕ → List ℕ
+number_text events document = cond (is_numbered events) (decimal document) []
+
+abbrev pub steps_text : List Event → List Frame → List ℕ
+steps_text events frames = flat_map (frame_step events) frames
+
+-- the only document is a dot
+abbrev pub or_dot : List ℕ → List ℕ
+or_dot text = cond (length text == 0) (codes ".") text
+
+-- the path of the node that began last, in the stream of these events
+abbrev pub path_of : Trail → List Event → List ℕ
+path_of trail events = or_dot (number_text events (documents_before trail) ++ steps_text events (open_frames trail))

@@ -1,6 +1,7 @@
 //! Lines and columns of many offsets, in one pass over a text.
-ghost use Rattle.std.specs.Prelude.{◌≡◌, ◌≤◌, drop, length, IfOk, IfErr};
+ghost use Rattle.std.specs.Prelude.{◌≡◌, ◌≤◌, drop, map, length, IfOk, IfErr};
 ghost use Rattle.std.specs.List.{All};
+ghost use Rattle.std.specs.List.Sorted.{IsPermutation, IsNonDecreasingBy};
 ghost use Rattle.yaml_definitions.specs.model.Text.{mark_len};
 ghost use Rattle.yaml_place.specs.LineModel.{IsPlace};
 ghost use Rattle.review_places.specs.Told.{IsTold};
@@ -45,12 +46,17 @@ fn go_on(text: &[u8], from: usize, place: Place, to: usize) -> Place
 
 /// The places of these offsets, each of which has a number, in the order of the numbers. One pass over the text. What lies behind
 /// the text's end is told as the end.
+///
+/// # Errors
+/// `OutOfMemory`
 pub fn places(
     alloc: Global,
     text: &[u8],
     mut offsets: Vec<(usize, usize)>,
 ) -> Result<Vec<(usize, Place)>, Fault>
     ensures ok { IfOk result (λ list. All (IsTold text.now offsets.items) list.items) }
+    ensures numbers { IfOk result (λ list. IsPermutation (map (λ given. given.1) offsets.items) (map (λ told. told.0) list.items)) }
+    ensures rising { IfOk result (λ list. IsNonDecreasingBy (λ told. told.0) list.items) }
     ensures err { IfErr result (λ fault. fault ≡ Fault.OutOfMemory) }
 {
     offsets.sort_unstable();

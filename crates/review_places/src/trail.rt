@@ -1,16 +1,16 @@
 //! Paths of events, where no graph is made.
-ghost use Rattle.std.specs.Prelude.{◌≡◌, [], IfOk, IfErr};
-ghost use Rattle.yaml_text.specs.EventModel.{event_of};
-ghost use Rattle.review_places.specs.Trails.{documents_before, documents_after, open_frames};
+ghost use Rattle.std.specs.Prelude.{◌≡◌, ◌++◌, [], codes, map, find, reverse, slice_get, option_map, string_bytes, IfOk, OnOk, IfErr};
+ghost use Rattle.std.specs.Fmt.{decimal};
+ghost use Rattle.yaml_definitions.specs.model.Core.{resolve};
+ghost use Rattle.yaml_text.specs.EventModel.{event_of, written_of, style_of};
+ghost use Rattle.review_places.specs.Trails.{documents_before, documents_after, open_frames, untold, resolved_step, key_step, has_part, is_key, frame_step, begins_document, is_numbered, number_text, steps_text, or_dot, path_of};
 
 use review_text::text::{put_all, put_scalar_key};
 use std::alloc::Global;
+use yaml_core::CoreFault;
 use yaml_core::scalar::resolve;
 use yaml_text::event::{Event, EventTag, Style};
 use yaml_text::fault::Fault;
-
-/// The step of a key that is no scalar.
-const UNTOLD: &str = "[?]";
 
 /// A collection that is open.
 #[derive(Clone, Copy)]
@@ -24,6 +24,22 @@ pub struct Frame {
     last: usize,
     /// The event of the key before that, where the last part is a value.
     key: usize,
+}
+
+impl Frame {
+    ghost use Rattle.std.specs.Prelude.{◌≡◌};
+    ghost use Rattle.review_places.specs.Trails.{key_event};
+
+    /// The event of the key that began last in a mapping.
+    fn key_event(&self) -> usize
+        ensures { result ≡ key_event self.now }
+    {
+        if self.parts % 2 == 1 {
+            self.last
+        } else {
+            self.key
+        }
+    }
 }
 
 /// The collections that are open at an event, and the number of its document.
@@ -92,33 +108,42 @@ impl Trail {
         Ok(())
     }
 
+    /// The innermost open collection in which a part began. A collection without parts is the node itself.
+    fn innermost(&self) -> Option<&Frame>
+        ensures { option_map (λ frame. frame.now) result ≡ find has_part (reverse (open_frames self.now)) }
+    {
+        self.frames.iter().rev().find(|frame| frame.parts > 0)
+    }
+
     /// Whether the node that began last is a key.
-    pub fn is_at_key(&self) -> bool {
-        for frame in self.frames.iter().rev() {
-            // A collection without parts is the node itself.
-            if frame.parts > 0 {
-                return frame.is_mapping && frame.parts % 2 == 1;
-            }
+    pub fn is_at_key(&self) -> bool
+        ensures { result ≡ is_key (find has_part (reverse (open_frames self.now))) }
+    {
+        match self.innermost() {
+            Some(frame) => frame.is_mapping && frame.parts % 2 == 1,
+            None => false,
         }
-        false
+    }
+
+    /// The number of the document, unless it is the only one.
+    fn put_number(&self, out: &mut String, events: &[Event<'_>]) -> Result<(), Fault>
+        ensures ok { OnOk result (string_bytes out.new ≡ string_bytes out.old ++ number_text (map event_of events.now) (documents_before self.now)) }
+        ensures err { IfErr result (λ fault. fault ≡ Fault.OutOfMemory) }
+    {
+        if is_numbered(events) {
+            let number = self.document;
+            write!(out, "{number}")?;
+        }
+        Ok(())
     }
 
     /// The steps from the document to the node that began last.
     fn put_steps(&self, alloc: Global, out: &mut String, events: &[Event<'_>]) -> Result<(), Fault>
+        ensures ok { OnOk result (string_bytes out.new ≡ string_bytes out.old ++ steps_text (map event_of events.now) (open_frames self.now)) }
         ensures err { IfErr result (λ fault. fault ≡ Fault.OutOfMemory) }
     {
-        for frame in &self.frames {
-            if frame.parts == 0 {
-                continue;
-            }
-            if frame.is_mapping {
-                let is_key = frame.parts % 2 == 1;
-                let key = if is_key { frame.last } else { frame.key };
-                put_key(alloc, out, events.get(key))?;
-            } else {
-                let place = frame.parts.saturating_sub(1);
-                write!(out, "[{place}]")?;
-            }
+        'frames: for frame in &self.frames {
+            put_frame(alloc, out, frame, events)?;
         }
         Ok(())
     }
@@ -129,32 +154,80 @@ impl Trail {
     /// # Errors
     /// `OutOfMemory`
     pub fn path(&self, alloc: Global, events: &[Event<'_>]) -> Result<String, Fault>
+        ensures ok { IfOk result (λ path. string_bytes path ≡ path_of self.now (map event_of events.now)) }
         ensures err { IfErr result (λ fault. fault ≡ Fault.OutOfMemory) }
     {
-        let mut out = String::new(alloc);
-        if is_numbered(events) {
-            let number = self.document;
-            write!(out, "{number}")?;
-        }
-        self.put_steps(alloc, &mut out, events)?;
-        if out.is_empty() {
-            out.push('.')?;
-        }
-        Ok(out)
+        let mut text = String::new(alloc);
+        self.put_number(&mut text, events)?;
+        self.put_steps(alloc, &mut text, events)?;
+        or_dot(text)
     }
 }
 
-fn begins_document(event: &Event<'_>) -> bool {
+/// The same text, or a dot for none.
+fn or_dot(mut text: String) -> Result<String, Fault>
+    ensures ok { IfOk result (λ path. string_bytes path ≡ or_dot (string_bytes text)) }
+    ensures err { IfErr result (λ fault. fault ≡ Fault.OutOfMemory) }
+{
+    if text.is_empty() {
+        text.push('.')?;
+    }
+    Ok(text)
+}
+
+/// Whether a document begins.
+fn begins_document(event: &Event<'_>) -> bool
+    ensures { result ≡ begins_document (event_of event.now) }
+{
     matches!(event, Event::DocumentStart { .. })
 }
 
 /// Whether paths tell the number of the document: unless the stream has one document.
-fn is_numbered(events: &[Event<'_>]) -> bool {
+fn is_numbered(events: &[Event<'_>]) -> bool
+    ensures { result ≡ is_numbered (map event_of events.now) }
+{
     events.iter().filter(|event| begins_document(event)).count() != 1
+}
+
+/// The event of this number.
+fn event_at<'e, 'a>(events: &'e [Event<'a>], number: usize) -> Option<&'e Event<'a>>
+    ensures { option_map (λ event. event_of event.now) result ≡ slice_get (map event_of events.now) number }
+{
+    events.get(number)
+}
+
+/// The step from a collection to the part that began last, if one began.
+fn put_frame(
+    alloc: Global,
+    out: &mut String,
+    frame: &Frame,
+    events: &[Event<'_>],
+) -> Result<(), Fault>
+    ensures ok { OnOk result (string_bytes out.new ≡ string_bytes out.old ++ frame_step (map event_of events.now) frame.now) }
+    ensures err { IfErr result (λ fault. fault ≡ Fault.OutOfMemory) }
+{
+    if frame.parts == 0 {
+        return Ok(());
+    }
+    if frame.is_mapping {
+        put_key(alloc, out, event_at(events, frame.key_event()))
+    } else {
+        put_item(out, frame.parts.saturating_sub(1))
+    }
+}
+
+/// The step to the item at a place.
+fn put_item(out: &mut String, place: usize) -> Result<(), Fault>
+    ensures ok { OnOk result (string_bytes out.new ≡ string_bytes out.old ++ (codes "[" ++ (decimal place ++ codes "]"))) }
+    ensures err { IfErr result (λ fault. fault ≡ Fault.OutOfMemory) }
+{
+    write!(out, "[{place}]")?;
+    Ok(())
 }
 
 /// The step to the value of the key that this event begins.
 fn put_key(alloc: Global, out: &mut String, event: Option<&Event<'_>>) -> Result<(), Fault>
+    ensures ok { OnOk result (string_bytes out.new ≡ string_bytes out.old ++ key_step (option_map (λ e. event_of e.now) event.entry)) }
     ensures err { IfErr result (λ fault. fault ≡ Fault.OutOfMemory) }
 {
     match event {
@@ -167,10 +240,19 @@ fn put_key(alloc: Global, out: &mut String, event: Option<&Event<'_>>) -> Result
             },
         ) => put_scalar_step(alloc, out, tag, *style, text.as_str()),
         Some(Event::Alias { name }) => put_all(out, &["[*", name.as_str(), "]"]),
-        _ => Ok(out.push_str(UNTOLD)?),
+        _ => put_untold(out),
     }
 }
 
+/// The step of a key that is not told.
+fn put_untold(out: &mut String) -> Result<(), Fault>
+    ensures ok { OnOk result (string_bytes out.new ≡ string_bytes out.old ++ untold) }
+    ensures err { IfErr result (λ fault. fault ≡ Fault.OutOfMemory) }
+{
+    Ok(out.push_str("[?]")?)
+}
+
+/// The step to the value of a key that is a scalar.
 fn put_scalar_step(
     alloc: Global,
     out: &mut String,
@@ -178,10 +260,12 @@ fn put_scalar_step(
     style: Style,
     text: &str,
 ) -> Result<(), Fault>
+    ensures ok { OnOk result (string_bytes out.new ≡ string_bytes out.old ++ resolved_step (resolve (written_of tag.now) (style_of style) text.now)) }
     ensures err { IfErr result (λ fault. fault ≡ Fault.OutOfMemory) }
 {
     match resolve(alloc, tag, style, text) {
         Ok(scalar) => put_scalar_key(alloc, out, scalar.tag.as_str(), scalar.content.as_str()),
-        Err(_) => Ok(out.push_str(UNTOLD)?),
+        Err(CoreFault::OutOfMemory) => Err(Fault::OutOfMemory),
+        Err(_) => put_untold(out),
     }
 }
