@@ -91,15 +91,36 @@ fn put_link(out: &mut String, number: usize, finding: &Finding) -> Result<(), Fa
     Ok(())
 }
 
-/// Writes the name of the file that a part is of, if there are several.
-fn put_file(out: &mut String, part: &Part) -> Result<(), Fault>
+/// Writes the name of the file that a part is of, if there are several, as a link to the part of this number.
+fn put_file_link(out: &mut String, part: &Part, number: usize) -> Result<(), Fault>
     ensures err { IfErr result (λ fault. fault ≡ Fault.OutOfMemory) }
 {
     match &part.name {
         Some(name) => put_pieces(
             out,
             &[
-                Piece::Raw("<h2 class=\"file\"><code>"),
+                Piece::Raw("<h2 class=\"file\"><a href=\"#f"),
+                Piece::Number(number),
+                Piece::Raw("\"><code>"),
+                text(name),
+                Piece::Raw("</code></a></h2>\n"),
+            ],
+        ),
+        None => Ok(()),
+    }
+}
+
+/// Writes the same name above the part itself.
+fn put_file(out: &mut String, part: &Part, number: usize) -> Result<(), Fault>
+    ensures err { IfErr result (λ fault. fault ≡ Fault.OutOfMemory) }
+{
+    match &part.name {
+        Some(name) => put_pieces(
+            out,
+            &[
+                Piece::Raw("<h2 class=\"file\" id=\"f"),
+                Piece::Number(number),
+                Piece::Raw("\"><code>"),
                 text(name),
                 Piece::Raw("</code></h2>\n"),
             ],
@@ -114,8 +135,8 @@ fn put_links(out: &mut String, parts: &[Part]) -> Result<(), Fault>
 {
     let mut number: usize = 0;
     out.push_str("<nav aria-label=\"All that is found\">\n")?;
-    for part in parts {
-        put_file(out, part)?;
+    for (at, part) in parts.iter().enumerate() {
+        put_file_link(out, part, at.saturating_add(1))?;
         out.push_str("<ol>\n")?;
         for finding in &part.list {
             number = number.saturating_add(1);
@@ -293,6 +314,41 @@ fn put_said(out: &mut String, finding: &Finding) -> Result<(), Fault>
     Ok(())
 }
 
+/// Writes how much is found, and in how many files if there are several.
+fn put_count(out: &mut String, found: &Findings) -> Result<(), Fault>
+    ensures err { IfErr result (λ fault. fault ≡ Fault.OutOfMemory) }
+{
+    let count = found.count();
+    match count {
+        0 => {
+            out.push_str("<p>Nothing is found.</p>")?;
+            return Ok(());
+        }
+        1 => out.push_str("<p>1 place is found")?,
+        _ => put_pieces(
+            out,
+            &[
+                Piece::Raw("<p>"),
+                Piece::Number(count),
+                Piece::Raw(" places are found"),
+            ],
+        )?,
+    }
+    let files = found.parts.len();
+    if files > 1 {
+        put_pieces(
+            out,
+            &[
+                Piece::Raw(", in "),
+                Piece::Number(files),
+                Piece::Raw(" files"),
+            ],
+        )?;
+    }
+    out.push_str(".</p>")?;
+    Ok(())
+}
+
 /// Writes what the page is about, and how much is found.
 fn put_header(out: &mut String, found: &Findings) -> Result<(), Fault>
     ensures err { IfErr result (λ fault. fault ≡ Fault.OutOfMemory) }
@@ -312,19 +368,7 @@ fn put_header(out: &mut String, found: &Findings) -> Result<(), Fault>
             ],
         )?;
     }
-    let count = found.count();
-    match count {
-        0 => out.push_str("<p>Nothing is found.</p>")?,
-        1 => out.push_str("<p>1 place is found.</p>")?,
-        _ => put_pieces(
-            out,
-            &[
-                Piece::Raw("<p>"),
-                Piece::Number(count),
-                Piece::Raw(" places are found.</p>"),
-            ],
-        )?,
-    }
+    put_count(out, found)?;
     if !found.is_whole() {
         out.push_str("<p><strong>There is more than is listed.</strong></p>")?;
     }
@@ -370,7 +414,7 @@ fn put_parts(alloc: Global, out: &mut String, parts: &[Part]) -> Result<(), Faul
             Some(_) => at.saturating_add(1),
             None => 0,
         };
-        put_file(out, part)?;
+        put_file(out, part, at.saturating_add(1))?;
         for (place, finding) in part.list.iter().enumerate() {
             let shown = before.saturating_add(place).saturating_add(1);
             put_finding(out, shown, finding, number)?;
@@ -381,12 +425,29 @@ fn put_parts(alloc: Global, out: &mut String, parts: &[Part]) -> Result<(), Faul
     Ok(())
 }
 
+/// Writes the name of the page: the command, and what was compared.
+fn put_title(out: &mut String, found: &Findings) -> Result<(), Fault>
+    ensures err { IfErr result (λ fault. fault ≡ Fault.OutOfMemory) }
+{
+    out.push_str("<title>yamlreview ")?;
+    out.push_str(found.command)?;
+    if let Some((left, right)) = &found.names {
+        put_pieces(
+            out,
+            &[Piece::Raw(": "), text(left), Piece::Raw(" → "), text(right)],
+        )?;
+    }
+    out.push_str("</title>\n<style>\n")?;
+    Ok(())
+}
+
 /// What is found as one page, which asks for nothing else and runs no script, with the lines of the files around what differs.
 pub fn html_text(alloc: Global, found: &Findings) -> Result<String, Fault>
     ensures err { IfErr result (λ fault. fault ≡ Fault.OutOfMemory) }
 {
     let mut out = String::new(alloc);
     out.push_str(HEAD)?;
+    put_title(&mut out, found)?;
     out.push_str(STYLE)?;
     out.push_str("</style>\n</head>\n<body>\n")?;
     put_header(&mut out, found)?;

@@ -8,8 +8,6 @@ pub(crate) const HEAD: &str = "<!DOCTYPE html>
 <meta name=\"viewport\" content=\"width=device-width, initial-scale=1\">
 <meta name=\"color-scheme\" content=\"light dark\">
 <meta http-equiv=\"Content-Security-Policy\" content=\"default-src 'none'; style-src 'unsafe-inline'\">
-<title>yamlreview</title>
-<style>
 ";
 
 /// The style, light or dark as the reader's system is, in one column where there is no room for two.
@@ -20,13 +18,16 @@ pub(crate) const STYLE: &str =
 body{margin:0 auto;max-width:90rem;padding:1rem;background:var(--back);color:var(--fore);font:1rem/1.5 system-ui,sans-serif}
 h1{font-size:1.5rem;margin:0}
 h2{font-size:1rem;margin:0 0 .5rem;overflow-wrap:anywhere}
-h2.file{font-size:1.125rem;margin:1.5rem 0 .5rem}
+main h2.file{font-size:1.125rem;margin:2rem 0 .5rem;padding:.5rem 0 0;border-top:.125rem solid var(--edge)}
+nav h2.file{margin:1rem 0 0}
 h3{font-size:.875rem;margin:0 0 .25rem;color:var(--dim);font-weight:600}
 p{margin:.25rem 0}
 a{color:inherit;text-underline-offset:.2em}
+nav a,h2 a{text-decoration:none}
+nav a code,h2 a code{text-decoration:underline}
 code,pre{font:.875rem/1.5 ui-monospace,SFMono-Regular,Menlo,Consolas,monospace;overflow-wrap:anywhere;white-space:pre-wrap;unicode-bidi:isolate}
 pre{margin:0;padding:.5rem;background:var(--box);border:1px solid var(--edge);border-radius:.375rem}
-nav ol{margin:1rem 0;padding-left:2.5rem}
+nav ol{margin:.25rem 0 1rem;padding-left:2.5rem}
 nav li{padding:.125rem 0}
 section{border:1px solid var(--edge);border-radius:.375rem;padding:.75rem;margin:0 0 1rem;scroll-margin-top:1rem}
 section:target,li:target{outline:.1875rem solid var(--moved)}
