@@ -1,5 +1,5 @@
 //! The lists of which several items moved, and which differences and moves are at or below each of them.
-ghost use Rattle.std.specs.Prelude.{◌≡◌, true};
+ghost use Rattle.std.specs.Prelude.{◌≡◌, true, IfErr};
 ghost use Rattle.std.specs.List.{slice_get};
 ghost use Rattle.review_folds.specs.Lists.{key_of, below_of, number_of, IsWider, HasNumber, Notes, NotesMoves, NotesDifferences};
 
@@ -43,7 +43,7 @@ pub(crate) struct Numbers {
 }
 
 impl Numbers {
-    ghost use Rattle.std.specs.Prelude.{◌≡◌};
+    ghost use Rattle.std.specs.Prelude.{◌≡◌, IfErr};
     ghost use Rattle.std.specs.BTreeMap.{get};
     ghost use Rattle.review_folds.specs.Lists.{key_of, below_of, number_of};
 
@@ -56,7 +56,9 @@ impl Numbers {
     }
 
     /// Gives a number to each path at or above this list, where it has none, and tells that of the list.
-    fn add(&mut self, path: &[Step]) -> Result<usize, Fault> {
+    fn add(&mut self, path: &[Step]) -> Result<usize, Fault>
+        ensures err { IfErr result (λ fault. fault ≡ Fault.OutOfMemory) }
+    {
         let Some((step, rest)) = path.split_first() else {
             return Ok(0);
         };
@@ -173,7 +175,9 @@ pub(crate) fn are_same(one: &[Step], other: &[Step]) -> bool
 }
 
 /// The numbers of the lists of which several moves stand one behind another.
-fn numbers_of(alloc: Global, moves: &[Move]) -> Result<Numbers, Fault> {
+fn numbers_of(alloc: Global, moves: &[Move]) -> Result<Numbers, Fault>
+    ensures err { IfErr result (λ fault. fault ≡ Fault.OutOfMemory) }
+{
     let mut numbers = Numbers {
         below: BTreeMap::new(alloc),
     };
@@ -200,12 +204,13 @@ pub(crate) struct Lists {
 }
 
 impl Lists {
-    ghost use Rattle.std.specs.Prelude.{IfOk, IfSome};
+    ghost use Rattle.std.specs.Prelude.{◌≡◌, IfOk, IfErr, IfSome};
     ghost use Rattle.review_folds.specs.Lists.{Covers, IsSpan};
 
     /// The lists of which several moves stand one behind another.
     pub(crate) fn new(alloc: Global, found: &Found) -> Result<Lists, Fault>
-        ensures { IfOk result (λ lists. Covers ⟦<Key as Ord>⟧.cmp found.now lists) }
+        ensures ok { IfOk result (λ lists. Covers ⟦<Key as Ord>⟧.cmp found.now lists) }
+        ensures err { IfErr result (λ fault. fault ≡ Fault.OutOfMemory) }
     {
         let numbers = numbers_of(alloc, &found.moves)?;
         let mut spans = vec![in alloc; NONE; numbers.below.len().saturating_add(1)]?;

@@ -1,5 +1,5 @@
 //! Which moves one line tells: of neighbours that moved together, or of a list of which only the order changed.
-ghost use Rattle.std.specs.Prelude.{◌≡◌, ◌<◌, ◌≤◌, suc, true, false, length, IfOk, IfSome};
+ghost use Rattle.std.specs.Prelude.{◌≡◌, ◌<◌, ◌≤◌, suc, true, false, length, IfOk, IfErr, IfSome};
 ghost use Rattle.review_folds.specs.Lists.{Covers};
 ghost use Rattle.review_folds.specs.Moves.{places_up, IsRange, OfOneList, IsSpanOf, IsWhole, Tells, Groups};
 
@@ -156,7 +156,8 @@ fn group_at(ranges: bool, lists: &Lists, found: &Found, first: usize) -> Group
 
 /// Groups of all moves.
 fn folded(alloc: Global, ranges: bool, found: &Found) -> Result<Vec<Group>, Fault>
-    ensures { IfOk result (λ groups. Groups true ranges found.now 0 (length found.now.moves.items) groups.items) }
+    ensures ok { IfOk result (λ groups. Groups true ranges found.now 0 (length found.now.moves.items) groups.items) }
+    ensures err { IfErr result (λ fault. fault ≡ Fault.OutOfMemory) }
 {
     let lists = Lists::new(alloc, found)?;
     let mut groups = Vec::new(alloc);
@@ -171,7 +172,8 @@ fn folded(alloc: Global, ranges: bool, found: &Found) -> Result<Vec<Group>, Faul
 
 /// A group for each move.
 fn single(alloc: Global, ranges: bool, found: &Found) -> Result<Vec<Group>, Fault>
-    ensures { IfOk result (λ groups. Groups false ranges found.now 0 (length found.now.moves.items) groups.items) }
+    ensures ok { IfOk result (λ groups. Groups false ranges found.now 0 (length found.now.moves.items) groups.items) }
+    ensures err { IfErr result (λ fault. fault ≡ Fault.OutOfMemory) }
 {
     let mut groups = Vec::new(alloc);
     for first in 0..found.moves.len() {
@@ -187,7 +189,8 @@ fn single(alloc: Global, ranges: bool, found: &Found) -> Result<Vec<Group>, Faul
 /// The moves in groups, of which one line each tells. With folds, a list of which only the order changed has one line, and with ranges
 /// so have neighbours that moved together; without folds each move has one.
 pub fn groups(alloc: Global, folds: bool, ranges: bool, found: &Found) -> Result<Vec<Group>, Fault>
-    ensures { IfOk result (λ groups. Groups folds ranges found.now 0 (length found.now.moves.items) groups.items) }
+    ensures ok { IfOk result (λ groups. Groups folds ranges found.now 0 (length found.now.moves.items) groups.items) }
+    ensures err { IfErr result (λ fault. fault ≡ Fault.OutOfMemory) }
 {
     if !folds {
         return single(alloc, ranges, found);

@@ -22,9 +22,10 @@ none_each both asked (l ∷ ls) h = absurd h
 none_found : (both : Both) (asked : Diff) (f : Found) (text : List ℕ) → f.whole ≡ true → f.list.items ≡ [] → f.moves.items ≡ [] → TellsFound both asked f text → text ≡ []
 none_found both asked f text w l m t =
     let lines = none_each both asked t.lines (subst (λ z. TellsEach both asked z t.lines) l t.each) in
-    let moves = moves_none _ both asked f t.move_lines m t.moves in
-    let more = cond f.whole [] (more_text asked.form) in
-    t.is ∙ (ap (λ z. (lines_text asked z ++ lines_text asked t.move_lines) ++ more) lines ∙ (ap (λ z. ([] ++ lines_text asked z) ++ more) moves ∙ ap (λ z. cond z [] (more_text asked.form)) w))
+    let moves = moves_none _ _ both asked f t.move_lines t.whole m t.moves in
+    let more = more_text asked.form in
+    let rest = cond (f.whole && t.whole) [] more in
+    t.is ∙ (ap (λ z. (lines_text asked z ++ lines_text asked t.move_lines) ++ rest) lines ∙ (ap (λ z. ([] ++ lines_text asked z) ++ rest) moves.0 ∙ (ap (λ z. cond (z && t.whole) [] more) w ∙ ap (λ z. cond z [] more) moves.1)))
 
 none_asked : (n : ℕ) (both : Both) (asked : Diff) (f : Found) (text : List ℕ) → f.whole ≡ true → f.list.items ≡ [] → f.moves.items ≡ [] → TellsAsked n both asked f text → text ≡ []
 none_asked zero both asked f text w l m t = t

@@ -14,6 +14,19 @@ pub outside_more : (g : Graph) (ps : List Pattern) (xs : List Difference) (d : D
 outside_more g ps [] d = refl
 outside_more g ps (x ∷ xs) d = by_answer (is_ignored g ps x) x (outside g ps xs) (outside g ps (xs ++ (d ∷ []))) (cond (is_ignored g ps d) [] (d ∷ [])) (outside_more g ps xs d)
 
+-- ---- without patterns
+
+-- none is ignored
+pub none_ignored : (g : Graph) (ps : List Pattern) (d : Difference) (answer : Bool) → length ps ≡ 0 → answer ≡ false → answer ≡ is_ignored g ps d
+none_ignored g [] d answer n e = e
+none_ignored g (p ∷ ps) d answer n e = absurd (omega (arith, n))
+
+-- so all are kept
+pub outside_none : (g : Graph) (ps : List Pattern) (ds : List Difference) → ps ≡ [] → outside g ps ds ≡ ds
+outside_none g [] [] e = refl
+outside_none g [] (d ∷ ds) e = ap (λ z. d ∷ z) (outside_none g [] ds refl)
+outside_none g (p ∷ ps) ds e = absurd (cc)
+
 -- ---- as many as there is room for
 
 -- there is room for one more

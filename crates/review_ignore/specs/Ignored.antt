@@ -25,12 +25,7 @@ outside g patterns [] = []
 outside g patterns (d ∷ ds) = cond (is_ignored g patterns d) (outside g patterns ds) (d ∷ outside g patterns ds)
 
 -- Of the differences that were found, as many of the others as there is room for. They are told to be all only if all were found, and there is room for all others. Moves are kept.
-pub record KeepsOutside (g : Graph) (patterns : List Pattern) (room : ℕ) (found kept : Found) : Type 0 where
+pub record Keeps (g : Graph) (patterns : List Pattern) (room : ℕ) (found kept : Found) : Type 0 where
   pub list : kept.list.items ≡ take room (outside g patterns found.list.items)
   pub moves : kept.moves ≡ found.moves
   pub whole : kept.whole ≡ (found.whole && nat_le (length (outside g patterns found.list.items)) room)
-
--- the same, and without patterns all that were found
-abbrev pub Keeps : Graph → List Pattern → ℕ → Found → Found → Type 0
-Keeps g [] room found kept = kept ≡ found
-Keeps g (p ∷ ps) room found kept = KeepsOutside g (p ∷ ps) room found kept

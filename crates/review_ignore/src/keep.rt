@@ -1,7 +1,7 @@
 //! The differences that no pattern covers.
-ghost use Rattle.std.specs.Prelude.{◌≡◌, ◌++◌, ◌∷◌, ◌&&◌, ◌≤◌, [], take, length, nat_lt, OnOk, IfOk};
+ghost use Rattle.std.specs.Prelude.{◌≡◌, ◌++◌, ◌∷◌, ◌&&◌, ◌≤◌, [], take, length, nat_lt, OnOk, IfOk, IfErr};
 ghost use Rattle.yaml_rank.specs.RanksView.{RanksAre};
-ghost use Rattle.review_ignore.specs.Ignored.{is_ignored, KeepsOutside, Keeps};
+ghost use Rattle.review_ignore.specs.Ignored.{is_ignored, Keeps};
 
 use crate::steps::step_texts;
 use review_patterns::Pattern;
@@ -12,6 +12,7 @@ use yaml_diff::{Difference, Found};
 use yaml_text::fault::Fault;
 
 /// Whether a difference is at or below a path that one of the patterns matches.
+#[tactic(auto, using(crate::proofs::KeptLaws::none_ignored))]
 fn is_ignored(
     alloc: Global,
     both: &Both<'_>,
@@ -19,8 +20,12 @@ fn is_ignored(
     difference: &Difference,
 ) -> Result<bool, Fault>
     requires ranked { RanksAre both.now.graph both.now.ranks }
-    ensures { IfOk result (λ answer. answer ≡ is_ignored both.now.graph patterns.now difference.now) }
+    ensures ok { IfOk result (λ answer. answer ≡ is_ignored both.now.graph patterns.now difference.now) }
+    ensures err { IfErr result (λ fault. fault ≡ Fault.OutOfMemory) }
 {
+    if patterns.is_empty() {
+        return Ok(false);
+    }
     let texts = step_texts(alloc, both, &difference.path)?;
     Ok(is_covered(patterns, &texts))
 }
@@ -31,6 +36,7 @@ fn add(kept: &mut Found, difference: Difference, room: usize) -> Result<(), Faul
     ensures list { OnOk result (kept.new.list.items ≡ take room (kept.old.list.items ++ (difference ∷ []))) }
     ensures moves { OnOk result (kept.new.moves ≡ kept.old.moves) }
     ensures whole { OnOk result (kept.new.whole ≡ (kept.old.whole && nat_lt (length kept.old.list.items) room)) }
+    ensures err { IfErr result (λ fault. fault ≡ Fault.OutOfMemory) }
 {
     if kept.list.len() < room {
         kept.list.push(difference)?;
@@ -40,8 +46,12 @@ fn add(kept: &mut Found, difference: Difference, room: usize) -> Result<(), Faul
     Ok(())
 }
 
-/// The differences that no pattern covers, and all moves.
-fn outside(
+/// Of differences that were found, those that are not at or below a path that one of the patterns matches, at most so many, and all
+/// moves.
+///
+/// # Errors
+/// `OutOfMemory`
+pub fn kept(
     alloc: Global,
     both: &Both<'_>,
     patterns: &[Pattern<'_>],
@@ -49,7 +59,8 @@ fn outside(
     room: usize,
 ) -> Result<Found, Fault>
     requires ranked { RanksAre both.now.graph both.now.ranks }
-    ensures { IfOk result (KeepsOutside both.now.graph patterns.now room found) }
+    ensures ok { IfOk result (Keeps both.now.graph patterns.now room found) }
+    ensures err { IfErr result (λ fault. fault ≡ Fault.OutOfMemory) }
 {
     let Found { list, moves, whole } = found;
     let mut kept = Found {
@@ -63,22 +74,4 @@ fn outside(
         }
     }
     Ok(kept)
-}
-
-/// Of differences that were found, those that are not at or below a path that one of the patterns matches, at most so many, and all
-/// moves. Without patterns these are all.
-pub fn kept(
-    alloc: Global,
-    both: &Both<'_>,
-    patterns: &[Pattern<'_>],
-    found: Found,
-    room: usize,
-) -> Result<Found, Fault>
-    requires ranked { RanksAre both.now.graph both.now.ranks }
-    ensures { IfOk result (Keeps both.now.graph patterns.now room found) }
-{
-    if patterns.is_empty() {
-        return Ok(found);
-    }
-    outside(alloc, both, patterns, found, room)
 }

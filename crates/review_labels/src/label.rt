@@ -1,163 +1,21 @@
 //! Which items moved, in words.
-ghost use Rattle.std.specs.Prelude.{◌≡◌, IfErr};
+ghost use Rattle.std.specs.Prelude.{◌≡◌, ◌++◌, ◌-◌, Some, option_map, string_bytes, OnOk, IfOk, IfErr};
+ghost use Rattle.yaml_graph.specs.GraphView.{tree};
 ghost use Rattle.yaml_rank.specs.RanksView.{RanksAre};
+ghost use Rattle.review_labels.specs.Labels.{words_of, order_label, others_text, called, name_of, item_label, label, AreKeys};
 
+use crate::keys::Keys;
+use crate::left::{count_of, left_node};
+use crate::names::name_of;
 use review_folds::Group;
 use review_text::both::Both;
 use review_text::text::{node_text, put_all};
 use std::alloc::Global;
-use yaml_diff::{Step, value_of};
-use yaml_graph::node::{NodeId, NodeKind};
-use yaml_pair::TABLE;
-use yaml_text::core_tag;
+use yaml_diff::Step;
+use yaml_graph::node::NodeId;
 use yaml_text::fault::Fault;
 
-/// The key of the table that names what `metadata` stands in, too.
-const NAME: &str = "name";
-
-/// The key below which an object has its name.
-const METADATA: &str = "metadata";
-
-/// The ranks of the keys that name items, each where a node is this string.
-#[derive(Drop)]
-pub struct Keys {
-    /// Those of the table, in its order.
-    table: Vec<Option<usize>>,
-    name: Option<usize>,
-    metadata: Option<usize>,
-}
-
-/// The content of a node that is a string.
-fn string_of<'b>(both: &'b Both<'_>, id: NodeId) -> Option<&'b str> {
-    let node = both.node(id)?;
-    match &node.kind {
-        NodeKind::Scalar(content) if node.tag.as_str() == core_tag::STR => Some(content.as_str()),
-        _ => None,
-    }
-}
-
-impl Keys {
-    ghost use Rattle.std.specs.Prelude.{◌≡◌, IfErr};
-
-    /// Those of the nodes of both streams.
-    ///
-    /// # Errors
-    /// `OutOfMemory`
-    pub fn new(alloc: Global, both: &Both<'_>) -> Result<Keys, Fault>
-        ensures err { IfErr result (λ fault. fault ≡ Fault.OutOfMemory) }
-    {
-        let mut keys = Keys {
-            table: vec![in alloc; None; TABLE.len()]?,
-            name: None,
-            metadata: None,
-        };
-        for number in 0..both.graph.len() {
-            let id = NodeId(number);
-            if let Some(text) = string_of(both, id) {
-                keys.take(text, both.rank(id));
-            }
-        }
-        Ok(keys)
-    }
-
-    /// Takes a string of this rank, if it is one of the keys.
-    fn take(&mut self, text: &str, rank: Option<usize>) {
-        for (place, key) in TABLE.iter().enumerate() {
-            if *key == text {
-                if let Some(slot) = self.table.get_mut(place) {
-                    *slot = rank;
-                }
-            }
-        }
-        if text == NAME {
-            self.name = rank;
-        }
-        if text == METADATA {
-            self.metadata = rank;
-        }
-    }
-}
-
-/// The value of the key of this rank in a mapping.
-fn value_in(both: &Both<'_>, mapping: NodeId, rank: Option<usize>) -> Option<NodeId>
-    requires { RanksAre both.now.graph both.now.ranks }
-{
-    let rank = rank?;
-    if mapping.0 < both.graph.len() {
-        value_of(&both.graph, &both.ranks, mapping, rank)
-    } else {
-        None
-    }
-}
-
-/// The same, if it is a scalar.
-fn scalar_in(both: &Both<'_>, mapping: NodeId, rank: Option<usize>) -> Option<NodeId>
-    requires { RanksAre both.now.graph both.now.ranks }
-{
-    let value = value_in(both, mapping, rank)?;
-    match &both.node(value)?.kind {
-        NodeKind::Scalar(_) => Some(value),
-        _ => None,
-    }
-}
-
-/// The first key of the table to which an item has a scalar, and that scalar.
-fn table_name(both: &Both<'_>, keys: &Keys, item: NodeId) -> Option<(&'static str, NodeId)>
-    requires { RanksAre both.now.graph both.now.ranks }
-{
-    for (place, key) in TABLE.iter().enumerate() {
-        if let Some(rank) = keys.table.get(place) {
-            if let Some(value) = scalar_in(both, item, *rank) {
-                return Some((*key, value));
-            }
-        }
-    }
-    None
-}
-
-/// The keys that name an item, and the scalar to which they lead.
-fn name_of(both: &Both<'_>, keys: &Keys, item: NodeId) -> Option<(&'static str, NodeId)>
-    requires { RanksAre both.now.graph both.now.ranks }
-{
-    let named = table_name(both, keys, item);
-    if named.is_some() {
-        return named;
-    }
-    let metadata = value_in(both, item, keys.metadata)?;
-    let value = scalar_in(both, metadata, keys.name)?;
-    Some(("metadata.name", value))
-}
-
-/// The part of a left node to which a step leads.
-fn left_part(both: &Both<'_>, node: NodeId, step: Step) -> Option<NodeId>
-    requires { RanksAre both.now.graph both.now.ranks }
-{
-    match step {
-        Step::Item(places) => match &both.node(node)?.kind {
-            NodeKind::Sequence(items) => items.get(places.left()?).copied(),
-            _ => None,
-        },
-        Step::Value(key) => value_in(both, node, both.rank(key)),
-    }
-}
-
-/// The left node to which a path leads, the last step first.
-fn left_node(both: &Both<'_>, path: &[Step]) -> Option<NodeId>
-    requires { RanksAre both.now.graph both.now.ranks }
-{
-    let (document, steps) = path.split_last()?;
-    let Step::Item(places) = *document else {
-        return None;
-    };
-    let (lefts, _) = both.sides();
-    let mut node = lefts.get(places.left()?).copied()?;
-    'steps: for step in steps.iter().rev() {
-        node = left_part(both, node, *step)?;
-    }
-    Some(node)
-}
-
-/// What an item is called: the keys that name it and their value or, where it has no name, its own text.
+/// What an item is called: the words that name it and their value or, where it has no name, its own text.
 fn put_item(
     alloc: Global,
     out: &mut String,
@@ -167,52 +25,86 @@ fn put_item(
     room: usize,
 ) -> Result<(), Fault>
     requires ranked { RanksAre both.now.graph both.now.ranks }
+    ensures ok { OnOk result (AreKeys both.now keys.now → string_bytes out.new ≡ string_bytes out.old ++ called room (tree both.now.graph item.0) (name_of (Some (tree both.now.graph item.0)))) }
     ensures err { IfErr result (λ fault. fault ≡ Fault.OutOfMemory) }
 {
-    match name_of(both, keys, item) {
-        Some((key, value)) => {
+    match name_of(both, item, keys) {
+        Some((words, value)) => {
             let text = node_text(alloc, both, value, room)?;
-            put_all(out, &[key, " ", text.as_str()])
+            put_all(out, &[words, " ", text.as_str()])?;
         }
         None => {
             let text = node_text(alloc, both, item, room)?;
-            put_all(out, &[text.as_str()])
+            out.push_str(text.as_str())?;
         }
     }
+    Ok(())
 }
 
-/// How many items a list has on the left, or how many documents the left stream has.
-fn count_of(both: &Both<'_>, list: &[Step]) -> usize
-    requires { RanksAre both.now.graph both.now.ranks }
+/// What stands for the items of a list behind their number.
+#[tactic(auto, using(crate::proofs::LabelLaws::words_none, crate::proofs::LabelLaws::words_some))]
+fn words_of(list: &[Step]) -> &'static str
+    ensures { result.now ≡ words_of list.now }
 {
     if list.is_empty() {
-        return both.documents;
-    }
-    let Some(id) = left_node(both, list) else {
-        return 0;
-    };
-    match both.node(id) {
-        Some(node) => match &node.kind {
-            NodeKind::Sequence(items) => items.len(),
-            _ => 0,
-        },
-        None => 0,
+        " documents"
+    } else {
+        " items"
     }
 }
 
 /// What is told of a list of which only the order changed.
-fn list_label(alloc: Global, both: &Both<'_>, list: &[Step]) -> Result<String, Fault>
+fn order_label(alloc: Global, both: &Both<'_>, list: &[Step]) -> Result<String, Fault>
     requires ranked { RanksAre both.now.graph both.now.ranks }
+    ensures ok { IfOk result (λ text. string_bytes text ≡ order_label both.now list.now) }
     ensures err { IfErr result (λ fault. fault ≡ Fault.OutOfMemory) }
 {
     let count = count_of(both, list);
-    let words = if list.is_empty() {
-        "documents"
-    } else {
-        "items"
-    };
     let mut out = String::new(alloc);
-    write!(out, "{count} {words} in another order, none changed")?;
+    write!(out, "{count}")?;
+    put_all(
+        &mut out,
+        &[words_of(list), " in another order, none changed"],
+    )?;
+    Ok(out)
+}
+
+/// How many others there are, if there are some.
+#[tactic(auto, using(crate::proofs::LabelLaws::others_none, crate::proofs::LabelLaws::others_some))]
+fn put_others(out: &mut String, others: usize) -> Result<(), Fault>
+    ensures ok { OnOk result (string_bytes out.new ≡ string_bytes out.old ++ others_text others) }
+    ensures err { IfErr result (λ fault. fault ≡ Fault.OutOfMemory) }
+{
+    if others == 0 {
+        return Ok(());
+    }
+    write!(out, " and {others} more")?;
+    Ok(())
+}
+
+/// How many items of a group there are beside the first one.
+fn others_of(group: Group) -> usize
+    ensures { result ≡ (group.end - group.first) - 1 }
+{
+    group.end.saturating_sub(group.first).saturating_sub(1)
+}
+
+/// What an item is called, and how many others there are.
+fn item_label(
+    alloc: Global,
+    both: &Both<'_>,
+    keys: &Keys,
+    item: NodeId,
+    others: usize,
+    room: usize,
+) -> Result<String, Fault>
+    requires ranked { RanksAre both.now.graph both.now.ranks }
+    ensures ok { IfOk result (λ text. AreKeys both.now keys.now → Some (string_bytes text) ≡ item_label room others (Some (tree both.now.graph item.0))) }
+    ensures err { IfErr result (λ fault. fault ≡ Fault.OutOfMemory) }
+{
+    let mut out = String::new(alloc);
+    put_item(alloc, &mut out, both, keys, item, room)?;
+    put_others(&mut out, others)?;
     Ok(out)
 }
 
@@ -230,20 +122,17 @@ pub fn label_of(
     room: usize,
 ) -> Result<Option<String>, Fault>
     requires ranked { RanksAre both.now.graph both.now.ranks }
+    ensures ok { IfOk result (λ told. AreKeys both.now keys.now → option_map string_bytes told ≡ label both.now room group path.now) }
     ensures err { IfErr result (λ fault. fault ≡ Fault.OutOfMemory) }
 {
+    let Some((_, list)) = path.split_first() else {
+        return Ok(None);
+    };
     if group.whole {
-        let list = path.get(1..).unwrap_or(&[]);
-        return Ok(Some(list_label(alloc, both, list)?));
+        return Ok(Some(order_label(alloc, both, list)?));
     }
     let Some(item) = left_node(both, path) else {
         return Ok(None);
     };
-    let mut out = String::new(alloc);
-    put_item(alloc, &mut out, both, keys, item, room)?;
-    let others = group.end.saturating_sub(group.first).saturating_sub(1);
-    if others > 0 {
-        write!(out, " and {others} more")?;
-    }
-    Ok(Some(out))
+    Ok(Some(item_label(alloc, both, keys, item, others_of(group), room)?))
 }

@@ -1,6 +1,11 @@
 //! What an item that moved is called: its name, or else its text.
 #![tactic(auto)]
 
+pub mod keys;
 pub mod label;
+mod left;
+mod names;
+mod values;
 
-pub use label::{Keys, label_of};
+pub use keys::Keys;
+pub use label::label_of;

@@ -1,6 +1,7 @@
 -- The lines of the differences that were found.
-use Rattle.std.proofs.Common.{◌≡◌, ℕ, zero, suc, ◌+◌, ◌<◌, ◌≤◌, ◌==◌, ◌&&◌, Bool, true, false, cond, List, [], ◌∷◌, ◌++◌, length, map, take, drop, get_or, refl, sym, ◌∙◌, ap, subst, add-one, drop-cons}
+use Rattle.std.proofs.Common.{◌≡◌, ℕ, zero, suc, ◌+◌, ◌<◌, ◌≤◌, ◌==◌, ◌&&◌, Bool, true, false, cond, nat_le, List, [], ◌∷◌, ◌++◌, length, map, take, drop, get_or, refl, sym, ◌∙◌, ap, subst, arith, add-one, drop-cons}
 use Rattle.std.proofs.Math.ListN.{drop_of_length-le}
+use Rattle.std.proofs.lemmas.Bool.{eqb-true}
 use Rattle.std.proofs.lemmas.List.{append_assoc, append-nil, map-append}
 use Rattle.yaml_diff.specs.declared.difference.Difference.{Difference}
 use Rattle.review_args.specs.declared.words.Diff.{Diff}
@@ -17,8 +18,10 @@ use Rattle.std.proofs.lemmas.List.{take_more, take_all}
 use Rattle.yaml_graph.specs.declared.graph.Graph.{Graph}
 use Rattle.review_patterns.specs.declared.pattern.Pattern.{Pattern}
 use Rattle.review_ignore.specs.Ignored.{Keeps}
+use Rattle.review_ignore.proofs.KeptLaws.{outside_none}
 use Rattle.review_folds.specs.Folds.{Folds}
-use Rattle.review_lines.specs.Compared.{is_line, is_plain, TellsOne, TellsEach, TellsGroup, TellsGroups, TellsMoves, TellsFound, TellsAsked}
+use Rattle.review_lines.specs.Searched.{room_for, search_room}
+use Rattle.review_lines.specs.Compared.{folds_moves, is_line, is_plain, moves_room, TellsOne, TellsEach, TellsGroup, TellsGroups, TellsMoves, TellsFound, TellsAsked}
 
 -- one difference and its line more
 pub tells_more : (both : Both) (asked : Diff) (ds : List Difference) (ls : List Line) (d : Difference) (l : Line) → TellsEach both asked ds ls → TellsOne both asked d l → TellsEach both asked (ds ++ (d ∷ [])) (ls ++ (l ∷ []))
@@ -46,34 +49,53 @@ pub folds_told : (folds : Bool) (ds : List Difference) (ns seen counts : List �
 folds_told folds ds ns seen counts e f h = subst (Folds folds ds) (sym (e ∙ f)) h
 
 -- a line for each group of moves
-pub groups_more : (both : Both) (asked : Diff) (moves : List Move) (gs : List Group) (ls : List Line) (g : Group) (l : Line) → TellsGroups both asked moves gs ls → TellsGroup both asked moves g l → TellsGroups both asked moves (gs ++ (g ∷ [])) (ls ++ (l ∷ []))
-groups_more both asked moves [] [] g l h k = (k, tt)
-groups_more both asked moves [] (m ∷ ls) g l h k = absurd h
-groups_more both asked moves (e ∷ gs) [] g l h k = absurd h
-groups_more both asked moves (e ∷ gs) (m ∷ ls) g l h k = (h.0, groups_more both asked moves gs ls g l h.1 k)
+pub groups_more : (labels : Bool) (both : Both) (asked : Diff) (moves : List Move) (gs : List Group) (ls : List Line) (g : Group) (l : Line) → TellsGroups labels both asked moves gs ls → TellsGroup labels both asked moves g l → TellsGroups labels both asked moves (gs ++ (g ∷ [])) (ls ++ (l ∷ []))
+groups_more labels both asked moves [] [] g l h k = (k, tt)
+groups_more labels both asked moves [] (m ∷ ls) g l h k = absurd h
+groups_more labels both asked moves (e ∷ gs) [] g l h k = absurd h
+groups_more labels both asked moves (e ∷ gs) (m ∷ ls) g l h k = (h.0, groups_more labels both asked moves gs ls g l h.1 k)
 
-pub groups_next : (both : Both) (asked : Diff) (moves : List Move) (gs : List Group) (ls new : List Line) (i : ℕ) (d e : Group) (l : Line) → i < length gs → e ≡ get_or gs i d → TellsGroups both asked moves (take i gs) ls → TellsGroup both asked moves e l → new ≡ ls ++ (l ∷ []) → TellsGroups both asked moves (take (i + 1) gs) new
-groups_next both asked moves gs ls new i d e l m q h k p =
-    subst (λ z. TellsGroups both asked moves z new) (sym (take_more gs i d m)) (subst (TellsGroups both asked moves (take i gs ++ (get_or gs i d ∷ []))) (sym p) (groups_more both asked moves (take i gs) ls (get_or gs i d) l h (subst (λ z. TellsGroup both asked moves z l) q k)))
+pub groups_next : (labels : Bool) (both : Both) (asked : Diff) (moves : List Move) (gs : List Group) (ls new : List Line) (i : ℕ) (d e : Group) (l : Line) → i < length gs → e ≡ get_or gs i d → TellsGroups labels both asked moves (take i gs) ls → TellsGroup labels both asked moves e l → new ≡ ls ++ (l ∷ []) → TellsGroups labels both asked moves (take (i + 1) gs) new
+groups_next labels both asked moves gs ls new i d e l m q h k p =
+    subst (λ z. TellsGroups labels both asked moves z new) (sym (take_more gs i d m)) (subst (TellsGroups labels both asked moves (take i gs ++ (get_or gs i d ∷ []))) (sym p) (groups_more labels both asked moves (take i gs) ls (get_or gs i d) l h (subst (λ z. TellsGroup labels both asked moves z l) q k)))
 
-pub groups_all : (both : Both) (asked : Diff) (moves : List Move) (gs : List Group) (ls : List Line) (i : ℕ) → length gs ≤ i → TellsGroups both asked moves (take i gs) ls → TellsGroups both asked moves gs ls
-groups_all both asked moves gs ls i m h = subst (λ z. TellsGroups both asked moves z ls) (take_all i gs m) h
+pub groups_all : (labels : Bool) (both : Both) (asked : Diff) (moves : List Move) (gs : List Group) (ls : List Line) (i : ℕ) → length gs ≤ i → TellsGroups labels both asked moves (take i gs) ls → TellsGroups labels both asked moves gs ls
+groups_all labels both asked moves gs ls i m h = subst (λ z. TellsGroups labels both asked moves z ls) (take_all i gs m) h
+
+-- so many of the groups
+pub first_all : (groups : List Group) (room : ℕ) → length groups ≤ room → groups ≡ take room groups
+first_all groups room l = sym (take_all room groups l)
 
 -- the lines of moves, of whose groups a list is seen
-pub moves_told : (folds plain : Bool) (both : Both) (asked : Diff) (f : Found) (groups seen : List Group) (moves : List Move) (ls : List Line) → plain ≡ is_plain asked.paths → Groups folds plain f 0 (length f.moves.items) groups → seen ≡ groups → moves ≡ f.moves.items
-    → TellsGroups both asked moves seen ls → TellsMoves folds both asked f ls
-moves_told folds plain both asked f groups seen moves ls p g s m h = record {
+pub moves_told : (folds labels has plain : Bool) (both : Both) (asked : Diff) (f : Found) (groups seen told : List Group) (moves : List Move) (ls : List Line) (room : ℕ) (whole : Bool) → has ≡ labels → plain ≡ is_plain asked.paths → Groups folds plain f 0 (length f.moves.items) groups → seen ≡ groups
+    → moves ≡ f.moves.items → room ≡ moves_room asked f → told ≡ take room seen → TellsGroups has both asked moves told ls → whole ≡ nat_le (length groups) room → TellsMoves folds labels both asked f ls whole
+moves_told folds labels has plain both asked f groups seen told moves ls room whole b p g s m r t h w = record {
   groups = groups;
   grouped = subst (λ z. Groups folds z f 0 (length f.moves.items) groups) p g;
-  each = subst (λ z. TellsGroups both asked z groups ls) m (subst (λ z. TellsGroups both asked moves z ls) s h);
+  each =
+      subst (λ z. TellsGroups labels both asked z (take (moves_room asked f) groups) ls) m
+      (subst (λ z. TellsGroups labels both asked moves z ls) (t ∙ ap (take room) s ∙ ap (λ z. take z groups) r) (subst (λ z. TellsGroups z both asked moves told ls) b h));
+  all = w ∙ ap (nat_le (length groups)) r;
 }
 
+-- where there is no room, or no move
+pub moves_untold : (folds labels plain : Bool) (both : Both) (asked : Diff) (f : Found) (groups seen told : List Group) (ls : List Line) (room : ℕ) (whole : Bool) → plain ≡ is_plain asked.paths → Groups folds plain f 0 (length f.moves.items) groups → seen ≡ groups
+    → room ≡ moves_room asked f → told ≡ take room seen → length told ≡ 0 → ls ≡ [] → whole ≡ nat_le (length groups) room → TellsMoves folds labels both asked f ls whole
+moves_untold folds labels plain both asked f groups seen told ls room whole p g s r t n e w =
+    moves_told folds labels labels plain both asked f groups seen told f.moves.items ls room whole refl p g s refl r t (none told ls n e) w
+  where
+    none : (gs : List Group) (ls : List Line) → length gs ≡ 0 → ls ≡ [] → TellsGroups labels both asked f.moves.items gs ls
+    none [] [] n e = tt
+    none [] (l ∷ ls) n e = absurd (cc)
+    none (g ∷ gs) ls n e = absurd (omega (arith, n))
+
 -- the lines of a list
-pub found_listed : (both : Both) (asked : Diff) (f : Found) (listed : Listed) (seen : List Difference) → seen ≡ f.list.items → TellsEach both asked seen listed.lines.items → Folds false seen (map (λ l. l.count) listed.lines.items)
-    → TellsMoves false both asked f listed.moves.items → listed.whole ≡ f.whole → listed.same ≡ ((f.whole && (length f.list.items == 0)) && (length f.moves.items == 0)) → ListsFound both asked f listed
-found_listed both asked f listed seen s h k m w n = record {
+pub found_listed : (both : Both) (asked : Diff) (f : Found) (listed : Listed) (seen : List Difference) (all : Bool) → seen ≡ f.list.items → TellsEach both asked seen listed.lines.items → Folds false seen (map (λ l. l.count) listed.lines.items)
+    → TellsMoves false false both asked f listed.moves.items all → listed.whole ≡ (f.whole && all) → listed.same ≡ ((f.whole && (length f.list.items == 0)) && (length f.moves.items == 0)) → ListsFound both asked f listed
+found_listed both asked f listed seen all s h k m w n = record {
   each = subst (λ z. TellsEach both asked z listed.lines.items) s h;
   alone = subst (λ z. Folds false z (map (λ l. l.count) listed.lines.items)) s k;
+  all_moves = all;
   moves = m;
   whole = w;
   is_none = n;
@@ -91,29 +113,34 @@ lines_next f ls i d o a whole l h e =
 pub lines_all : (f : Diff) (ls : List Line) (i : ℕ) (o whole : List ℕ) → length ls ≤ i → o ++ lines_text f (drop i ls) ≡ whole → o ≡ whole
 lines_all f ls i o whole l h = sym (append-nil o) ∙ ap (λ z. o ++ lines_text f z) (sym (drop_of_length-le ls l)) ∙ h
 
-module _ (both : Both) (asked : Diff) (f : Found) (ls ms : List Line) (o a c : List ℕ) (each : TellsEach both asked f.list.items ls) (folds : Folds asked.folds f.list.items (map (λ l. l.count) ls)) (moves : TellsMoves (is_line asked.form && asked.folds) both asked f ms) (empty : o ≡ []) (put : a ≡ o ++ lines_text asked ls) (more : c ≡ a ++ lines_text asked ms) where
+module _ (folds_asked labels : Bool) (both : Both) (asked : Diff) (f : Found) (ls ms : List Line) (all : Bool) (o a c : List ℕ) (asks : folds_asked ≡ folds_moves asked) (labelled : labels ≡ is_line asked.form) (each : TellsEach both asked f.list.items ls) (folds : Folds asked.folds f.list.items (map (λ l. l.count) ls)) (moves : TellsMoves folds_asked labels both asked f ms all) (empty : o ≡ []) (put : a ≡ o ++ lines_text asked ls) (more : c ≡ a ++ lines_text asked ms) where
   all_put : c ≡ lines_text asked ls ++ lines_text asked ms
   all_put = more ∙ ap (λ z. z ++ lines_text asked ms) (put ∙ ap (λ z. z ++ lines_text asked ls) empty)
 
+  as_asked : TellsMoves (folds_moves asked) (is_line asked.form) both asked f ms all
+  as_asked = subst (λ z. TellsMoves z (is_line asked.form) both asked f ms all) asks (subst (λ z. TellsMoves folds_asked z both asked f ms all) labelled moves)
+
   -- the lines of a whole list
-  pub found_whole : f.whole ≡ true → TellsFound both asked f c
+  pub found_whole : (f.whole && all) ≡ true → TellsFound both asked f c
   found_whole w = record {
     lines = ls;
     each = each;
     folds = folds;
     move_lines = ms;
-    moves = moves;
+    whole = all;
+    moves = as_asked;
     is = all_put ∙ sym (append-nil (lines_text asked ls ++ lines_text asked ms)) ∙ ap (λ z. (lines_text asked ls ++ lines_text asked ms) ++ cond z [] (more_text asked.form)) (sym w);
   }
 
   -- and of one that is cut
-  pub found_cut : (b : List ℕ) → f.whole ≡ false → b ≡ c ++ more_text asked.form → TellsFound both asked f b
+  pub found_cut : (b : List ℕ) → (f.whole && all) ≡ false → b ≡ c ++ more_text asked.form → TellsFound both asked f b
   found_cut b w h = record {
     lines = ls;
     each = each;
     folds = folds;
     move_lines = ms;
-    moves = moves;
+    whole = all;
+    moves = as_asked;
     is = h ∙ ap (λ z. z ++ more_text asked.form) all_put ∙ ap (λ z. (lines_text asked ls ++ lines_text asked ms) ++ cond z [] (more_text asked.form)) (sym w);
   }
 
@@ -128,7 +155,41 @@ asked_some (suc n) both asked f text l h = h
 
 -- ---- differences that are left out
 
--- without patterns none is
-pub keeps-all : (g : Graph) (ps : List Pattern) (room : ℕ) (found kept : Found) → ps ≡ [] → Keeps g ps room found kept → kept ≡ found
-keeps-all g [] room found kept e h = h
-keeps-all g (p ∷ ps) room found kept e h = absurd (cc)
+no-more : (b : Bool) → (b && false) ≡ false
+no-more true = refl
+no-more false = refl
+
+is-false : (b : Bool) → (b ≡ true → ⊥) → b ≡ false
+is-false true h = absurd (h refl)
+is-false false h = refl
+
+some-there : {X : Type 0} (x : X) (xs : List X) → (length (x ∷ xs) == 0) ≡ false
+some-there x xs = is-false (length (x ∷ xs) == 0) (λ e. let q = eqb-true (length (x ∷ xs)) 0 e in absurd (omega (arith, q)))
+
+none-first : {X : Type 0} (whole : Bool) (xs : List X) (room : ℕ) → 0 < room → ((whole && nat_le (length xs) room) && (length (take room xs) == 0)) ≡ (whole && (length xs == 0))
+none-first false xs room r = refl
+none-first true xs zero r = absurd (omega (arith, r))
+none-first true [] (suc room) r = grind arith
+none-first true (x ∷ xs) (suc room) r = ap (λ z. nat_le (length (x ∷ xs)) (suc room) && z) (some-there x (take room xs)) ∙ no-more (nat_le (length (x ∷ xs)) (suc room)) ∙ sym (some-there x xs)
+
+-- without patterns nothing is kept exactly if nothing was found
+pub keeps_none : (g : Graph) (ps : List Pattern) (room : ℕ) (found kept : Found) → ps ≡ [] → 0 < room → Keeps g ps room found kept
+    → ((kept.whole && (length kept.list.items == 0)) && (length kept.moves.items == 0)) ≡ ((found.whole && (length found.list.items == 0)) && (length found.moves.items == 0))
+keeps_none g ps room found kept e r h =
+    let all = outside_none g ps found.list.items e in
+    ap (λ z. (kept.whole && (length z == 0)) && (length kept.moves.items == 0)) (h.list ∙ ap (take room) all)
+    ∙ ap (λ z. (z && (length (take room found.list.items) == 0)) && (length kept.moves.items == 0)) (h.whole ∙ ap (λ z. found.whole && nat_le (length z) room) all)
+    ∙ ap (λ z. z && (length kept.moves.items == 0)) (none-first found.whole found.list.items room r)
+    ∙ ap (λ z. (found.whole && (length found.list.items == 0)) && (length z.items == 0)) h.moves
+
+-- there is room for one at least
+pub some_room : (ps : List Pattern) (lines room : ℕ) → search_room ps (room_for lines) ≤ room → 0 < room
+some_room ps lines room l = let s = some lines in omega (arith, l, s)
+  where
+    by : (b : Bool) (n : ℕ) → 0 < n → 0 < cond b n 1000000
+    by true n p = p
+    by false n p = omega arith
+
+    some : (lines : ℕ) → 0 < search_room ps (room_for lines)
+    some zero = by _ 1 (omega arith)
+    some (suc lines) = by _ (suc lines) (omega arith)

@@ -1,6 +1,8 @@
 -- The lines of moves.
-use Rattle.std.proofs.Common.{◌≡◌, ◌==◌, ℕ, suc, ◌≤◌, Bool, true, false, cond, List, [], ◌∷◌, ◌++◌, length, map, refl, sym, ◌∙◌, ap, subst, arith}
-use Rattle.std.specs.Prelude.{Option, Some, None, codes, string_bytes}
+use Rattle.std.proofs.Common.{◌≡◌, ◌==◌, ℕ, zero, suc, ◌≤◌, Bool, true, false, cond, nat_le, List, [], ◌∷◌, ◌++◌, length, map, take, refl, sym, ◌∙◌, ap, subst, arith}
+use Rattle.std.specs.Prelude.{Option, Some, None, Result, Ok, Err, String, IfOk, IfSome, option_map, is_some, codes, string_bytes}
+use Rattle.std.specs.declared.alloc.Global.{Global}
+use Rattle.yaml_text.specs.declared.fault.Fault.{Fault}
 use Rattle.std.specs.List.{slice_get, flat_map}
 use Rattle.std.proofs.lemmas.Bool.{eqb-true}
 use Rattle.std.proofs.lemmas.List.{length-reverse, length-map}
@@ -9,6 +11,8 @@ use Rattle.yaml_diff.specs.declared.difference.Move.{Move}
 use Rattle.review_args.specs.declared.words.Diff.{Diff}
 use Rattle.review_folds.specs.Moves.{Groups}
 use Rattle.review_folds.specs.declared.moves.Group.{Group}
+use Rattle.review_labels.specs.Labels.{label, AreKeys}
+use Rattle.review_labels.specs.declared.keys.Keys.{Keys}
 use Rattle.review_text.specs.declared.both.Both.{Both}
 use Rattle.yaml_graph.specs.declared.graph.Graph.{Graph}
 use Rattle.yaml_path.specs.Ways.{Way}
@@ -20,7 +24,7 @@ use Rattle.yaml_diff.specs.declared.difference.Step.TheVariants.{Item}
 use Rattle.yaml_diff.specs.declared.difference.Difference.{Difference}
 use Rattle.review_args.specs.declared.words.Paths.{Paths}
 use Rattle.review_text.specs.PathText.{path_text, step_text, bracketed}
-use Rattle.review_lines.specs.Compared.{is_numbered, path_as, TellsMembers, range_of, before_text, range_path, group_text, last_of, IsFirst, TellsGroup, TellsGroups, TellsMoves}
+use Rattle.review_lines.specs.Compared.{is_numbered, room_of, path_as, TellsMembers, range_of, before_text, range_path, group_text, last_of, moves_room, IsFirst, TellsGroup, TellsGroups, TellsMoves}
 use Rattle.review_lines.specs.declared.lines.Line.{Line}
 
 groups-rise : (folds ranges : Bool) (f : Found) (at end : ℕ) (gs : List Group) → Groups folds ranges f at end gs → at ≤ end
@@ -31,14 +35,24 @@ no-groups : (folds ranges : Bool) (f : Found) (end : ℕ) (gs : List Group) → 
 no-groups folds ranges f end [] e h = refl
 no-groups folds ranges f end (g ∷ gs) e h = let r = groups-rise folds ranges f g.end end gs h.3 in absurd (omega (arith, e, h.0, h.1, r))
 
-no-lines : (both : Both) (asked : Diff) (moves : List Move) (ls : List Line) → TellsGroups both asked moves [] ls → ls ≡ []
-no-lines both asked moves [] h = refl
-no-lines both asked moves (l ∷ ls) h = absurd h
+no-lines : (labels : Bool) (both : Both) (asked : Diff) (moves : List Move) (ls : List Line) → TellsGroups labels both asked moves [] ls → ls ≡ []
+no-lines labels both asked moves [] h = refl
+no-lines labels both asked moves (l ∷ ls) h = absurd h
 
-pub moves_none : (folds : Bool) (both : Both) (asked : Diff) (f : Found) (ls : List Line) → f.moves.items ≡ [] → TellsMoves folds both asked f ls → ls ≡ []
-moves_none folds both asked f ls m t =
-    let none = no-groups folds _ f (length f.moves.items) t.groups (ap length m) t.grouped in
-    no-lines both asked f.moves.items ls (subst (λ z. TellsGroups both asked f.moves.items z ls) none t.each)
+-- without moves there is no line, and none is left out
+pub moves_none : (folds labels : Bool) (both : Both) (asked : Diff) (f : Found) (ls : List Line) (whole : Bool) → f.moves.items ≡ [] → TellsMoves folds labels both asked f ls whole → (ls ≡ []) × (whole ≡ true)
+moves_none folds labels both asked f ls whole m t =
+    let none = no-groups folds _ f (length f.moves.items) t.groups (ap length m) t.grouped in (
+      no-lines labels both asked f.moves.items ls (subst (λ z. TellsGroups labels both asked f.moves.items z ls) (ap (take (moves_room asked f)) none ∙ none-taken (moves_room asked f)) t.each),
+      t.all ∙ ap (λ z. nat_le (length z) (moves_room asked f)) none ∙ least (moves_room asked f),
+    )
+  where
+    none-taken : {X : Type 0} (n : ℕ) → ◌≡◌ {A = List X} (take n []) []
+    none-taken zero = refl
+    none-taken (suc n) = refl
+
+    least : (n : ℕ) → nat_le 0 n ≡ true
+    least n = grind arith
 
 -- ---- paths
 
@@ -109,15 +123,29 @@ first_some moves group x d s p l r = record { is = λ m e. pair ∙ ap (λ z. mo
     pair : line_of d ≡ moved_line (move_line_of x)
     pair = ap (λ z. (z, (d.left, d.right))) p ∙ ap (λ z. (Item x.places ∷ x.path.items, (z, d.right))) l ∙ ap (λ z. (Item x.places ∷ x.path.items, (None, z))) r
 
-pub group_told : (both : Both) (asked : Diff) (moves : List Move) (group : Group) (d : Difference) (seen : List code.Step) (last : Option Places) (l : Line) → IsFirst moves group d → seen ≡ d.path.items → last ≡ last_of moves group
-    → string_bytes l.path ≡ group_text asked.paths (is_numbered both) both.graph group.whole last seen → l.left ≡ None → l.right ≡ None → l.changes ≡ None → TellsMembers asked.form both.graph d l.members → l.count ≡ 1 → TellsGroup both asked moves group l
-group_told both asked moves group d seen last l f s z p a b c m n = record {
+pub group_told : (labels : Bool) (both : Both) (asked : Diff) (moves : List Move) (group : Group) (d : Difference) (seen again : List code.Step) (last : Option Places) (l : Line) → IsFirst moves group d → seen ≡ d.path.items → again ≡ d.path.items → last ≡ last_of moves group
+    → string_bytes l.path ≡ group_text asked.paths (is_numbered both) both.graph group.whole last seen → l.left ≡ None → l.right ≡ None → l.changes ≡ None → option_map string_bytes l.label ≡ cond labels (label both (room_of asked.whole) group again) None
+    → TellsMembers asked.form both.graph d l.members → l.count ≡ 1 → TellsGroup labels both asked moves group l
+group_told labels both asked moves group d seen again last l f s t z p a b c k m n = record {
   first = d;
   is_first = f;
   path = p ∙ ap (group_text asked.paths (is_numbered both) both.graph group.whole last) s ∙ ap (λ y. group_text asked.paths (is_numbered both) both.graph group.whole y d.path.items) z;
   no_left = a;
   no_right = b;
   no_changes = c;
+  labelled = k ∙ ap (λ y. cond labels (label both (room_of asked.whole) group y) None) t;
   members = m;
   one = n;
 }
+
+-- ---- labels
+
+-- a group has a label exactly where there are keys
+pub label_some : (both : Both) (keys : Option Keys) (k : Keys) (room shown : ℕ) (group : Group) (path : List code.Step) (r : Result (Option (String Global)) Fault) → keys ≡ Some k → IfSome keys (AreKeys both) → shown ≡ room → IfOk r (λ told. AreKeys both k → option_map string_bytes told ≡ label both shown group path)
+    → IfOk r (λ told. option_map string_bytes told ≡ cond (is_some keys) (label both room group path) None)
+label_some both keys k room shown group path (Ok told) e a m h =
+    h (subst (λ z. IfSome z (AreKeys both)) e a) ∙ ap (λ z. label both z group path) m ∙ sym (ap (λ z. cond (is_some z) (label both room group path) None) e)
+label_some both keys k room shown group path (Err fault) e a m h = tt
+
+pub label_none : (both : Both) (keys : Option Keys) (room : ℕ) (group : Group) (path : List code.Step) → keys ≡ None → None ≡ cond (is_some keys) (label both room group path) None
+label_none both keys room group path e = sym (ap (λ z. cond (is_some z) (label both room group path) None) e)

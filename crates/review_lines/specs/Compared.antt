@@ -1,5 +1,5 @@
 -- What is told of two streams as text.
-use Rattle.std.specs.Prelude.{◌≡◌, ◌⊎◌, ◌==◌, ◌&&◌, ◌||◌, ℕ, zero, suc, ◌-◌, Bool, true, false, not, cond, nat_le, nat_lt, take, drop, map, length, List, [], ◌∷◌, ◌++◌, Option, Some, None, option_map, codes, string_bytes}
+use Rattle.std.specs.Prelude.{◌≡◌, ◌⊎◌, ◌==◌, ◌&&◌, ℕ, zero, suc, ◌-◌, Bool, true, false, not, cond, nat_le, nat_lt, take, drop, map, length, List, [], ◌∷◌, ◌++◌, Option, Some, None, option_map, codes, string_bytes}
 use Rattle.std.specs.List.{slice_get, flat_map}
 use Rattle.std.specs.Fmt.{decimal}
 use Rattle.yaml_definitions.specs.model.Tree.{scalar}
@@ -12,7 +12,6 @@ use Rattle.yaml_path.specs.declared.places.Places.{Places}
 use Rattle.yaml_path.specs.declared.places.Places.TheVariants as places
 use Rattle.yaml_diff.specs.Lines.{way_of, line_of}
 use Rattle.yaml_diff.specs.Moves.{moved_line, move_line_of}
-use Rattle.yaml_diff.specs.Found.{FindsItems}
 use Rattle.yaml_diff.specs.declared.difference.Step as code
 use Rattle.yaml_diff.specs.declared.difference.Step.TheVariants.{Item}
 use Rattle.yaml_diff.specs.declared.difference.Move.{Move}
@@ -29,6 +28,7 @@ use Rattle.review_ignore.specs.Ignored.{Keeps}
 use Rattle.review_folds.specs.Folds.{Folds}
 use Rattle.review_folds.specs.Moves.{Groups}
 use Rattle.review_folds.specs.declared.moves.Group.{Group}
+use Rattle.review_labels.specs.Labels.{label}
 use Rattle.review_text.specs.Shown.{front, shown}
 use Rattle.review_text.specs.NodeText.{text_of}
 use Rattle.review_text.specs.PathText.{bracketed, start_text, step_text, path_text}
@@ -39,6 +39,7 @@ use Rattle.review_text.specs.declared.both.Both.{Both}
 use Rattle.review_values.specs.Members.{SaysMembers}
 use Rattle.review_values.specs.declared.members.Members.{Members}
 use Rattle.review_lines.specs.Lines.{Text, lines_text, more_text}
+use Rattle.review_lines.specs.Searched.{room_for, Searches}
 use Rattle.review_lines.specs.Stat.{stat_text}
 use Rattle.review_lines.specs.declared.lines.Changes.{Changes}
 use Rattle.review_lines.specs.declared.lines.Line.{Line}
@@ -46,15 +47,6 @@ use Rattle.review_lines.specs.declared.lines.Line.{Line}
 -- how many bytes of a node are shown
 abbrev pub room_of : Bool → ℕ
 room_of whole = cond whole 65536 60
-
--- how many differences are looked for: one at least, without which no list would tell whether there is a difference
-abbrev pub room_for : ℕ → ℕ
-room_for zero = 1
-room_for (suc lines) = suc lines
-
--- The same, and at least a million where some are left out.
-abbrev pub search_room : List Pattern → ℕ → ℕ
-search_room ps room = cond ((length ps == 0) || nat_lt 1000000 room) room 1000000
 
 -- paths tell the number of the document, unless each side has one document
 abbrev pub is_numbered : Both → Bool
@@ -129,6 +121,10 @@ ShowsChanges g context color d (Some c) = ShowsScript g context color d (string_
 abbrev pub is_line : Form → Bool
 is_line form.Line = true
 is_line form.Json = false
+
+-- one line may tell several moves: in columns, if that is asked for, and where lines are told
+abbrev pub folds_moves : Diff → Bool
+folds_moves asked = not asked.stat && (is_line asked.form && asked.folds)
 
 -- Where JSON is written, the path and the values of the nodes.
 abbrev pub TellsMembers : Form → Graph → Difference → Option Members → Type 0
@@ -207,37 +203,44 @@ last_of moves group = cond (nat_lt group.first (group.end - 1)) (option_map (λ 
 pub record IsFirst (moves : List Move) (group : Group) (d : Difference) : Type 0 where
   pub is : (m : Move) → slice_get moves group.first ≡ Some m → line_of d ≡ moved_line (move_line_of m)
 
--- One line tells the moves of a group: with their path and no texts. Of the label nothing is said.
-pub record TellsGroup (both : Both) (asked : Diff) (moves : List Move) (group : Group) (l : Line) : Type 0 where
+-- One line tells the moves of a group: with their path and no texts, and with their label, where labels are told.
+pub record TellsGroup (labels : Bool) (both : Both) (asked : Diff) (moves : List Move) (group : Group) (l : Line) : Type 0 where
   pub first : Difference
   pub is_first : IsFirst moves group first
   pub path : string_bytes l.path ≡ group_text asked.paths (is_numbered both) both.graph group.whole (last_of moves group) first.path.items
   pub no_left : l.left ≡ None
   pub no_right : l.right ≡ None
   pub no_changes : l.changes ≡ None
+  pub labelled : option_map string_bytes l.label ≡ cond labels (label both (room_of asked.whole) group first.path.items) None
   pub members : TellsMembers asked.form both.graph first l.members
   pub one : l.count ≡ 1
 
 -- a line for each group, in order
-abbrev pub TellsGroups : Both → Diff → List Move → List Group → List Line → Type 0
-TellsGroups both asked moves [] [] = Unit {0}
-TellsGroups both asked moves (g ∷ gs) (l ∷ ls) = TellsGroup both asked moves g l × TellsGroups both asked moves gs ls
-TellsGroups both asked moves _ _ = ⊥
+abbrev pub TellsGroups : Bool → Both → Diff → List Move → List Group → List Line → Type 0
+TellsGroups labels both asked moves [] [] = Unit {0}
+TellsGroups labels both asked moves (g ∷ gs) (l ∷ ls) = TellsGroup labels both asked moves g l × TellsGroups labels both asked moves gs ls
+TellsGroups labels both asked moves _ _ = ⊥
 
--- The moves that were found are in groups, in order, of one move each if they are not folded. Each group has a line.
-pub record TellsMoves (folds : Bool) (both : Both) (asked : Diff) (f : Found) (lines : List Line) : Type 0 where
+-- how many lines of moves there is room for, behind those of the differences
+abbrev pub moves_room : Diff → Found → ℕ
+moves_room asked f = room_for asked.lines - length f.list.items
+
+-- The moves that were found are in groups, in order, of one move each if they are not folded. Each group has a line, as far as there is room; and whether these are all.
+pub record TellsMoves (folds labels : Bool) (both : Both) (asked : Diff) (f : Found) (lines : List Line) (whole : Bool) : Type 0 where
   pub groups : List Group
   pub grouped : Groups folds (is_plain asked.paths) f 0 (length f.moves.items) groups
-  pub each : TellsGroups both asked f.moves.items groups lines
+  pub each : TellsGroups labels both asked f.moves.items (take (moves_room asked f) groups) lines
+  pub all : whole ≡ nat_le (length groups) (moves_room asked f)
 
--- The text is the lines of the differences that were found, and behind them those of the moves, and tells if there are more. Each difference has a line; one that is told by another line of the same nodes, if that is asked for, has one without a text. In columns, if that is asked for, a line may tell several moves.
+-- The text is the lines of the differences that were found, and behind them those of the moves as far as there is room, and tells if there are more. Each difference has a line; one that is told by another line of the same nodes, if that is asked for, has one without a text. In columns, if that is asked for, a line may tell several moves.
 pub record TellsFound (both : Both) (asked : Diff) (f : Found) (text : List ℕ) : Type 0 where
   pub lines : List Line
   pub each : TellsEach both asked f.list.items lines
   pub folds : Folds asked.folds f.list.items (map (λ l. l.count) lines)
   pub move_lines : List Line
-  pub moves : TellsMoves (is_line asked.form && asked.folds) both asked f move_lines
-  pub is : text ≡ (lines_text asked lines ++ lines_text asked move_lines) ++ cond f.whole [] (more_text asked.form)
+  pub whole : Bool
+  pub moves : TellsMoves (folds_moves asked) (is_line asked.form) both asked f move_lines whole
+  pub is : text ≡ (lines_text asked lines ++ lines_text asked move_lines) ++ cond (f.whole && whole) [] (more_text asked.form)
 
 -- No line is written where none is asked for, whether or not there are differences.
 abbrev pub TellsAsked : ℕ → Both → Diff → Found → List ℕ → Type 0
@@ -247,7 +250,7 @@ TellsAsked (suc lines) both asked f text = TellsFound both asked f text
 -- The text is the lines of the differences of two streams, of as many as were asked for, but for those that are at or below a path that one of the patterns matches; and whether there are none. If the numbers of differences and moves are asked for, they stand in place of the lines.
 pub record TellsStreams (both : Both) (asked : Diff) (ignored : List Pattern) (none : Bool) (text : List ℕ) : Type 0 where
   pub found : Found
-  pub finds : FindsItems both.graph (take both.documents (roots_of both.graph)) (drop both.documents (roots_of both.graph)) (search_room ignored (room_for asked.lines)) found
+  pub searches : Searches both ignored asked.lines (folds_moves asked) found
   pub kept : Found
   pub keeps : Keeps both.graph ignored (room_for asked.lines) found kept
   pub is_none : none ≡ ((kept.whole && (length kept.list.items == 0)) && (length kept.moves.items == 0))

@@ -4,15 +4,15 @@ ghost use Rattle.yaml_definitions.specs.model.Same.{Alike};
 ghost use Rattle.yaml_graph.specs.GraphView.{roots_of, tree};
 ghost use Rattle.yaml_rank.specs.RanksView.{RanksAre};
 ghost use Rattle.yaml_diff.specs.Lines.{way_of};
-ghost use Rattle.yaml_diff.specs.Found.{FindsItems};
 ghost use Rattle.review_folds.specs.Folds.{Folds};
 ghost use Rattle.review_lines.specs.Lines.{lines_text};
 ghost use Rattle.review_lines.specs.Stat.{stat_text};
-ghost use Rattle.review_lines.specs.Compared.{room_of, room_for, search_room, is_numbered, has_left, has_right, path_as, ShowsNode, ShowsBoth, is_line, TellsMembers, TellsOne, TellsEach, TellsFound, TellsAsked, TellsStreams};
+ghost use Rattle.review_lines.specs.Compared.{room_of, is_numbered, has_left, has_right, path_as, ShowsNode, ShowsBoth, is_line, folds_moves, TellsMembers, TellsOne, TellsEach, TellsFound, TellsAsked, TellsStreams};
 
 use crate::lines::{Line, put_more};
-use crate::moved::lines_of_moves;
+use crate::moved::{MoveLines, lines_of_moves};
 use crate::nodes::{Places, find_places, place_at};
+use crate::search::{lists_none, room_for, searched};
 use crate::stat::stat_text;
 use crate::strings::{Budget, changed_lines, differing_parts};
 use review_args::{Diff, Form, Paths};
@@ -26,46 +26,10 @@ use review_text::path::path_text;
 use review_text::text::{CUT, WHOLE, node_text};
 use review_values::{Members, members_of};
 use std::alloc::Global;
-use yaml_diff::{Difference, Found, stream_differences};
+use yaml_diff::{Difference, Found};
 use yaml_graph::node::NodeId;
-use yaml_pair::Asked;
 use yaml_place::Place;
 use yaml_text::fault::Fault;
-
-/// The keys of texts, in each of which commas part them.
-fn keys_of<'a>(alloc: Global, texts: &[&'a str]) -> Result<Vec<&'a str>, Fault>
-    ensures err { IfErr result (λ fault. fault ≡ Fault.OutOfMemory) }
-{
-    let mut keys = Vec::new(alloc);
-    for text in texts {
-        for key in text.split(',') {
-            if !key.is_empty() {
-                keys.push(key)?;
-            }
-        }
-    }
-    Ok(keys)
-}
-
-/// The differences and moves of two streams, at most so many.
-pub(crate) fn list_of(
-    alloc: Global,
-    both: &Both<'_>,
-    asked: &Diff<'_>,
-    room: usize,
-) -> Result<Found, Fault>
-    requires ranked { RanksAre both.now.graph both.now.ranks }
-    ensures ok { IfOk result (FindsItems both.now.graph (take both.now.documents (roots_of both.now.graph)) (drop both.now.documents (roots_of both.now.graph)) room) }
-    ensures err { IfErr result (λ fault. fault ≡ Fault.OutOfMemory) }
-{
-    let (lefts, rights) = both.sides();
-    let by = keys_of(alloc, asked.by)?;
-    let asked = Asked {
-        by_position: asked.by_position,
-        by: &by,
-    };
-    stream_differences(alloc, &both.graph, &both.ranks, lefts, rights, asked, room)
-}
 
 /// The text of a node, if there is one.
 fn shown(
@@ -316,14 +280,18 @@ fn is_line(form: Form) -> bool
     }
 }
 
-/// Whether one line may tell several moves: in columns, if that is asked for.
+/// Whether one line may tell several moves: in columns, if that is asked for, and where lines are told.
 fn folds_moves(asked: &Diff<'_>) -> bool
-    ensures { result ≡ (is_line asked.now.form && asked.now.folds) }
+    ensures { result ≡ folds_moves asked.now }
 {
-    match asked.form {
-        Form::Line => asked.folds,
-        Form::Json => false,
-    }
+    !asked.stat && is_line(asked.form) && asked.folds
+}
+
+/// Whether all differences and moves were found, and lines tell all moves.
+fn is_all(found: &Found, moves: &MoveLines) -> bool
+    ensures { result ≡ (found.now.whole && moves.now.whole) }
+{
+    found.whole && moves.whole
 }
 
 /// The lines of listed differences and moves as text.
@@ -346,8 +314,8 @@ fn text_of(
     let moves = lines_of_moves(alloc, both, asked, traced, found, folds, labels)?;
     let mut text = String::new(alloc);
     put_each(alloc, &mut text, &lines, asked)?;
-    put_each(alloc, &mut text, &moves, asked)?;
-    if found.whole {
+    put_each(alloc, &mut text, &moves.lines, asked)?;
+    if is_all(found, &moves) {
         return Ok(text);
     }
     put_more(&mut text, asked.form)?;
@@ -390,36 +358,6 @@ fn told_text(
     asked_text(alloc, both, asked, sides, found)
 }
 
-/// How many differences are looked at where some are left out, at least.
-const SEARCHED: usize = 1_000_000;
-
-/// Room for so many lines or, where some differences are left out, for as many as are looked at.
-pub(crate) fn search_room(ignored: &[Pattern<'_>], room: usize) -> usize
-    ensures some { 0 < room → 0 < result }
-    ensures asked { result ≡ search_room ignored.now room }
-{
-    if ignored.is_empty() || SEARCHED < room {
-        room
-    } else {
-        SEARCHED
-    }
-}
-
-/// Whether all differences and moves are listed, and there is none.
-pub(crate) fn lists_none(found: &Found) -> bool
-    ensures { result ≡ ((found.now.whole && (length found.now.list.items == 0)) && (length found.now.moves.items == 0)) }
-{
-    found.whole && found.list.len() == 0 && found.moves.len() == 0
-}
-
-/// Room for so many lines, and for one at least, without which no list would tell whether there is a difference.
-pub(crate) fn room_for(lines: usize) -> usize
-    ensures some { 0 < result }
-    ensures asked { result ≡ room_for lines }
-{
-    if lines == 0 { 1 } else { lines }
-}
-
 /// What a comparison tells: its lines, and whether no difference is told.
 #[derive(Drop)]
 pub struct Compared {
@@ -441,9 +379,8 @@ pub fn compare(
     ensures text { IfOk result (λ told. TellsStreams both.now asked.now ignored.now told.same (string_bytes told.text)) }
     ensures same { IfOk result (λ told. ignored.now ≡ [] → ((told.same ≡ true) ↔ Alike (map (λ i. tree both.now.graph i.0) (take both.now.documents (roots_of both.now.graph))) (map (λ i. tree both.now.graph i.0) (drop both.now.documents (roots_of both.now.graph))))) }
 {
-    let room = room_for(asked.lines);
-    let found = list_of(alloc, both, asked, search_room(ignored, room))?;
-    let kept = kept(alloc, both, ignored, found, room)?;
+    let found = searched(alloc, both, asked, ignored, folds_moves(asked))?;
+    let kept = kept(alloc, both, ignored, found, room_for(asked.lines))?;
     let same = lists_none(&kept);
     let text = told_text(alloc, both, asked, sides, &kept)?;
     Ok(Compared { text, same })

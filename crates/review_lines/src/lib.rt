@@ -6,6 +6,7 @@ pub mod lines;
 pub mod listed;
 mod moved;
 mod nodes;
+mod search;
 mod stat;
 mod strings;
 

@@ -5,10 +5,11 @@ ghost use Rattle.yaml_graph.specs.GraphView.{roots_of, tree};
 ghost use Rattle.yaml_rank.specs.RanksView.{RanksAre};
 ghost use Rattle.review_lines.specs.Listed.{ListsFound, ListsStreams};
 
-use crate::diff::{lines_of, list_of, lists_none, room_for, search_room};
+use crate::diff::lines_of;
 use crate::lines::Line;
 use crate::moved::lines_of_moves;
 use crate::nodes::find_places;
+use crate::search::{lists_none, room_for, searched};
 use review_args::Diff;
 use review_ignore::kept;
 use review_patterns::Pattern;
@@ -46,8 +47,8 @@ fn lines_listed(
     let moves = lines_of_moves(alloc, both, asked, traced, found, false, false)?;
     Ok(Listed {
         lines,
-        moves,
-        whole: found.whole,
+        moves: moves.lines,
+        whole: found.whole && moves.whole,
         same: lists_none(found),
     })
 }
@@ -66,8 +67,7 @@ pub fn list_differences(
     ensures lists { IfOk result (ListsStreams both.now asked.now ignored.now) }
     ensures same { IfOk result (λ told. ignored.now ≡ [] → ((told.same ≡ true) ↔ Alike (map (λ i. tree both.now.graph i.0) (take both.now.documents (roots_of both.now.graph))) (map (λ i. tree both.now.graph i.0) (drop both.now.documents (roots_of both.now.graph))))) }
 {
-    let room = room_for(asked.lines);
-    let found = list_of(alloc, both, asked, search_room(ignored, room))?;
-    let kept = kept(alloc, both, ignored, found, room)?;
+    let found = searched(alloc, both, asked, ignored, false)?;
+    let kept = kept(alloc, both, ignored, found, room_for(asked.lines))?;
     lines_listed(alloc, both, asked, sides, &kept)
 }

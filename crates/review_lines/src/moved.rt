@@ -1,13 +1,15 @@
 //! The lines of items that moved.
-ghost use Rattle.std.specs.Prelude.{◌≡◌, ◌++◌, ◌∷◌, None, string_bytes, OnOk, IfOk};
+ghost use Rattle.std.specs.Prelude.{◌≡◌, ◌++◌, ◌∷◌, None, cond, take, option_map, is_some, string_bytes, OnOk, IfOk, IfSome};
 ghost use Rattle.yaml_rank.specs.RanksView.{RanksAre};
 ghost use Rattle.yaml_diff.specs.Lines.{way_of};
 ghost use Rattle.yaml_diff.specs.declared.difference.Step.TheVariants.{Item};
-ghost use Rattle.review_lines.specs.Compared.{is_numbered, path_as, is_plain, last_of, range_of, before_text, range_path, group_text, IsFirst, TellsGroup, TellsGroups, TellsMoves};
+ghost use Rattle.review_labels.specs.Labels.{label, AreKeys};
+ghost use Rattle.review_lines.specs.Compared.{is_numbered, room_of, path_as, is_plain, last_of, range_of, before_text, range_path, group_text, moves_room, IsFirst, TellsGroup, TellsGroups, TellsMoves};
 
 use crate::diff::{is_numbered, members_in, room_of};
 use crate::lines::Line;
 use crate::nodes::{find_places, place_at};
+use crate::search::room_for;
 use crate::strings::Budget;
 use review_args::{Diff, Paths};
 use review_folds::{Group, groups};
@@ -173,7 +175,8 @@ fn group_path(
     }
 }
 
-/// The label of a group, where labels are told.
+/// The label of a group, where there are keys.
+#[tactic(auto, using(crate::proofs::MoveLaws::label_some, crate::proofs::MoveLaws::label_none))]
 fn label_if(
     alloc: Global,
     both: &Both<'_>,
@@ -183,6 +186,8 @@ fn label_if(
     path: &[Step],
 ) -> Result<Option<String>, Fault>
     requires ranked { RanksAre both.now.graph both.now.ranks }
+    requires keys { IfSome keys.now (AreKeys both.now) }
+    ensures { IfOk result (λ told. option_map string_bytes told ≡ cond (is_some keys.now) (label both.now (room_of asked.now.whole) group path.now) None) }
 {
     match keys {
         Some(keys) => label_of(alloc, both, keys, group, path, room_of(asked.whole)),
@@ -202,7 +207,8 @@ fn line_of_group(
     places: (Option<Place>, Option<Place>),
 ) -> Result<Line, Fault>
     requires ranked { RanksAre both.now.graph both.now.ranks }
-    ensures { IfOk result (TellsGroup both.now asked.now moves.now group) }
+    requires keys { IfSome keys.now (AreKeys both.now) }
+    ensures { IfOk result (TellsGroup (is_some keys.now) both.now asked.now moves.now group) }
 {
     let first = first_of(alloc, moves, group)?;
     let last = last_of(moves, group);
@@ -244,7 +250,8 @@ fn lines_of_groups(
     sides: Option<(Traced<'_>, Traced<'_>)>,
 ) -> Result<Vec<Line>, Fault>
     requires ranked { RanksAre both.now.graph both.now.ranks }
-    ensures { IfOk result (λ lines. TellsGroups both.now asked.now moves.now groups.now lines.items) }
+    requires keys { IfSome keys.now (AreKeys both.now) }
+    ensures { IfOk result (λ lines. TellsGroups (is_some keys.now) both.now asked.now moves.now groups.now lines.items) }
 {
     let firsts = firsts(alloc, moves, groups)?;
     let sides = if firsts.is_empty() { None } else { sides };
@@ -261,20 +268,42 @@ fn lines_of_groups(
 }
 
 /// The keys that name items, where there are labels.
-fn keys_if(
-    alloc: Global,
-    both: &Both<'_>,
-    has_labels: bool,
-    groups: &[Group],
-) -> Result<Option<Keys>, Fault> {
-    if has_labels && !groups.is_empty() {
+fn keys_if(alloc: Global, both: &Both<'_>, has_labels: bool) -> Result<Option<Keys>, Fault>
+    requires ranked { RanksAre both.now.graph both.now.ranks }
+    ensures are { IfOk result (λ keys. IfSome keys (AreKeys both.now)) }
+    ensures told { IfOk result (λ keys. is_some keys ≡ has_labels) }
+{
+    if has_labels {
         return Ok(Some(Keys::new(alloc, both)?));
     }
     Ok(None)
 }
 
-/// The lines of pairs of items that moved, each with a label if that is asked for. With folds, one line may tell several pairs.
-#[tactic(auto, using(crate::proofs::CompareLaws::moves_told))]
+/// Lines of pairs of items that moved.
+#[derive(Drop)]
+pub(crate) struct MoveLines {
+    pub(crate) lines: Vec<Line>,
+    /// Whether they tell all pairs.
+    pub(crate) whole: bool,
+}
+
+/// How many lines of moves there is room for, behind those of the differences.
+fn moves_room(asked: &Diff<'_>, found: &Found) -> usize
+    ensures { result ≡ moves_room asked.now found.now }
+{
+    room_for(asked.lines).saturating_sub(found.list.len())
+}
+
+/// So many groups, or all if there are fewer.
+fn first_groups(groups: &[Group], room: usize) -> &[Group]
+    ensures { result.now ≡ take room groups.now }
+{
+    groups.get(..room).unwrap_or(groups)
+}
+
+/// The lines of pairs of items that moved, as far as there is room, each with a label if that is asked for. With folds, one line may tell
+/// several pairs.
+#[tactic(auto, using(crate::proofs::CompareLaws::moves_told, crate::proofs::CompareLaws::moves_untold))]
 pub(crate) fn lines_of_moves(
     alloc: Global,
     both: &Both<'_>,
@@ -283,12 +312,21 @@ pub(crate) fn lines_of_moves(
     found: &Found,
     folds: bool,
     has_labels: bool,
-) -> Result<Vec<Line>, Fault>
+) -> Result<MoveLines, Fault>
     requires ranked { RanksAre both.now.graph both.now.ranks }
-    ensures { IfOk result (λ lines. TellsMoves folds both.now asked.now found.now lines.items) }
+    ensures { IfOk result (λ told. TellsMoves folds has_labels both.now asked.now found.now told.lines.items told.whole) }
 {
     let groups = groups(alloc, folds, is_plain(asked.paths), found)?;
-    let keys = keys_if(alloc, both, has_labels, &groups)?;
-    let lines = lines_of_groups(alloc, both, asked, &found.moves, &groups, &keys, sides)?;
-    Ok(lines)
+    let room = moves_room(asked, found);
+    let told = first_groups(&groups, room);
+    let whole = groups.len() <= room;
+    if told.is_empty() {
+        return Ok(MoveLines {
+            lines: Vec::new(alloc),
+            whole,
+        });
+    }
+    let keys = keys_if(alloc, both, has_labels)?;
+    let lines = lines_of_groups(alloc, both, asked, &found.moves, told, &keys, sides)?;
+    Ok(MoveLines { lines, whole })
 }

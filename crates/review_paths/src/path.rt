@@ -1,5 +1,5 @@
 //! Paths as filters of jq and as JSON pointers.
-ghost use Rattle.std.specs.Prelude.{◌≡◌, ◌++◌, map, reverse, string_bytes, IfOk};
+ghost use Rattle.std.specs.Prelude.{◌≡◌, ◌++◌, map, reverse, string_bytes, IfOk, IfErr};
 ghost use Rattle.std.specs.List.{list_all, flat_map};
 ghost use Rattle.yaml_graph.specs.declared.graph.Graph.{Graph};
 ghost use Rattle.yaml_rank.specs.RanksView.{RanksAre};
@@ -39,7 +39,8 @@ fn has_dot(text: &str) -> bool
 
 /// A text with a dot before it, unless it has one.
 fn dotted(alloc: Global, text: String) -> Result<String, Fault>
-    ensures { IfOk result (λ s. string_bytes s ≡ dotted (string_bytes text)) }
+    ensures ok { IfOk result (λ s. string_bytes s ≡ dotted (string_bytes text)) }
+    ensures err { IfErr result (λ fault. fault ≡ Fault.OutOfMemory) }
 {
     if has_dot(&text) {
         return Ok(text);
@@ -52,7 +53,8 @@ fn dotted(alloc: Global, text: String) -> Result<String, Fault>
 
 /// A filter begins with a dot.
 fn begun(alloc: Global, text: String, is_filter: bool) -> Result<String, Fault>
-    ensures { IfOk result (λ s. string_bytes s ≡ begun is_filter (string_bytes text)) }
+    ensures ok { IfOk result (λ s. string_bytes s ≡ begun is_filter (string_bytes text)) }
+    ensures err { IfErr result (λ fault. fault ≡ Fault.OutOfMemory) }
 {
     if is_filter {
         dotted(alloc, text)
@@ -64,7 +66,8 @@ fn begun(alloc: Global, text: String, is_filter: bool) -> Result<String, Fault>
 /// What is written where a step cannot be pasted: the path as `path_text` has it, behind `!`.
 fn unfit(alloc: Global, both: &Both<'_>, path: &[Step], numbered: bool) -> Result<String, Fault>
     requires ranked { RanksAre both.now.graph both.now.ranks }
-    ensures { IfOk result (λ s. string_bytes s ≡ unfit numbered (way_of both.now.graph path.now)) }
+    ensures ok { IfOk result (λ s. string_bytes s ≡ unfit numbered (way_of both.now.graph path.now)) }
+    ensures err { IfErr result (λ fault. fault ≡ Fault.OutOfMemory) }
 {
     let plain = path_text(alloc, both, path, numbered)?;
     let mut text = String::new(alloc);
@@ -83,7 +86,8 @@ fn side_text(
     is_left: bool,
 ) -> Result<String, Fault>
     requires ranked { RanksAre both.now.graph both.now.ranks }
-    ensures { IfOk result (λ s. string_bytes s ≡ side_text is_filter numbered is_left (way_of both.now.graph path.now)) }
+    ensures ok { IfOk result (λ s. string_bytes s ≡ side_text is_filter numbered is_left (way_of both.now.graph path.now)) }
+    ensures err { IfErr result (λ fault. fault ≡ Fault.OutOfMemory) }
 {
     let steps = kept(path, numbered);
     let fit = fits(alloc, both, steps)?;
@@ -108,7 +112,8 @@ fn column_text(
     is_there: bool,
 ) -> Result<String, Fault>
     requires ranked { RanksAre both.now.graph both.now.ranks }
-    ensures { IfOk result (λ s. string_bytes s ≡ column_text is_there is_filter numbered is_left (way_of both.now.graph path.now)) }
+    ensures ok { IfOk result (λ s. string_bytes s ≡ column_text is_there is_filter numbered is_left (way_of both.now.graph path.now)) }
+    ensures err { IfErr result (λ fault. fault ≡ Fault.OutOfMemory) }
 {
     if is_there {
         return side_text(alloc, both, path, numbered, is_filter, is_left);
@@ -122,6 +127,9 @@ fn column_text(
 /// A side that has no node there has `-`. The number of the document is told as the place of an item, as `jq --slurp` has it, or not at
 /// all. A path with a key that is not a string, is longer than 65,536 bytes, or has a character that a terminal does not show is written
 /// by `path_text`, behind `!`.
+///
+/// # Errors
+/// `OutOfMemory`
 pub fn pasted(
     alloc: Global,
     both: &Both<'_>,
@@ -132,7 +140,8 @@ pub fn pasted(
     has_right: bool,
 ) -> Result<String, Fault>
     requires ranked { RanksAre both.now.graph both.now.ranks }
-    ensures { IfOk result (λ s. string_bytes s ≡ pasted is_filter numbered has_left has_right (way_of both.now.graph path.now)) }
+    ensures ok { IfOk result (λ s. string_bytes s ≡ pasted is_filter numbered has_left has_right (way_of both.now.graph path.now)) }
+    ensures err { IfErr result (λ fault. fault ≡ Fault.OutOfMemory) }
 {
     let mut text = column_text(alloc, both, path, numbered, is_filter, true, has_left)?;
     let right = column_text(alloc, both, path, numbered, is_filter, false, has_right)?;

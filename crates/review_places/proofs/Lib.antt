@@ -1,1 +1,5 @@
 mod TraceLaws
+mod Lists
+mod NodeLaws
+mod LayoutLaws
+mod SeatLaws

@@ -1,2 +1,6 @@
 pub mod Trace
+pub mod Nodes
+pub mod Layout
+pub mod Seats
+pub mod Trails
 pub mod Told

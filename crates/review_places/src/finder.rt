@@ -1,4 +1,12 @@
 //! Where the nodes of differences stand.
+ghost use Rattle.std.specs.Prelude.{◌≡◌, ◌+◌, ◌*◌, ◌∷◌, ◌++◌, [], ℕ, List, Some, length, nat_lt, slice_get, IfOk, IfErr, IfSome};
+ghost use Rattle.std.specs.Bool.{OnTrue};
+ghost use Rattle.yaml_graph.specs.declared.node.NodeId.{NodeId};
+ghost use Rattle.yaml_rank.specs.RanksView.{numbers_of};
+ghost use Rattle.yaml_diff.specs.declared.difference.Step.{Step};
+ghost use Rattle.review_places.specs.Layout.{offsets_of, alias_events, node_numbers, node_told};
+ghost use Rattle.review_places.specs.Seats.{layout_of, place_on, LeadsIn, LeadsDown, IsSeat, SameStream};
+
 use crate::layout::Layout;
 use review_text::Both;
 use std::alloc::Global;
@@ -17,7 +25,9 @@ pub enum Hand {
 
 impl Hand {
     /// The place of an item on this side.
-    fn place(self, places: Places) -> Option<usize> {
+    fn place(self, places: Places) -> Option<usize>
+        ensures { result ≡ place_on self places }
+    {
         match self {
             Hand::Left => places.left(),
             Hand::Right => places.right(),
@@ -87,7 +97,9 @@ impl KeyPlaces {
         mapping: NodeId,
         entries: &[(NodeId, NodeId)],
         key: NodeId,
-    ) -> Result<Option<usize>, Fault> {
+    ) -> Result<Option<usize>, Fault>
+        ensures err { IfErr result (λ fault. fault ≡ Fault.OutOfMemory) }
+    {
         if !self.mappings.contains_key(&mapping.0) {
             let mut keys = Vec::with_capacity(alloc, entries.len())?;
             for (place, entry) in entries.iter().enumerate() {
@@ -134,13 +146,20 @@ pub struct Seat {
 }
 
 /// The seat of the node that an event begins, or that it stands for.
-fn seat_of(layout: &Layout, event: usize, is_own: bool) -> Option<Seat> {
-    Some(Seat {
-        offset: layout.offset(event)?,
-        event,
-        node: layout.node(event),
-        is_own,
-    })
+fn seat_of(layout: &Layout, event: usize, is_own: bool) -> Option<Seat>
+    ensures event { IfSome result (λ seat. seat.event ≡ event) }
+    ensures offset { IfSome result (λ seat. slice_get (offsets_of layout.now) event ≡ Some seat.offset) }
+    ensures number { IfSome result (λ seat. seat.node ≡ node_told (slice_get (node_numbers layout.now) event)) }
+{
+    match layout.offset(event) {
+        Some(offset) => Some(Seat {
+            offset,
+            event,
+            node: layout.node(event),
+            is_own,
+        }),
+        None => None,
+    }
 }
 
 /// Where the nodes of one stream stand.
@@ -154,12 +173,11 @@ pub struct Finder<'g> {
 
 impl<'g> Finder<'g> {
     /// For a stream of this layout.
-    pub fn new(
-        alloc: Global,
-        both: &'g Both<'g>,
-        stream: Stream<'g>,
-        layout: Layout,
-    ) -> Finder<'g> {
+    pub fn new(alloc: Global, both: &'g Both<'g>, stream: Stream<'g>, layout: Layout) -> Finder<'g>
+        ensures both { result.both.now ≡ both.now }
+        ensures stream { result.stream ≡ stream.entry }
+        ensures layout { layout_of result ≡ layout }
+    {
         Finder {
             both,
             stream,
@@ -175,7 +193,10 @@ impl<'g> Finder<'g> {
         mapping: NodeId,
         entries: &[(NodeId, NodeId)],
         key: NodeId,
-    ) -> Result<Option<usize>, Fault> {
+    ) -> Result<Option<usize>, Fault>
+        ensures same { SameStream self.old self.new }
+        ensures err { IfErr result (λ fault. fault ≡ Fault.OutOfMemory) }
+    {
         let Some(own) = own_key(self.both, mapping, key) else {
             return Ok(None);
         };
@@ -191,8 +212,13 @@ impl<'g> Finder<'g> {
         alloc: Global,
         node: NodeId,
         step: Step,
-    ) -> Result<Option<(NodeId, usize)>, Fault> {
-        let Some(whole) = self.both.node(node) else {
+    ) -> Result<Option<(NodeId, usize)>, Fault>
+        ensures same { SameStream self.old self.new }
+        ensures down { IfOk result (λ found. IfSome found (λ part. LeadsDown self.old.both.now self.old.stream.hand step node part.0 part.1)) }
+        ensures err { IfErr result (λ fault. fault ≡ Fault.OutOfMemory) }
+    {
+        let both = self.both;
+        let Some(whole) = both.node(node) else {
             return Ok(None);
         };
         match (&whole.kind, step) {
@@ -201,58 +227,140 @@ impl<'g> Finder<'g> {
             }
             (NodeKind::Mapping(entries), Step::Value(key)) => {
                 let place = self.entry(alloc, node, entries, key)?;
-                Ok(value_at(entries, place))
+                Ok(value_at(both, entries, place, key))
             }
             _ => Ok(None),
         }
     }
 
     /// The node and the event of a document's root.
-    fn root(&self, step: Step) -> Option<(NodeId, usize)> {
+    fn root(&self, step: Step) -> Option<(NodeId, usize)>
+        ensures { IfSome result (λ root. LeadsIn self.now (step ∷ []) root.0 root.1) }
+    {
         let Step::Item(places) = step else {
             return None;
         };
         let document = self.stream.hand.place(places)?;
-        let node = self.stream.roots.get(document).copied()?;
+        let node = root_at(self.stream.roots, document)?;
         Some((node, self.layout.root(document)?))
     }
 
+    /// The part to which one more step leads from a node, and the event that begins it or stands for it.
+    fn further(
+        &mut self,
+        alloc: Global,
+        node: NodeId,
+        event: usize,
+        step: Step,
+    ) -> Result<Option<(NodeId, usize)>, Fault>
+        ensures same { SameStream self.old self.new }
+        ensures leads { (path : List Step) → LeadsIn self.old path node event → IfOk result (λ found. IfSome found (λ part. LeadsIn self.old (step ∷ path) part.0 part.1)) }
+        ensures err { IfErr result (λ fault. fault ≡ Fault.OutOfMemory) }
+    {
+        let Some(part) = self.step_down(alloc, node, step)? else {
+            return Ok(None);
+        };
+        match self.layout.below(event, part.1) {
+            Some(below) => Ok(Some((part.0, below))),
+            None => Ok(None),
+        }
+    }
+
     /// Whether the stream has an alias.
-    pub fn has_aliases(&self) -> bool {
+    pub fn has_aliases(&self) -> bool
+        ensures { result ≡ nat_lt 0 (length (alias_events (layout_of self.now))) }
+    {
         self.layout.has_aliases()
     }
 
-    /// Where the node stands to which a path leads.
-    pub fn seat(&mut self, alloc: Global, path: &[Step]) -> Result<Option<Seat>, Fault> {
-        let mut steps = path.iter().rev();
-        let Some((mut node, mut event)) = steps.next().and_then(|step| self.root(*step)) else {
-            return Ok(None);
-        };
+    /// The node and the event to which more steps lead, of which the last one comes first; and whether none of these events is an alias.
+    fn walk(
+        &mut self,
+        alloc: Global,
+        mut node: NodeId,
+        mut event: usize,
+        steps: &[Step],
+    ) -> Result<Option<(NodeId, usize, bool)>, Fault>
+        ensures same { SameStream self.old self.new }
+        ensures leads { (path : List Step) → LeadsIn self.old path node event → IfOk result (λ found. IfSome found (λ end. LeadsIn self.old (steps.now ++ path) end.0 end.1)) }
+        ensures err { IfErr result (λ fault. fault ≡ Fault.OutOfMemory) }
+    {
         let mut is_own = true;
-        for step in steps {
-            let Some((part, place)) = self.step_down(alloc, node, *step)? else {
+        'steps: for step in steps.iter().rev() {
+            let Some(part) = self.further(alloc, node, event, *step)? else {
                 return Ok(None);
             };
-            let Some(next) = self.layout.below(event, place) else {
-                return Ok(None);
-            };
-            node = part;
-            event = next;
+            node = part.0;
+            event = part.1;
             is_own = is_own && !self.layout.is_alias(event);
         }
-        Ok(seat_of(&self.layout, event, is_own))
+        Ok(Some((node, event, is_own)))
+    }
+
+    /// Where the node stands to which a path leads, which has its last step first.
+    ///
+    /// # Errors
+    /// `OutOfMemory`
+    pub fn seat(&mut self, alloc: Global, path: &[Step]) -> Result<Option<Seat>, Fault>
+        ensures seat { IfOk result (λ found. IfSome found (IsSeat self.old path.now)) }
+        ensures same { SameStream self.old self.new }
+        ensures err { IfErr result (λ fault. fault ≡ Fault.OutOfMemory) }
+    {
+        let Some((document, rest)) = path.split_last() else {
+            return Ok(None);
+        };
+        let Some(root) = self.root(*document) else {
+            return Ok(None);
+        };
+        let Some(end) = self.walk(alloc, root.0, root.1, rest)? else {
+            return Ok(None);
+        };
+        Ok(seat_of(&self.layout, end.1, end.2))
     }
 }
 
+/// The root of a document.
+fn root_at(roots: &[NodeId], document: usize) -> Option<NodeId>
+    ensures { result ≡ slice_get roots.now document }
+{
+    roots.get(document).copied()
+}
+
 /// The item at a place, and its number among the parts of its sequence.
-fn item_at(items: &[NodeId], place: Option<usize>) -> Option<(NodeId, usize)> {
+fn item_at(items: &[NodeId], place: Option<usize>) -> Option<(NodeId, usize)>
+    ensures { IfSome result (λ item. (place ≡ Some item.1) × (slice_get items.now item.1 ≡ Some item.0)) }
+{
     let place = place?;
     Some((*items.get(place)?, place))
 }
 
-/// The value of the entry at a place, and its number among the parts of its mapping.
-fn value_at(entries: &[(NodeId, NodeId)], place: Option<usize>) -> Option<(NodeId, usize)> {
+/// The number of a value among the parts of its mapping, by the place of its entry.
+fn value_number(place: usize) -> Option<usize>
+    ensures { IfSome result (λ number. number ≡ place * 2 + 1) }
+{
+    place.checked_mul(2)?.checked_add(1)
+}
+
+/// Whether two nodes have one rank, or neither has one.
+fn same_rank(both: &Both<'_>, one: NodeId, other: NodeId) -> bool
+    ensures { OnTrue result (slice_get (numbers_of both.now.ranks) one.0 ≡ slice_get (numbers_of both.now.ranks) other.0) }
+{
+    both.rank(one) == both.rank(other)
+}
+
+/// The value of the entry at a place, and its number among the parts of its mapping. The entry's key has the rank of this one.
+fn value_at(
+    both: &Both<'_>,
+    entries: &[(NodeId, NodeId)],
+    place: Option<usize>,
+    key: NodeId,
+) -> Option<(NodeId, usize)>
+    ensures { IfSome result (λ value. (k : ℕ) × (own : NodeId) × (slice_get entries.now k ≡ Some (own, value.0)) × (slice_get (numbers_of both.now.ranks) own.0 ≡ slice_get (numbers_of both.now.ranks) key.0) × (value.1 ≡ k * 2 + 1)) }
+{
     let place = place?;
-    let value = entries.get(place)?.1;
-    Some((value, place.saturating_mul(2).saturating_add(1)))
+    let (own, value) = *entries.get(place)?;
+    if !same_rank(both, own, key) {
+        return None;
+    }
+    Some((value, value_number(place)?))
 }

@@ -1,5 +1,5 @@
 //! Lines and columns of many offsets, in one pass over a text.
-ghost use Rattle.std.specs.Prelude.{◌≡◌, ◌≤◌, drop, length, IfOk};
+ghost use Rattle.std.specs.Prelude.{◌≡◌, ◌≤◌, drop, length, IfOk, IfErr};
 ghost use Rattle.std.specs.List.{All};
 ghost use Rattle.yaml_definitions.specs.model.Text.{mark_len};
 ghost use Rattle.yaml_place.specs.LineModel.{IsPlace};
@@ -50,7 +50,8 @@ pub fn places(
     text: &[u8],
     mut offsets: Vec<(usize, usize)>,
 ) -> Result<Vec<(usize, Place)>, Fault>
-    ensures { IfOk result (λ list. All (IsTold text.now offsets.items) list.items) }
+    ensures ok { IfOk result (λ list. All (IsTold text.now offsets.items) list.items) }
+    ensures err { IfErr result (λ fault. fault ≡ Fault.OutOfMemory) }
 {
     offsets.sort_unstable();
     let mut list = Vec::with_capacity(alloc, offsets.len())?;

@@ -1,8 +1,18 @@
 //! A stream's events, each with the offset of its own text. An empty node's offset is the end of its properties, or of the
 //! indicator that introduces it where it has none; an empty key without properties has the offset of its colon.
-ghost use Rattle.std.specs.Prelude.{◌≡◌, IfOk, IfErr, IfSome, Some, slice_get};
+ghost use Rattle.std.specs.Prelude.{◌≡◌, ◌⊎◌, List, IfOk, IfErr, IfSome, Some, slice_get};
 ghost use Rattle.std.specs.Bool.{OnTrue};
+ghost use Rattle.yaml_definitions.specs.model.Event.{Event as PlainEvent};
+ghost use Rattle.yaml_definitions.specs.model.Limits.{open_limit};
 ghost use Rattle.yaml_definitions.specs.grammar.Characters.{c-tag};
+ghost use Rattle.yaml_definitions.specs.grammar.Nodes.{wide};
+ghost use Rattle.yaml_definitions.specs.grammar.Streams.{ReadsText};
+ghost use Rattle.yaml_text.specs.LeafAnswer.{IsRefusal};
+ghost use Rattle.yaml_text.specs.Placed.{IsPlaced};
+ghost use Rattle.yaml_text.specs.Source.{text_of};
+ghost use Rattle.yaml_read.specs.Decided.{HasNoReading};
+ghost use Rattle.yaml_text.specs.EventModel.{event_of};
+ghost use Rattle.review_places.specs.Trace.{TraceHolds, shape_of};
 
 use std::alloc::Global;
 use std::borrow::CowStr;
@@ -67,8 +77,15 @@ pub struct Traced<'t> {
 }
 
 impl<'t> Traced<'t> {
+    ghost use Rattle.std.specs.Prelude.{◌≡◌, length};
+
     /// A stream whose events are all that were traced.
-    pub fn whole(bytes: &'t [u8], trace: &'t Trace) -> Traced<'t> {
+    pub fn whole(bytes: &'t [u8], trace: &'t Trace) -> Traced<'t>
+        ensures bytes { result.bytes.now ≡ bytes.now }
+        ensures trace { result.trace.now ≡ trace.now }
+        ensures first { result.first ≡ 0 }
+        ensures all { result.end ≡ length trace.now.events.items }
+    {
         Traced {
             bytes,
             trace,
@@ -79,7 +96,8 @@ impl<'t> Traced<'t> {
 }
 
 impl Trace {
-    ghost use Rattle.std.specs.Prelude.{◌≤◌, ◌+◌, length, []};
+    ghost use Rattle.std.specs.Prelude.{◌++◌, ◌∷◌, [], length, min, take, option_map};
+    ghost use Rattle.std.specs.List.{insert};
     ghost use Rattle.review_places.specs.Trace.{TraceHolds};
     ghost use Rattle.yaml_text.specs.declared.fault.Fault.TheVariants.{OutOfMemory};
 
@@ -235,7 +253,7 @@ impl Trace {
 
     /// Puts an event before that of a place, or at the end.
     fn grow(&mut self, place: usize, shape: Shape, at: usize) -> Result<(), Fault>
-        ensures ok { IfOk result (λ _. length self.new.events.items ≡ length self.old.events.items + 1) }
+        ensures ok { IfOk result (λ _. self.new.events.items ≡ insert self.old.events.items (min place (length self.old.events.items)) (shape, at)) }
         ensures err { IfErr result (λ e. e ≡ OutOfMemory) }
     {
         if self.lost {
@@ -250,7 +268,7 @@ impl Trace {
 
     /// Puts an event behind the others.
     fn put(&mut self, shape: Shape, at: usize) -> Result<(), Fault>
-        ensures ok { IfOk result (λ _. length self.new.events.items ≡ length self.old.events.items + 1) }
+        ensures ok { IfOk result (λ _. self.new.events.items ≡ self.old.events.items ++ ((shape, at) ∷ [])) }
         ensures err { IfErr result (λ e. e ≡ OutOfMemory) }
     {
         if self.lost {
@@ -263,16 +281,20 @@ impl Trace {
 
     /// Takes back the events from a place on.
     fn shorten(&mut self, len: usize)
-        ensures { len ≤ length self.old.events.items → length self.new.events.items ≡ len }
+        ensures { self.new.events.items ≡ take len self.old.events.items }
     {
         self.events.truncate(len);
         self.forget(len);
     }
 
     /// The offset of an event's own text.
-    pub fn offset(&self, event: usize) -> Option<usize> {
-        let (_, offset) = self.events.get(event)?;
-        Some(*offset as usize)
+    pub fn offset(&self, event: usize) -> Option<usize>
+        ensures { result ≡ option_map (λ traced. traced.1) (slice_get self.now.events.items event) }
+    {
+        match self.events.get(event) {
+            Some((_, offset)) => Some(*offset as usize),
+            None => None,
+        }
     }
 }
 
@@ -294,7 +316,10 @@ fn begins_tag(text: &[u8], at: usize) -> bool
     at < text.len() && text[at] == b'!'
 }
 
-fn shape_of(event: &Event<'_>) -> Shape {
+/// What an event does to the nodes that are open.
+fn shape_of(event: &Event<'_>) -> Shape
+    ensures { result ≡ shape_of (event_of event.now) }
+{
     match event {
         Event::Scalar { .. } => Shape::Scalar,
         Event::Alias { .. } => Shape::Alias,
@@ -353,7 +378,15 @@ impl Keeper for Trace {
 }
 
 /// Reads a text once more for the places of its events.
-pub fn trace_of(alloc: Global, source: &Chars<'_>) -> Result<Trace, Fault> {
+///
+/// # Errors
+/// `OutOfMemory`; of a text that the reader rejects, the reader's.
+pub fn trace_of(alloc: Global, source: &Chars<'_>) -> Result<Trace, Fault>
+    ensures ok { IfOk result (λ trace. (es : List PlainEvent) × ReadsText (text_of source.now) wide open_limit es × TraceHolds trace es) }
+    ensures err { IfErr result IsRefusal }
+    ensures decides { IfErr result (λ e. (e ≡ Fault.OutOfMemory) ⊎ HasNoReading (text_of source.now)) }
+    ensures placed { IfErr result (IsPlaced source.now) }
+{
     let mut out: Sink<'_, Trace> = Sink::Kept(Trace::new(alloc));
     read_into(alloc, source, &mut out)?;
     match out {

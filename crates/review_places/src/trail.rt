@@ -1,4 +1,8 @@
 //! Paths of events, where no graph is made.
+ghost use Rattle.std.specs.Prelude.{◌≡◌, [], IfOk, IfErr};
+ghost use Rattle.yaml_text.specs.EventModel.{event_of};
+ghost use Rattle.review_places.specs.Trails.{documents_before, documents_after, open_frames};
+
 use review_text::text::{put_all, put_scalar_key};
 use std::alloc::Global;
 use yaml_core::scalar::resolve;
@@ -31,7 +35,10 @@ pub struct Trail {
 
 impl Trail {
     /// No document yet.
-    pub fn new(alloc: Global) -> Trail {
+    pub fn new(alloc: Global) -> Trail
+        ensures document { documents_before result ≡ 0 }
+        ensures none { open_frames result ≡ [] }
+    {
         Trail {
             document: 0,
             frames: Vec::new(alloc),
@@ -39,7 +46,9 @@ impl Trail {
     }
 
     /// A node begins at the event of this number.
-    fn begin(&mut self, at: usize) {
+    fn begin(&mut self, at: usize)
+        ensures { documents_before self.new ≡ documents_before self.old }
+    {
         if let Some(frame) = self.frames.last_mut() {
             frame.key = frame.last;
             frame.last = at;
@@ -47,7 +56,10 @@ impl Trail {
         }
     }
 
-    fn open(&mut self, at: usize, is_mapping: bool) -> Result<(), Fault> {
+    fn open(&mut self, at: usize, is_mapping: bool) -> Result<(), Fault>
+        ensures document { documents_before self.new ≡ documents_before self.old }
+        ensures err { IfErr result (λ fault. fault ≡ Fault.OutOfMemory) }
+    {
         self.begin(at);
         self.frames.push(Frame {
             event: at,
@@ -60,7 +72,13 @@ impl Trail {
     }
 
     /// Takes the event of this number.
-    pub fn take(&mut self, at: usize, event: &Event<'_>) -> Result<(), Fault> {
+    ///
+    /// # Errors
+    /// `OutOfMemory`
+    pub fn take(&mut self, at: usize, event: &Event<'_>) -> Result<(), Fault>
+        ensures document { IfOk result (λ _. documents_before self.new ≡ documents_after (event_of event.now) (documents_before self.old)) }
+        ensures err { IfErr result (λ fault. fault ≡ Fault.OutOfMemory) }
+    {
         match event {
             Event::SequenceStart { .. } => self.open(at, false)?,
             Event::MappingStart { .. } => self.open(at, true)?,
@@ -86,12 +104,9 @@ impl Trail {
     }
 
     /// The steps from the document to the node that began last.
-    fn put_steps(
-        &self,
-        alloc: Global,
-        out: &mut String,
-        events: &[Event<'_>],
-    ) -> Result<(), Fault> {
+    fn put_steps(&self, alloc: Global, out: &mut String, events: &[Event<'_>]) -> Result<(), Fault>
+        ensures err { IfErr result (λ fault. fault ≡ Fault.OutOfMemory) }
+    {
         for frame in &self.frames {
             if frame.parts == 0 {
                 continue;
@@ -110,7 +125,12 @@ impl Trail {
 
     /// The path of the node that began last, in the stream of these events: the number of the document, unless it is the only one, and
     /// then the steps. The only document is `.`. The path of a key is that of its value, and a key that is no scalar is shown as `[?]`.
-    pub fn path(&self, alloc: Global, events: &[Event<'_>]) -> Result<String, Fault> {
+    ///
+    /// # Errors
+    /// `OutOfMemory`
+    pub fn path(&self, alloc: Global, events: &[Event<'_>]) -> Result<String, Fault>
+        ensures err { IfErr result (λ fault. fault ≡ Fault.OutOfMemory) }
+    {
         let mut out = String::new(alloc);
         if is_numbered(events) {
             let number = self.document;
@@ -134,7 +154,9 @@ fn is_numbered(events: &[Event<'_>]) -> bool {
 }
 
 /// The step to the value of the key that this event begins.
-fn put_key(alloc: Global, out: &mut String, event: Option<&Event<'_>>) -> Result<(), Fault> {
+fn put_key(alloc: Global, out: &mut String, event: Option<&Event<'_>>) -> Result<(), Fault>
+    ensures err { IfErr result (λ fault. fault ≡ Fault.OutOfMemory) }
+{
     match event {
         Some(
             Event::Scalar {
@@ -155,7 +177,9 @@ fn put_scalar_step(
     tag: &EventTag<'_>,
     style: Style,
     text: &str,
-) -> Result<(), Fault> {
+) -> Result<(), Fault>
+    ensures err { IfErr result (λ fault. fault ≡ Fault.OutOfMemory) }
+{
     match resolve(alloc, tag, style, text) {
         Ok(scalar) => put_scalar_key(alloc, out, scalar.tag.as_str(), scalar.content.as_str()),
         Err(_) => Ok(out.push_str(UNTOLD)?),

@@ -1,3 +1,4 @@
+pub mod Budget
 pub mod Json
 pub mod Members
 pub mod Values

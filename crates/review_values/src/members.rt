@@ -1,5 +1,5 @@
 //! What a program reads of a difference beside its texts.
-ghost use Rattle.std.specs.Prelude.{◌≡◌, string_bytes, IfOk};
+ghost use Rattle.std.specs.Prelude.{◌≡◌, string_bytes, IfOk, IfErr};
 ghost use Rattle.yaml_rank.specs.RanksView.{RanksAre};
 ghost use Rattle.review_values.specs.Members.{SaysNode, SaysMembers};
 
@@ -28,7 +28,8 @@ fn value_of(
     room: &mut Room,
 ) -> Result<Option<String>, Fault>
     requires ranked { RanksAre both.now.graph both.now.ranks }
-    ensures { IfOk result (SaysNode both.now.graph id) }
+    ensures ok { IfOk result (SaysNode both.now.graph id) }
+    ensures err { IfErr result (λ fault. fault ≡ Fault.OutOfMemory) }
 {
     match id {
         Some(id) => value_text(alloc, both, id, room),
@@ -47,7 +48,8 @@ pub fn members_of(
     room: &mut Room,
 ) -> Result<Members, Fault>
     requires ranked { RanksAre both.now.graph both.now.ranks }
-    ensures { IfOk result (SaysMembers both.now.graph difference.now) }
+    ensures ok { IfOk result (SaysMembers both.now.graph difference.now) }
+    ensures err { IfErr result (λ fault. fault ≡ Fault.OutOfMemory) }
 {
     Ok(Members {
         steps: steps_text(alloc, both, &difference.path)?,

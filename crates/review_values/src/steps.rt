@@ -1,5 +1,5 @@
 //! Paths as arrays of JSON.
-ghost use Rattle.std.specs.Prelude.{◌≡◌, ◌++◌, bytes_eq, nat_le, ◌&&◌, length, string_bytes, OnOk, IfOk, MatchOption};
+ghost use Rattle.std.specs.Prelude.{◌≡◌, ◌++◌, bytes_eq, nat_le, ◌&&◌, length, string_bytes, OnOk, IfOk, MatchOption, IfErr};
 ghost use Rattle.yaml_definitions.specs.model.Tag.{str_tag};
 ghost use Rattle.yaml_graph.specs.GraphView.{tree};
 ghost use Rattle.yaml_diff.specs.Lines.{step_of, way_of};
@@ -19,7 +19,8 @@ use yaml_text::fault::Fault;
 
 /// Writes the places of an item on the sides that have it.
 fn put_places(out: &mut String, places: Places) -> Result<(), Fault>
-    ensures { OnOk result (string_bytes out.new ≡ string_bytes out.old ++ places_json places) }
+    ensures ok { OnOk result (string_bytes out.new ≡ string_bytes out.old ++ places_json places) }
+    ensures err { IfErr result (λ fault. fault ≡ Fault.OutOfMemory) }
 {
     match places {
         Places::Both(left, right) => write!(out, "{{\"left\":{left},\"right\":{right}}}")?,
@@ -39,7 +40,8 @@ fn is_told(tag: &str, content: &str) -> bool
 
 /// Writes a key by its text, as a path has it between brackets.
 fn put_key_object(alloc: Global, out: &mut String, text: &str) -> Result<(), Fault>
-    ensures { OnOk result (string_bytes out.new ≡ string_bytes out.old ++ key_object text.now) }
+    ensures ok { OnOk result (string_bytes out.new ≡ string_bytes out.old ++ key_object text.now) }
+    ensures err { IfErr result (λ fault. fault ≡ Fault.OutOfMemory) }
 {
     out.push_str("{\"key\":")?;
     put_string(alloc, out, text)?;
@@ -69,7 +71,8 @@ fn content_of<'b>(both: &'b Both<'_>, key: NodeId) -> Option<&'b str>
 /// Writes a key: a str as a string, and any other key by its text.
 fn put_key(alloc: Global, out: &mut String, both: &Both<'_>, key: NodeId) -> Result<(), Fault>
     requires ranked { RanksAre both.now.graph both.now.ranks }
-    ensures { OnOk result (string_bytes out.new ≡ string_bytes out.old ++ key_json (tree both.now.graph key.0)) }
+    ensures ok { OnOk result (string_bytes out.new ≡ string_bytes out.old ++ key_json (tree both.now.graph key.0)) }
+    ensures err { IfErr result (λ fault. fault ≡ Fault.OutOfMemory) }
 {
     match content_of(both, key) {
         Some(content) => put_string(alloc, out, content),
@@ -80,7 +83,8 @@ fn put_key(alloc: Global, out: &mut String, both: &Both<'_>, key: NodeId) -> Res
 /// Writes a step that leads to an item, a document or the value of a key.
 fn put_step(alloc: Global, out: &mut String, both: &Both<'_>, step: Step) -> Result<(), Fault>
     requires ranked { RanksAre both.now.graph both.now.ranks }
-    ensures { OnOk result (string_bytes out.new ≡ string_bytes out.old ++ step_json (step_of both.now.graph step)) }
+    ensures ok { OnOk result (string_bytes out.new ≡ string_bytes out.old ++ step_json (step_of both.now.graph step)) }
+    ensures err { IfErr result (λ fault. fault ≡ Fault.OutOfMemory) }
 {
     match step {
         Step::Item(places) => put_places(out, places),
@@ -91,7 +95,8 @@ fn put_step(alloc: Global, out: &mut String, both: &Both<'_>, step: Step) -> Res
 /// Writes a step behind another.
 fn put_next(alloc: Global, out: &mut String, both: &Both<'_>, step: Step) -> Result<(), Fault>
     requires ranked { RanksAre both.now.graph both.now.ranks }
-    ensures { OnOk result (string_bytes out.new ≡ string_bytes out.old ++ next_json (step_of both.now.graph step)) }
+    ensures ok { OnOk result (string_bytes out.new ≡ string_bytes out.old ++ next_json (step_of both.now.graph step)) }
+    ensures err { IfErr result (λ fault. fault ≡ Fault.OutOfMemory) }
 {
     out.push(',')?;
     put_step(alloc, out, both, step)
@@ -100,7 +105,8 @@ fn put_next(alloc: Global, out: &mut String, both: &Both<'_>, step: Step) -> Res
 /// Writes the steps of a path, that to the document first.
 fn put_steps(alloc: Global, out: &mut String, both: &Both<'_>, path: &[Step]) -> Result<(), Fault>
     requires ranked { RanksAre both.now.graph both.now.ranks }
-    ensures { OnOk result (string_bytes out.new ≡ string_bytes out.old ++ inner_json (way_of both.now.graph path.now)) }
+    ensures ok { OnOk result (string_bytes out.new ≡ string_bytes out.old ++ inner_json (way_of both.now.graph path.now)) }
+    ensures err { IfErr result (λ fault. fault ≡ Fault.OutOfMemory) }
 {
     let Some((document, steps)) = path.split_last() else {
         return Ok(());
@@ -119,7 +125,8 @@ fn put_steps(alloc: Global, out: &mut String, both: &Both<'_>, path: &[Step]) ->
 /// `OutOfMemory`
 pub fn steps_text(alloc: Global, both: &Both<'_>, path: &[Step]) -> Result<String, Fault>
     requires ranked { RanksAre both.now.graph both.now.ranks }
-    ensures { IfOk result (λ s. string_bytes s ≡ steps_json (way_of both.now.graph path.now)) }
+    ensures ok { IfOk result (λ s. string_bytes s ≡ steps_json (way_of both.now.graph path.now)) }
+    ensures err { IfErr result (λ fault. fault ≡ Fault.OutOfMemory) }
 {
     let mut out = String::new(alloc);
     out.push('[')?;

@@ -11,6 +11,11 @@ pub enum Unsaid {
 }
 
 impl From<Stop> for Unsaid {
+    ghost use Rattle.std.specs.Prelude.{◌≡◌};
+    ghost use Rattle.review_values.specs.declared.unsaid.Unsaid.TheVariants.{Stopped};
+
+    ghost from_gives = { λ stop unsaid. unsaid ≡ Stopped stop };
+
     fn from(stop: Stop) -> Unsaid {
         Unsaid::Stopped(stop)
     }

@@ -1,5 +1,5 @@
 //! Nodes as values of JSON (RFC 8259).
-ghost use Rattle.std.specs.Prelude.{◌≡◌, ◌++◌, ◌∷◌, ◌&&◌, [], map, not, bytes_eq, codes, string_bytes, OnOk, IfOk, IfSome};
+ghost use Rattle.std.specs.Prelude.{◌≡◌, ◌++◌, ◌∷◌, ◌&&◌, [], map, not, bytes_eq, codes, string_bytes, OnOk, IfOk, IfSome, IfErr};
 ghost use Rattle.yaml_definitions.specs.model.Tree.{scalar};
 ghost use Rattle.yaml_definitions.specs.model.Tag.{str_tag, seq_tag, map_tag};
 ghost use Rattle.yaml_definitions.specs.model.Order.{arranged};
@@ -208,7 +208,8 @@ pub fn value_text(
     room: &mut Room,
 ) -> Result<Option<String>, Fault>
     requires ranked { RanksAre both.now.graph both.now.ranks }
-    ensures { IfOk result (λ text. IfSome text (λ json. IsValueOf (tree both.now.graph id.0) (string_bytes json))) }
+    ensures ok { IfOk result (λ text. IfSome text (λ json. IsValueOf (tree both.now.graph id.0) (string_bytes json))) }
+    ensures err { IfErr result (λ fault. fault ≡ Fault.OutOfMemory) }
 {
     let mut out = Out::new(alloc, room.next());
     let answer = put_value(both, id, LEVELS, &mut out);

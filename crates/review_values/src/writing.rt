@@ -1,5 +1,5 @@
 //! Members of an object of JSON (RFC 8259).
-ghost use Rattle.std.specs.Prelude.{◌≡◌, ◌++◌, option_map, string_bytes, OnOk};
+ghost use Rattle.std.specs.Prelude.{◌≡◌, ◌++◌, option_map, string_bytes, OnOk, IfErr};
 ghost use Rattle.review_values.specs.Json.{string_json, text_json, place_json, raw_text};
 
 use serde_json::Value;
@@ -9,7 +9,8 @@ use yaml_text::fault::Fault;
 
 /// Writes a text as a string of JSON.
 pub(crate) fn put_string(alloc: Global, out: &mut String, text: &str) -> Result<(), Fault>
-    ensures { OnOk result (string_bytes out.new ≡ string_bytes out.old ++ string_json text.now) }
+    ensures ok { OnOk result (string_bytes out.new ≡ string_bytes out.old ++ string_json text.now) }
+    ensures err { IfErr result (λ fault. fault ≡ Fault.OutOfMemory) }
 {
     let string = Value::try_from_str(alloc, text)?.to_string(alloc)?;
     out.push_str(string.as_str())?;
@@ -18,7 +19,8 @@ pub(crate) fn put_string(alloc: Global, out: &mut String, text: &str) -> Result<
 
 /// Writes a text as a string, or `null` for none.
 fn put_text_or_null(alloc: Global, out: &mut String, text: Option<&str>) -> Result<(), Fault>
-    ensures { OnOk result (string_bytes out.new ≡ string_bytes out.old ++ text_json (option_map (λ told. told.now) text.entry)) }
+    ensures ok { OnOk result (string_bytes out.new ≡ string_bytes out.old ++ text_json (option_map (λ told. told.now) text.entry)) }
+    ensures err { IfErr result (λ fault. fault ≡ Fault.OutOfMemory) }
 {
     match text {
         Some(text) => put_string(alloc, out, text),
@@ -36,7 +38,8 @@ pub fn put_text(
     front: &str,
     text: Option<&str>,
 ) -> Result<(), Fault>
-    ensures { OnOk result (string_bytes out.new ≡ string_bytes out.old ++ (front.now ++ text_json (option_map (λ told. told.now) text.entry))) }
+    ensures ok { OnOk result (string_bytes out.new ≡ string_bytes out.old ++ (front.now ++ text_json (option_map (λ told. told.now) text.entry))) }
+    ensures err { IfErr result (λ fault. fault ≡ Fault.OutOfMemory) }
 {
     out.push_str(front)?;
     put_text_or_null(alloc, out, text)
@@ -44,7 +47,8 @@ pub fn put_text(
 
 /// Writes what stands before a member's value, and then a place as an object, or `null` for none.
 pub fn put_place_json(out: &mut String, front: &str, place: Option<Place>) -> Result<(), Fault>
-    ensures { OnOk result (string_bytes out.new ≡ string_bytes out.old ++ (front.now ++ place_json place)) }
+    ensures ok { OnOk result (string_bytes out.new ≡ string_bytes out.old ++ (front.now ++ place_json place)) }
+    ensures err { IfErr result (λ fault. fault ≡ Fault.OutOfMemory) }
 {
     out.push_str(front)?;
     match place {
@@ -60,7 +64,8 @@ pub fn put_place_json(out: &mut String, front: &str, place: Option<Place>) -> Re
 
 /// Writes what stands before a member's value, and the value's own text; nothing for none.
 pub fn put_raw(out: &mut String, front: &str, text: Option<&str>) -> Result<(), Fault>
-    ensures { OnOk result (string_bytes out.new ≡ string_bytes out.old ++ raw_text front.now (option_map (λ told. told.now) text.entry)) }
+    ensures ok { OnOk result (string_bytes out.new ≡ string_bytes out.old ++ raw_text front.now (option_map (λ told. told.now) text.entry)) }
+    ensures err { IfErr result (λ fault. fault ≡ Fault.OutOfMemory) }
 {
     if let Some(text) = text {
         out.push_str(front)?;

@@ -173,6 +173,134 @@ static DIFFERENCES: [Row; 6] = [
     },
 ];
 
+/// 1,500 pairs of items.
+const PAIRS: Text = Text {
+    count: 1_500,
+    piece: "- #a\n- #b\n",
+    ..NONE
+};
+
+const SWAPPED: Text = Text {
+    piece: "- #b\n- #a\n",
+    ..PAIRS
+};
+
+/// 12 lists behind a key that changes.
+const LISTS: Text = Text {
+    front: "v: 1\n",
+    count: 12,
+    piece: "k#: [a, b, c, d]\n",
+    end: "",
+};
+
+const TURNED: Text = Text {
+    front: "v: 2\n",
+    piece: "k#: [d, c, b, a]\n",
+    ..LISTS
+};
+
+static MOVES: [Row; 6] = [
+    Row {
+        name: "3,000 items in another order are one line",
+        words: &["diff", "--no-places", "left", "right"],
+        left: PAIRS,
+        right: SWAPPED,
+        status: 1,
+        told: Text {
+            front: ">\t.\t3000 items in another order, none changed\t\n",
+            ..NONE
+        },
+        is_all: true,
+    },
+    Row {
+        name: "one of them that changed leaves lines of single moves, of which as many as are asked for",
+        words: &["diff", "--no-places", "--lines=4", "left", "right"],
+        left: Text {
+            front: "- {name: x, v: 1}\n",
+            ..PAIRS
+        },
+        right: Text {
+            front: "- {name: x, v: 2}\n",
+            ..SWAPPED
+        },
+        status: 1,
+        told: Text {
+            front: "~\t[0].v\t!!int \"1\"\t!!int \"2\"\n>\t[2:1]\t\"1b\"\t\n>\t[4:3]\t\"2b\"\t\n>\t[6:5]\t\"3b\"\t\n...\n",
+            ..NONE
+        },
+        is_all: true,
+    },
+    Row {
+        name: "of a difference and 12 lists in another order six lines",
+        words: &["diff", "--no-places", "--lines=6", "left", "right"],
+        left: LISTS,
+        right: TURNED,
+        status: 1,
+        told: Text {
+            front: "~\t.v\t!!int \"1\"\t!!int \"2\"\n",
+            count: 5,
+            piece: ">\t.k#\t4 items in another order, none changed\t\n",
+            end: "...\n",
+        },
+        is_all: true,
+    },
+    Row {
+        name: "of 12 lists all lines that are asked for",
+        words: &["diff", "--no-places", "--lines=13", "left", "right"],
+        left: LISTS,
+        right: TURNED,
+        status: 1,
+        told: Text {
+            front: "~\t.v\t!!int \"1\"\t!!int \"2\"\n",
+            count: 12,
+            piece: ">\t.k#\t4 items in another order, none changed\t\n",
+            end: "",
+        },
+        is_all: true,
+    },
+    Row {
+        name: "of the lists alone five lines",
+        words: &[
+            "diff",
+            "--no-places",
+            "--lines=5",
+            "--ignore=.v",
+            "left",
+            "right",
+        ],
+        left: LISTS,
+        right: TURNED,
+        status: 1,
+        told: Text {
+            front: "",
+            count: 5,
+            piece: ">\t.k#\t4 items in another order, none changed\t\n",
+            end: "...\n",
+        },
+        is_all: true,
+    },
+    Row {
+        name: "of their moves one line of JSON, and that there are more",
+        words: &[
+            "diff",
+            "--no-places",
+            "--format=json",
+            "--lines=1",
+            "--ignore=.v",
+            "left",
+            "right",
+        ],
+        left: LISTS,
+        right: TURNED,
+        status: 1,
+        told: Text {
+            front: "{\"kind\":\"moved\",\"left\":null,\"left_place\":null,\"path\":\".k1[3:0]\",\"right\":null,\"right_place\":null,\"steps\":[{\"left\":0,\"right\":0},\"k1\",{\"left\":3,\"right\":0}]}\n{\"kind\":\"more\"}\n",
+            ..NONE
+        },
+        is_all: true,
+    },
+];
+
 /// Of what is told of these, a line and a caret stand behind the message.
 static FAULTS: [Row; 4] = [
     Row {
@@ -285,7 +413,7 @@ fn is_told<T: Abort + AllocGlobal>(rt: &T, row: &Row) -> Result<(), Fail> {
 
 #[test]
 fn runs_over_long_files_are_told(rt: HostRuntime) -> Result<(), Fail> {
-    let tables: [&[Row]; 2] = [&DIFFERENCES, &FAULTS];
+    let tables: [&[Row]; 3] = [&DIFFERENCES, &MOVES, &FAULTS];
     for table in &tables {
         for row in *table {
             is_told(&rt, row)?;

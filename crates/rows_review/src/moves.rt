@@ -23,7 +23,7 @@ const SHUFFLED: &[u8] =
 const OBJECTS: &[u8] =
     b"--- {apiVersion: v1, kind: K, metadata: {name: a}}\n--- {apiVersion: v1, kind: K, metadata: {name: b}}\n--- {apiVersion: v1, kind: K, metadata: {name: c}}\n--- {apiVersion: v1, kind: K, metadata: {name: d}}\n--- {apiVersion: v1, kind: K, metadata: {name: e}}\n";
 
-pub static GROUPS: [Row; 20] = [
+pub static GROUPS: [Row; 22] = [
     Row {
         name: "neighbours that moved together",
         words: &["diff", "left", "right"],
@@ -166,6 +166,24 @@ pub static GROUPS: [Row; 20] = [
         right: b"{x: [d, c, a, b], y: 2}\n",
         status: 1,
         out: "~\t.y\t!!int \"1\"\t!!int \"2\"\n>\t.x\t4 items in another order, none changed\t\n",
+        err: "",
+    },
+    Row {
+        name: "differences that leave no line for a list in another order before them",
+        words: &["diff", "--no-places", "--lines=2", "left", "right"],
+        left: b"x: [a, b, c, d]\nv: 1\nw: 1\n",
+        right: b"x: [d, c, b, a]\nv: 2\nw: 2\n",
+        status: 1,
+        out: "~\t.v\t!!int \"1\"\t!!int \"2\"\n~\t.w\t!!int \"1\"\t!!int \"2\"\n...\n",
+        err: "",
+    },
+    Row {
+        name: "the same with a line more",
+        words: &["diff", "--no-places", "--lines=3", "left", "right"],
+        left: b"x: [a, b, c, d]\nv: 1\nw: 1\n",
+        right: b"x: [d, c, b, a]\nv: 2\nw: 2\n",
+        status: 1,
+        out: "~\t.v\t!!int \"1\"\t!!int \"2\"\n~\t.w\t!!int \"1\"\t!!int \"2\"\n>\t.x\t4 items in another order, none changed\t\n",
         err: "",
     },
     Row {

@@ -11,8 +11,8 @@ use Rattle.review_ignore.proofs.steps.step_texts.Goals as goal
 pub steps-init : goal.steps-init
 steps-init c = sym (append-nil _)
 
-pub returns : goal.returns
-returns c =
+pub returns-clause-ok : goal.returns-clause-ok
+returns-clause-ok c =
     let t = YieldsList-end (YieldsList-from_rev_slice c.in-Some.steps.now cc) c.steps.yielded _ c.steps.yielded_by _ _ c.in-None.is c.next.ensures.steps in
     let g = c.args.both.now.graph in
     let d = c.in-Some.document.now in

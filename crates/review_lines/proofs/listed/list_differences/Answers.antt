@@ -1,9 +1,7 @@
-use Rattle.std.proofs.Common.{◌≡◌, ◌&&◌, ◌==◌, length, ◌∙◌, ap, refl, subst, take, drop}
+use Rattle.std.proofs.Common.{◌∙◌, refl, subst, take, drop}
 use Rattle.yaml_graph.specs.GraphView.{roots_of}
-use Rattle.yaml_diff.specs.Found.{FindsItems}
 use Rattle.review_ignore.specs.Ignored.{Keeps}
-use Rattle.review_lines.specs.Compared.{room_for, search_room}
-use Rattle.review_lines.proofs.CompareLaws.{keeps-all}
+use Rattle.review_lines.proofs.CompareLaws.{keeps_none, some_room}
 use Rattle.review_lines.proofs.ListLaws.{if_ok}
 use Rattle.review_lines.proofs.SideLaws.{left_within, right_within}
 use Rattle.review_lines.proofs.SameLaws.{alike_by_list}
@@ -11,17 +9,12 @@ use Rattle.review_lines.proofs.listed.list_differences.Goals as goal
 
 pub returns-clause-lists : goal.returns-clause-lists
 returns-clause-lists c =
-    let g = c.args.both.now.graph in
-    let m = c.args.both.now.documents in
-    let f = c.in_ok-found.found in
-    let k = c.in_ok-kept.kept in
-    let room : c.room_for-room.result ≡ room_for c.args.asked.now.lines = c.room_for-room.ensures.asked in
     if_ok c.lines_listed.result
     (λ x h. record {
-      found = f;
-      finds = subst (λ n. FindsItems g (take m (roots_of g)) (drop m (roots_of g)) n f) (c.search_room.ensures.asked ∙ ap (search_room c.args.ignored.now) room) c.in_ok-found.ensures.ok;
-      kept = k;
-      keeps = subst (λ n. Keeps g c.args.ignored.now n f k) room c.in_ok-kept.ensures;
+      found = c.in_ok-found.found;
+      searches = c.in_ok-found.ensures.ok;
+      kept = c.in_ok-kept.kept;
+      keeps = subst (λ n. Keeps c.args.both.now.graph c.args.ignored.now n c.in_ok-found.found c.in_ok-kept.kept) c.room_for.ensures.asked c.in_ok-kept.ensures.ok;
       lists = h;
     })
     c.lines_listed.ensures
@@ -30,11 +23,10 @@ pub returns-clause-same : goal.returns-clause-same
 returns-clause-same c =
     let g = c.args.both.now.graph in
     let m = c.args.both.now.documents in
-    let f = c.in_ok-found.found in
+    let s = c.in_ok-found.ensures.ok in
     if_ok c.lines_listed.result
     (λ x h e.
-    let kept-all : c.in_ok-kept.kept ≡ f = keeps-all g c.args.ignored.now _ f c.in_ok-kept.kept e c.in_ok-kept.ensures in
-    alike_by_list g (take m (roots_of g)) (drop m (roots_of g)) c.search_room.result f x.same c.requires.ranked.keyed
-    (left_within g m (take m (roots_of g)) c.args.both.now.middle refl) (right_within g m (drop m (roots_of g)) refl) (c.search_room.ensures.some c.room_for-room.ensures.some) c.in_ok-found.ensures.ok
-    (h.is_none ∙ ap (λ z. (z.whole && (length z.list.items == 0)) && (length z.moves.items == 0)) kept-all))
+    alike_by_list g (take m (roots_of g)) (drop m (roots_of g)) s.room c.in_ok-found.found x.same c.requires.ranked.keyed
+    (left_within g m (take m (roots_of g)) c.args.both.now.middle refl) (right_within g m (drop m (roots_of g)) refl) (some_room c.args.ignored.now c.args.asked.now.lines s.room s.enough) s.finds
+    (h.is_none ∙ keeps_none g c.args.ignored.now c.room_for.result c.in_ok-found.found c.in_ok-kept.kept e c.room_for.ensures.some c.in_ok-kept.ensures.ok))
     c.lines_listed.ensures

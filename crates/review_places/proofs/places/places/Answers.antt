@@ -26,5 +26,5 @@ offsets-preserved c =
       within = omega (arith, c.min-to.ensures);
     }
 
-pub returns : goal.returns
-returns c = All-permutation (IsTold c.args.text.now c.args.offsets.items) c.offsets.list.items c.sort_unstable_by_key.new.self.items c.sort_unstable_by_key.ensures.permutation c.offsets.invariant.told
+pub returns-clause-ok : goal.returns-clause-ok
+returns-clause-ok c = All-permutation (IsTold c.args.text.now c.args.offsets.items) c.offsets.list.items c.sort_unstable_by_key.new.self.items c.sort_unstable_by_key.ensures.permutation c.offsets.invariant.told

@@ -6,4 +6,4 @@ use Rattle.review_places.proofs.TraceLaws.{if_ok, traced_put}
 use Rattle.review_places.proofs.trace.TraceKeeper.scalar.Goals as goal
 
 pub returns-clause-ok : goal.returns-clause-ok
-returns-clause-ok c = if_ok c.put.result c.put.ensures.ok (λ x g. traced_put c.args.self.now c.put.new.self (scalar_event None untagged (style_of c.args._style) (cow_str_bytes c.args._text.now)) g)
+returns-clause-ok c = if_ok c.put.result c.put.ensures.ok (λ x g. traced_put c.args.self.now c.put.new.self c.args.at (scalar_event None untagged (style_of c.args._style) (cow_str_bytes c.args._text.now)) g)

@@ -1,0 +1,5 @@
+mod KeyLaws
+mod LabelLaws
+mod LeftLaws
+mod NameLaws
+mod ValueLaws
