@@ -31,7 +31,7 @@ from concurrent.futures import ThreadPoolExecutor
 HERE = os.path.dirname(os.path.realpath(__file__))
 sys.path.insert(0, os.path.dirname(HERE))  # for lib
 from lib.arguments import parser
-from lib.paths import TOP
+from lib.paths import RT, TOP
 from lib.antt import File
 from lib.crates import write_list
 
@@ -113,7 +113,7 @@ class Room:
     def rt_check(self, crate):
         """What `rt check` says of a crate that is not proved, or nothing."""
         done = subprocess.run(
-            ["rt", "check", "--jobs", "1"],
+            [RT, "check", "--jobs", "1"],
             cwd="%s/crates/%s" % (self.folder, crate),
             capture_output=True,
             text=True,

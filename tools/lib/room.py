@@ -7,7 +7,7 @@ import sys
 import tempfile
 
 from lib.crates import crates_below, crates_of, write_list
-from lib.paths import read
+from lib.paths import RT, read
 from lib.mutants.said import Said
 
 PARTS = ("src", "specs", "proofs")
@@ -102,7 +102,7 @@ class Room:
             texts[path] = without(texts.get(path) or read(f"{self.at}/{path}"), goals)
         for path, text in texts.items():
             self.write(path, text, path in aside)
-        said = Said(self.run(["rt", "check", "--jobs", "1", *(word for name in only for word in ("--only", name))]))
+        said = Said(self.run([RT, "check", "--jobs", "1", *(word for name in only for word in ("--only", name))]))
         return self.check(changes, aside) if only and not said.status else said
 
     def write(self, path, text, may_go):

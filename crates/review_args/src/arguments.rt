@@ -1,5 +1,5 @@
 //! The arguments of the commands.
-ghost use Rattle.std.specs.Prelude.{◌≡◌, false};
+ghost use Rattle.std.specs.Prelude.{◌≡◌, codes, false};
 ghost use Rattle.clap.specs.Words.{rule_of};
 ghost use Rattle.review_args.specs.Grammar.{
   AreChoices,
@@ -206,4 +206,88 @@ pub(crate) fn format<'a>(alloc: Global, choices: &Choices<'a>) -> Arg<'a>
 {
     let help = "YAML in block style, or a line of JSON for each document";
     one_of(alloc, "format", "FORMAT", choices.formats, "yaml", help)
+}
+
+/// Whether lines and columns are left out.
+pub(crate) fn no_places<'a>(alloc: Global) -> Arg<'a>
+    ensures rule { rule_of result ≡ flag (codes "no-places") }
+    ensures local { result.global ≡ false }
+{
+    flag(alloc, "no-places", "Leave the lines and columns out")
+}
+
+/// Whether texts are shown whole.
+pub(crate) fn whole<'a>(alloc: Global) -> Arg<'a>
+    ensures rule { rule_of result ≡ flag (codes "whole") }
+    ensures local { result.global ≡ false }
+{
+    flag(alloc, "whole", "Show texts of more than 60 bytes whole")
+}
+
+/// The greatest number of lines of `diff`, whose default depends on other arguments.
+pub(crate) fn most<'a>(alloc: Global) -> Arg<'a>
+    ensures rule { rule_of result ≡ number (codes "lines") 1000000 }
+    ensures local { result.global ≡ false }
+{
+    let help =
+        "Print at most N lines (1000), and then `...` if there are more; 0 for the status alone";
+    number(alloc, "lines", 1_000_000, help)
+}
+
+/// Whether nothing is printed.
+pub(crate) fn quiet<'a>(alloc: Global) -> Arg<'a>
+    ensures rule { rule_of result ≡ letter (codes "quiet") 113 }
+    ensures local { result.global ≡ false }
+{
+    let help = "Print nothing; the status tells the result";
+    letter(alloc, "quiet", 'q', help)
+}
+
+/// Whether differences are counted.
+pub(crate) fn stat<'a>(alloc: Global) -> Arg<'a>
+    ensures rule { rule_of result ≡ flag (codes "stat") }
+    ensures local { result.global ≡ false }
+{
+    let help =
+        "Print how many differences there are: `+` only right, `-` only left, `~` changed, `>` moved";
+    flag(alloc, "stat", help)
+}
+
+/// Whether items are paired by their places.
+pub(crate) fn by_position<'a>(alloc: Global) -> Arg<'a>
+    ensures rule { rule_of result ≡ flag (codes "by-position") }
+    ensures local { result.global ≡ false }
+{
+    let help = "Pair items by their places, so that none moves";
+    flag(alloc, "by-position", help)
+}
+
+/// Keys that name items.
+pub(crate) fn by<'a>(alloc: Global) -> Arg<'a>
+    ensures rule { rule_of result ≡ repeated (codes "by") }
+    ensures local { result.global ≡ false }
+{
+    let help =
+        "Pair items first by the values of these keys, parted by commas: `host,spec.id`; repeatable";
+    repeated(alloc, "by", "KEYS", help)
+}
+
+/// Whether each change of an alias has a line.
+pub(crate) fn no_fold<'a>(alloc: Global) -> Arg<'a>
+    ensures rule { rule_of result ≡ flag (codes "no-fold") }
+    ensures local { result.global ≡ false }
+{
+    let help =
+        "Print a line for each place at which aliases show one change, and for each pair that moved";
+    flag(alloc, "no-fold", help)
+}
+
+/// Patterns of paths that are left out.
+pub(crate) fn ignore<'a>(alloc: Global) -> Arg<'a>
+    ensures rule { rule_of result ≡ repeated (codes "ignore") }
+    ensures local { result.global ≡ false }
+{
+    let help =
+        "Leave out what is at or below PATH: steps as they are printed, `*` for any step; repeatable";
+    repeated(alloc, "ignore", "PATH", help)
 }

@@ -20,8 +20,8 @@ ghost use Rattle.review_args.specs.Grammar.{
 };
 
 use crate::arguments::{
-    Choices, all_choices, color, file, files, flag, form, format, letter, lines, list, number,
-    repeated, spelling, unified, words,
+    Choices, all_choices, by, by_position, color, file, files, flag, form, format, ignore, lines,
+    list, most, no_fold, no_places, quiet, repeated, spelling, stat, unified, whole, words,
 };
 use clap::{Arg, Command};
 use std::alloc::{AllocError, Global};
@@ -110,49 +110,17 @@ fn diff<'a>(alloc: Global, choices: &Choices<'a>) -> Result<Command<'a>, AllocEr
     let args = vec![in alloc;
         file(alloc, "A", true, "The left file; `-` is standard input"),
         file(alloc, "B", true, "The right file"),
-        flag(alloc, "no-places", "Leave the lines and columns out"),
-        flag(alloc, "whole", "Show texts of more than 60 bytes whole"),
-        number(
-            alloc,
-            "lines",
-            1_000_000,
-            "Print at most N lines (1000), and then `...` if there are more; 0 for the status alone"
-        ),
+        no_places(alloc),
+        whole(alloc),
+        most(alloc),
         unified(alloc),
-        letter(
-            alloc,
-            "quiet",
-            'q',
-            "Print nothing; the status tells the result"
-        ),
-        flag(
-            alloc,
-            "stat",
-            "Print how many differences there are: `+` only right, `-` only left, `~` changed, `>` moved"
-        ),
-        flag(
-            alloc,
-            "by-position",
-            "Pair items by their places, so that none moves"
-        ),
-        repeated(
-            alloc,
-            "by",
-            "KEYS",
-            "Pair items first by the values of these keys, parted by commas: `host,spec.id`; repeatable"
-        ),
-        flag(
-            alloc,
-            "no-fold",
-            "Print a line for each place at which aliases show one change, and for each pair that moved"
-        ),
+        quiet(alloc),
+        stat(alloc),
+        by_position(alloc),
+        by(alloc),
+        no_fold(alloc),
         color(alloc, choices),
-        repeated(
-            alloc,
-            "ignore",
-            "PATH",
-            "Leave out what is at or below PATH: steps as they are printed, `*` for any step; repeatable"
-        ),
+        ignore(alloc),
         spelling(alloc, choices),
         form(alloc, choices),
     ]?;
@@ -284,18 +252,13 @@ fn merge3<'a>(alloc: Global, choices: &Choices<'a>) -> Result<Command<'a>, Alloc
             false,
             "What was made of both, to be checked"
         ),
-        flag(alloc, "no-places", "Leave the lines and columns out"),
-        flag(alloc, "whole", "Show texts of more than 60 bytes whole"),
+        no_places(alloc),
+        whole(alloc),
         lines(
             alloc,
             "Print at most N lines, and then `...` if there are more; 0 for the status alone"
         ),
-        letter(
-            alloc,
-            "quiet",
-            'q',
-            "Print nothing; the status tells the result"
-        ),
+        quiet(alloc),
         color(alloc, choices),
     ]?;
     command(

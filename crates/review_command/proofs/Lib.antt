@@ -1,4 +1,6 @@
+mod CommandLaws
 mod RejectionLaws
 mod GitLaws
 mod RunLaws
 mod MergeLaws
+mod FolderLaws

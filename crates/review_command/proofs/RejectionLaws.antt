@@ -9,6 +9,7 @@ use Rattle.yaml_text.specs.declared.counted.Counted.{Counted}
 use Rattle.review_args.specs.declared.words.Form.{Form}
 use Rattle.review_patterns.specs.declared.pattern.Pattern.{Pattern}
 use Rattle.review_args.specs.declared.words.Diff.{Diff}
+use Rattle.review_files.specs.Lines.{TakesLine}
 use Rattle.review_files.specs.Named.{AreNamed, NotBothRead, IsAnswer}
 use Rattle.review_files.specs.Statuses.{fault_status, unread_status}
 use Rattle.review_files.specs.Told.{TellsUnread, TellsAnswer, TellsBoth, TellsNotCompared}
@@ -17,7 +18,7 @@ use Rattle.review_files.specs.declared.unread.Unread.{Unread}
 use Rattle.review_files.specs.declared.unread.Unread.TheVariants as unread
 use Rattle.review_command.specs.Diffs.{DiffTells, DiffShows}
 use Rattle.review_command.specs.Runs.{DiffEnds, PageEnds}
-use Rattle.review_command.specs.Rejections.{TellsRejected, Refuses, DiffRefuses, PageRefuses, no_diff_status}
+use Rattle.review_command.specs.Rejections.{TellsRejected, Refuses, DiffRefuses, PageRefuses, no_diff_status, no_diff_line}
 use Rattle.review_command.specs.declared.diff.NoDiff.{NoDiff}
 use Rattle.review_command.specs.declared.diff.NoDiff.TheVariants as no
 
@@ -81,14 +82,14 @@ or_faulted holds rest asked (Err y) none h e f = subst (Refuses holds rest asked
 
 -- ---- how `diff` ends
 
-pub diff_ends : {R W E : Type 0} (holds : List ℕ → Option (List ℕ)) (remaining : R → Option (List ℕ)) (contents : W → Option (List ℕ)) (told : E → Option (List ℕ)) (asked : Diff) (ignored : List Pattern) (input : R) (old new : Counted W) (answer : Result ℕ NoDiff) (status : ℕ)
-    → IfOk answer (DiffTells holds (remaining input) contents asked ignored old new) → IfErr answer (DiffRefuses holds (remaining input) contents asked ignored old new) → IfOk answer (λ s. status ≡ s) → IfErr answer (λ none. status ≡ no_diff_status none)
-    → DiffEnds holds remaining contents told asked ignored input old new status
-diff_ends holds remaining contents told asked ignored input old new (Ok s) status t r e f = inl (subst (DiffTells holds (remaining input) contents asked ignored old new) (sym e) t)
-diff_ends holds remaining contents told asked ignored input old new (Err none) status t r e f = inr (none, r, f)
+pub diff_ends : {R W E : Type 0} (holds : List ℕ → Option (List ℕ)) (remaining : R → Option (List ℕ)) (contents : W → Option (List ℕ)) (told : E → Option (List ℕ)) (asked : Diff) (ignored : List Pattern) (input : R) (old new : Counted W) (err after : E) (answer : Result ℕ NoDiff) (status : ℕ)
+    → IfOk answer (DiffTells holds (remaining input) contents asked ignored old new) → IfErr answer (DiffRefuses holds (remaining input) contents asked ignored old new) → IfOk answer (λ s. status ≡ s) → IfErr answer (λ none. status ≡ no_diff_status none) → IfErr answer (λ none. TakesLine told err after (no_diff_line none))
+    → DiffEnds holds remaining contents told asked ignored input old new err status
+diff_ends holds remaining contents told asked ignored input old new err after (Ok s) status t r e f l = inl (subst (DiffTells holds (remaining input) contents asked ignored old new) (sym e) t)
+diff_ends holds remaining contents told asked ignored input old new err after (Err none) status t r e f l = inr (none, r, (f, (after, l)))
 
-pub page_ends : {R W E : Type 0} (holds : List ℕ → Option (List ℕ)) (remaining : R → Option (List ℕ)) (contents : W → Option (List ℕ)) (told : E → Option (List ℕ)) (asked : Diff) (ignored : List Pattern) (input : R) (old new : Counted W) (answer : Result ℕ NoDiff) (status : ℕ)
-    → IfOk answer (DiffShows holds (remaining input) contents asked ignored old new) → IfErr answer (PageRefuses holds (remaining input) contents asked ignored old new) → IfOk answer (λ s. status ≡ s) → IfErr answer (λ none. status ≡ no_diff_status none)
-    → PageEnds holds remaining contents told asked ignored input old new status
-page_ends holds remaining contents told asked ignored input old new (Ok s) status t r e f = inl (subst (DiffShows holds (remaining input) contents asked ignored old new) (sym e) t)
-page_ends holds remaining contents told asked ignored input old new (Err none) status t r e f = inr (none, r, f)
+pub page_ends : {R W E : Type 0} (holds : List ℕ → Option (List ℕ)) (remaining : R → Option (List ℕ)) (contents : W → Option (List ℕ)) (told : E → Option (List ℕ)) (asked : Diff) (ignored : List Pattern) (input : R) (old new : Counted W) (err after : E) (answer : Result ℕ NoDiff) (status : ℕ)
+    → IfOk answer (DiffShows holds (remaining input) contents asked ignored old new) → IfErr answer (PageRefuses holds (remaining input) contents asked ignored old new) → IfOk answer (λ s. status ≡ s) → IfErr answer (λ none. status ≡ no_diff_status none) → IfErr answer (λ none. TakesLine told err after (no_diff_line none))
+    → PageEnds holds remaining contents told asked ignored input old new err status
+page_ends holds remaining contents told asked ignored input old new err after (Ok s) status t r e f l = inl (subst (DiffShows holds (remaining input) contents asked ignored old new) (sym e) t)
+page_ends holds remaining contents told asked ignored input old new err after (Err none) status t r e f l = inr (none, r, (f, (after, l)))

@@ -1,3 +1,4 @@
+pub mod Commands
 pub mod Diffs
 pub mod Gits
 pub mod Rejections

@@ -9,10 +9,14 @@ use Rattle.review_patterns.specs.declared.pattern.Pattern.{Pattern}
 use Rattle.review_args.specs.declared.words.Diff.{Diff}
 use Rattle.review_compare.specs.Compared.{DiffLines, DiffLists}
 use Rattle.review_lines.specs.declared.listed.Listed.{Listed}
+use Rattle.review_files.specs.Lines.{TakesLine, bare_line}
 use Rattle.review_files.specs.Named.{AreNamed, IsAnswer, NotBothRead}
 use Rattle.review_files.specs.Statuses.{fault_status}
 use Rattle.review_files.specs.Told.{TellsBoth, TellsNotCompared}
 use Rattle.review_files.specs.declared.rejected.Named.{Named}
+use Rattle.review_merge.specs.Merges.{no_merge_status}
+use Rattle.review_merge.specs.declared.merge.NoMerge.{NoMerge}
+use Rattle.review_merge.specs.declared.merge.NoMerge.TheVariants as merge
 use Rattle.review_command.specs.declared.diff.NoDiff.{NoDiff}
 use Rattle.review_command.specs.declared.diff.NoDiff.TheVariants as no
 
@@ -70,3 +74,25 @@ abbrev pub no_diff_status : NoDiff → ℕ
 no_diff_status no.OneInput = 3
 no_diff_status (no.Rejected text status) = status
 no_diff_status (no.Fault fault) = fault_status fault
+
+-- and its line
+abbrev pub one_input_line : List ℕ
+one_input_line = codes "yamlreview: usage: `-` is standard input, which is read once\n"
+
+abbrev pub no_diff_line : NoDiff → List ℕ
+no_diff_line no.OneInput = one_input_line
+no_diff_line (no.Rejected text status) = string_bytes text
+no_diff_line (no.Fault fault) = bare_line fault
+
+-- standard error takes the line, and the status is its own
+abbrev pub TellsNoDiff : {E : Type 0} → (E → Option (List ℕ)) → NoDiff → E → ℕ → Type 0
+TellsNoDiff {E} told none err status = (status ≡ no_diff_status none) × ((after : E) × TakesLine told err after (no_diff_line none))
+
+-- the same of a merge of which nothing is said
+abbrev pub no_merge_line : NoMerge → List ℕ
+no_merge_line merge.OneInput = one_input_line
+no_merge_line (merge.Told text status) = string_bytes text
+no_merge_line (merge.Fault fault) = bare_line fault
+
+abbrev pub TellsNoMerge : {E : Type 0} → (E → Option (List ℕ)) → NoMerge → E → ℕ → Type 0
+TellsNoMerge {E} told none err status = (status ≡ no_merge_status none) × ((after : E) × TakesLine told err after (no_merge_line none))

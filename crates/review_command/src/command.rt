@@ -1,9 +1,13 @@
 //! The commands.
-ghost use Rattle.std.specs.Prelude.{◌≡◌, ◌<◌, ◌-◌, ◌^◌, map, IfOk, IfErr};
+ghost use Rattle.std.specs.Prelude.{◌≡◌, ◌<◌, ◌≤◌, ◌-◌, ◌^◌, false, map, string_bytes, IfOk, IfErr};
 ghost use Rattle.yaml_text.specs.CountedModel.{faults_of};
+ghost use Rattle.clap.specs.Words.{kind_of};
+ghost use Rattle.review_args.specs.Order.{in_order};
+ghost use Rattle.review_command.specs.Commands.{CommandEnds, FoldersEnd, HostDoes, HostDoesOne, TellsError, unknown};
 ghost use Rattle.review_command.specs.Gits.{GitEnds};
-ghost use Rattle.review_command.specs.Rejections.{no_diff_status};
-ghost use Rattle.review_command.specs.Runs.{DiffRuns, PageRuns, ReportsTell, PagesTell, MergeRuns, AsksSum, SumRuns, AsksMerge, Does};
+ghost use Rattle.review_files.specs.Lines.{TakesLine};
+ghost use Rattle.review_command.specs.Rejections.{no_diff_status, no_diff_line, no_merge_line};
+ghost use Rattle.review_command.specs.Runs.{DiffRuns, PageRuns, ReportsTell, PagesTell, MergeRuns, AsksSum, SumRuns, is_unnamed, AsksMerge, Does};
 ghost use Rattle.review_merge.specs.Merges.{no_merge_status};
 
 use crate::diff::{NoDiff, diff, diff_page};
@@ -32,6 +36,9 @@ use yaml_text::counted::Counted;
 use yaml_text::fault::Fault;
 
 const DONE: u8 = 0;
+
+/// The status of an input that is rejected.
+const REJECTED: u8 = 2;
 
 /// What is wrong with words that give a command, and are none that it can do.
 const ONE_INPUT: &str = "yamlreview: usage: `-` is standard input, which is read once\n";
@@ -66,6 +73,7 @@ fn git<S: Shelf, W: Write, E: Write>(
 fn diff_status<E: Write>(answer: Result<u8, NoDiff>, err: &mut E) -> u8
     ensures ok { IfOk answer (λ status. result ≡ status) }
     ensures err { IfErr answer (λ none. result ≡ no_diff_status none) }
+    ensures told { IfErr answer (λ none. TakesLine E.contents err.old err.new (no_diff_line none)) }
 {
     match answer {
         Ok(status) => status,
@@ -104,6 +112,7 @@ fn merge_print(asked: &Merge<'_>) -> Print {
 fn merge_status<E: Write>(answer: Result<u8, NoMerge>, err: &mut E) -> u8
     ensures ok { IfOk answer (λ status. result ≡ status) }
     ensures err { IfErr answer (λ none. result ≡ no_merge_status none) }
+    ensures told { IfErr answer (λ none. TakesLine E.contents err.old err.new (no_merge_line none)) }
 {
     match answer {
         Ok(status) => status,
@@ -126,7 +135,7 @@ fn compare<S: Shelf, R: Read + Drop, W: Write + Drop, E: Write + Drop>(
     out: W,
     mut err: E,
 ) -> u8
-    ensures { DiffRuns (S.holds shelf.now) R.remaining W.contents E.contents asked.now ignored.now input out result }
+    ensures { DiffRuns (S.holds shelf.now) R.remaining W.contents E.contents asked.now ignored.now input out err result }
 {
     let mut out = Counted::new(out);
     let answer = diff(shelf, alloc, asked, ignored, &mut input, &mut out);
@@ -143,7 +152,7 @@ fn compare_as<S: Shelf, R: Read + Drop, W: Write + Drop, E: Write + Drop>(
     out: W,
     mut err: E,
 ) -> u8
-    ensures { PageRuns (S.holds shelf.now) R.remaining W.contents E.contents told.entry.0.now ignored.now input out result }
+    ensures { PageRuns (S.holds shelf.now) R.remaining W.contents E.contents told.entry.0.now ignored.now input out err result }
 {
     let mut out = Counted::new(out);
     let answer = diff_page(shelf, alloc, told, ignored, &mut input, &mut out);
@@ -176,7 +185,7 @@ fn report_as<S: Shelf, R: Read + Drop, W: Write + Drop, E: Write + Drop>(
     out: W,
     mut err: E,
 ) -> u8
-    ensures { PagesTell (S.holds shelf.now) R.remaining W.contents E.contents told.entry.0 asked.now input out result }
+    ensures { PagesTell (S.holds shelf.now) R.remaining W.contents E.contents told.entry.0 told.entry.1 asked.now input out result }
 {
     let mut out = Counted::new(out);
     pages(shelf, alloc, told, asked, &mut input, &mut out, &mut err)
@@ -191,7 +200,7 @@ fn merge<S: Shelf, R: Read + Drop, W: Write + Drop, E: Write + Drop>(
     out: W,
     mut err: E,
 ) -> u8
-    ensures { MergeRuns (S.holds shelf.now) R.remaining W.contents E.contents asked.now input out result }
+    ensures { MergeRuns (S.holds shelf.now) R.remaining W.contents E.contents asked.now input out err result }
 {
     let names = merge_names(asked);
     let mut out = Counted::new(out);
@@ -257,6 +266,16 @@ fn sum_asked<'b, 'a: 'b>(asked: &'b Sum<'a>) -> SumAsked<'b>
     }
 }
 
+/// Whether there is a list whose name is not UTF-8: it was given with NUL.
+fn is_unnamed(asked: SumAsked<'_>) -> bool
+    ensures { result ≡ is_unnamed asked.entry }
+{
+    match asked {
+        SumAsked::Files(_) => false,
+        SumAsked::FilesFrom(list) | SumAsked::Check(list) => list.as_bytes().contains(&0),
+    }
+}
+
 /// Makes or checks sums. A list whose name is not UTF-8 is not opened.
 fn sum<S: Shelf, R: Read + Drop, W: Write + Drop, E: Write + Drop>(
     shelf: &S,
@@ -269,7 +288,7 @@ fn sum<S: Shelf, R: Read + Drop, W: Write + Drop, E: Write + Drop>(
     ensures { SumRuns (S.holds shelf.now) R.remaining W.contents E.contents asked.entry input out err result }
 {
     match asked.list() {
-        Some(list) if list.contains('\0') => {
+        Some(list) if is_unnamed(asked) => {
             let unread = Unread::CannotOpen(Reason::NotUtf8);
             tell_unread(alloc, list, unread, &mut err)
         }
@@ -291,43 +310,112 @@ fn error_text(alloc: Global, error: &Error) -> Result<String, Fault> {
 }
 
 /// Tells why words ask for no command: the help and the version on the output, what is wrong with them on standard error.
-fn told<W: Write, E: Write>(alloc: Global, error: Error, out: &mut W, err: &mut E) -> u8 {
+fn told<W: Write + Drop, E: Write + Drop>(alloc: Global, error: Error, out: W, mut err: E) -> u8
+    ensures { TellsError W.contents E.contents (kind_of error) out err result }
+{
     let text = match error_text(alloc, &error) {
         Ok(text) => text,
-        Err(fault) => return tell_bare(fault, err),
+        Err(_) => return tell_bare(Fault::OutOfMemory, &mut err),
     };
     if error.use_stderr() {
-        put_line(&text, err);
+        put_line(&text, &mut err);
         return UNUSABLE;
     }
-    match write_out(&mut Counted::new(out), text.as_bytes()) {
+    let mut out = Counted::new(out);
+    match write_out(&mut out, text.as_bytes()) {
         Ok(()) => DONE,
-        Err(fault) => tell_bare(fault, err),
+        Err(fault) => tell_bare(fault, &mut err),
     }
 }
 
+/// The status, or that of an input that is rejected if it is less.
+fn at_least(status: u8) -> u8
+    ensures { 2 ≤ result }
+{
+    if status < REJECTED { REJECTED } else { status }
+}
+
 /// Compares the files of two folders, as lines or as a page, and answers the status.
-fn folders<T: Files + AllocGlobal + Clone + Drop, W: Write, E: Write>(
+#[tactic(auto, using(crate::proofs::FolderLaws::folders_cut, crate::proofs::FolderLaws::folders_printed, crate::proofs::FolderLaws::folders_shown))]
+fn compare_folders<T: Files + AllocGlobal + Clone + Drop, W: Write + Drop, E: Write + Drop>(
     rt: &T,
     alloc: Global,
-    asked: &Diff<'_>,
-    page: Option<Page>,
+    told: (&Diff<'_>, Option<Page>),
     ignored: &[Pattern<'_>],
-    out: &mut W,
-    err: &mut E,
-) -> u8 {
-    let names = match names_of(rt, alloc, asked, err) {
+    out: W,
+    mut err: E,
+) -> u8
+    ensures { FoldersEnd W.contents E.contents told.entry.0.now ignored.now told.entry.1 out result }
+{
+    let (asked, page) = told;
+    let names = match names_of(rt, alloc, asked, &mut err) {
         Ok(names) => names,
-        Err(status) => return status,
+        Err(status) => return at_least(status),
     };
     let entries = match names.entries(alloc) {
         Ok(entries) => entries,
-        Err(fault) => return tell_bare(fault, err),
+        Err(_) => return tell_bare(Fault::OutOfMemory, &mut err),
     };
     let shelf = Host::new(rt);
+    let mut out = Counted::new(out);
     match page {
-        None => folder_lines(&shelf, alloc, asked, ignored, &entries, out, err),
-        Some(page) => folder_page(&shelf, alloc, (asked, page), ignored, &entries, out, err),
+        None => folder_lines(&shelf, alloc, asked, ignored, &entries, &mut out, &mut err),
+        Some(page) => {
+            let told = (asked, page);
+            folder_page(&shelf, alloc, told, ignored, &entries, &mut out, &mut err)
+        }
+    }
+}
+
+/// Whether `diff` is asked for, of two folders.
+fn are_of_folders<T: Files>(rt: &T, asked: &Asked<'_>) -> bool {
+    match asked {
+        Asked::Diff(asked, _) | Asked::DiffPage(_, asked, _) => are_folders(rt, asked),
+        _ => false,
+    }
+}
+
+/// Does what is asked over the files that `rt` opens, and answers the status. Sums are made of regular files alone.
+fn run_files<T: Files, R: Read + Drop, W: Write + Drop, E: Write + Drop>(
+    rt: &T,
+    alloc: Global,
+    asked: Asked<'_>,
+    input: R,
+    out: W,
+    err: E,
+) -> u8
+    ensures { Does unknown R.remaining W.contents E.contents asked.entry input out err result }
+{
+    match asked {
+        Asked::Sum(asked) => {
+            let asked = sum_asked(&asked);
+            let shelf = Regular::new(rt, asked.list());
+            sum(&shelf, alloc, asked, input, out, err)
+        }
+        asked => run(&Host::new(rt), alloc, asked, input, out, err),
+    }
+}
+
+/// The same where it is known whether `diff` is asked for two folders.
+fn run_host<
+    T: Files + AllocGlobal + Clone + Drop,
+    R: Read + Drop,
+    W: Write + Drop,
+    E: Write + Drop,
+>(rt: &T, alloc: Global, asked: Asked<'_>, folders: bool, input: R, out: W, err: E) -> u8
+    ensures { HostDoes R.remaining W.contents E.contents folders asked.entry input out err result }
+{
+    if !folders {
+        return run_files(rt, alloc, asked, input, out, err);
+    }
+    match asked {
+        Asked::Diff(asked, ignored) => {
+            compare_folders(rt, alloc, (&asked, None), &ignored, out, err)
+        }
+        Asked::DiffPage(page, asked, ignored) => {
+            compare_folders(rt, alloc, (&asked, Some(page)), &ignored, out, err)
+        }
+        asked => run_files(rt, alloc, asked, input, out, err),
     }
 }
 
@@ -339,9 +427,11 @@ pub fn command_over<S: Shelf, R: Read + Drop, W: Write + Drop, E: Write + Drop>(
     alloc: Global,
     words: &[String],
     input: R,
-    mut out: W,
+    out: W,
     mut err: E,
-) -> u8 {
+) -> u8
+    ensures { CommandEnds W.contents E.contents (λ asked. Does (S.holds shelf.now) R.remaining W.contents E.contents asked input out err) (in_order (map string_bytes words.now)) false out err result }
+{
     let words = match in_order(alloc, words) {
         Ok(words) => words,
         Err(_) => return tell_bare(Fault::OutOfMemory, &mut err),
@@ -352,7 +442,7 @@ pub fn command_over<S: Shelf, R: Read + Drop, W: Write + Drop, E: Write + Drop>(
     };
     match read_words(alloc, &words, &by, false) {
         Ok(asked) => run(shelf, alloc, asked, input, out, err),
-        Err(error) => told(alloc, error, &mut out, &mut err),
+        Err(error) => told(alloc, error, out, err),
     }
 }
 
@@ -363,15 +453,9 @@ pub fn command<
     R: Read + Drop,
     W: Write + Drop,
     E: Write + Drop,
->(
-    rt: &T,
-    alloc: Global,
-    words: &[String],
-    input: R,
-    mut out: W,
-    mut err: E,
-    is_terminal: bool,
-) -> u8 {
+>(rt: &T, alloc: Global, words: &[String], input: R, out: W, mut err: E, is_terminal: bool) -> u8
+    ensures { CommandEnds W.contents E.contents (HostDoesOne R.remaining W.contents E.contents input out err) (in_order (map string_bytes words.now)) is_terminal out err result }
+{
     let words = match in_order(alloc, words) {
         Ok(words) => words,
         Err(_) => return tell_bare(Fault::OutOfMemory, &mut err),
@@ -381,26 +465,10 @@ pub fn command<
         Err(_) => return tell_bare(Fault::OutOfMemory, &mut err),
     };
     match read_words(alloc, &words, &by, is_terminal) {
-        Ok(Asked::Sum(asked)) => {
-            let asked = sum_asked(&asked);
-            let shelf = Regular::new(rt, asked.list());
-            sum(&shelf, alloc, asked, input, out, err)
+        Ok(asked) => {
+            let folders = are_of_folders(rt, &asked);
+            run_host(rt, alloc, asked, folders, input, out, err)
         }
-        Ok(Asked::Diff(asked, ignored)) => {
-            if are_folders(rt, &asked) {
-                return folders(rt, alloc, &asked, None, &ignored, &mut out, &mut err);
-            }
-            let asked = Asked::Diff(asked, ignored);
-            run(&Host::new(rt), alloc, asked, input, out, err)
-        }
-        Ok(Asked::DiffPage(page, asked, ignored)) => {
-            if are_folders(rt, &asked) {
-                return folders(rt, alloc, &asked, Some(page), &ignored, &mut out, &mut err);
-            }
-            let asked = Asked::DiffPage(page, asked, ignored);
-            run(&Host::new(rt), alloc, asked, input, out, err)
-        }
-        Ok(asked) => run(&Host::new(rt), alloc, asked, input, out, err),
-        Err(error) => told(alloc, error, &mut out, &mut err),
+        Err(error) => told(alloc, error, out, err),
     }
 }

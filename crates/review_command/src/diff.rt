@@ -137,7 +137,7 @@ fn listed_text(
     let mut parts = Vec::new(alloc);
     parts.push(Part {
         name: None,
-        list: list_found(alloc, asked, listed, asked.left, asked.right)?,
+        list: list_found(alloc, listed, asked.left, asked.right)?,
         shown: lines_shown(alloc, page, asked.left, left, asked.right, right)?,
         whole: listed.whole,
     })?;

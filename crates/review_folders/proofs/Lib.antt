@@ -1,2 +1,3 @@
-mod FolderLaws
+mod LineLaws
+mod PartLaws
 mod StatusLaws

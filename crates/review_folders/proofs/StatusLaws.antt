@@ -1,17 +1,27 @@
--- The status of a file in two folders.
+-- A file in two folders.
 use Rattle.std.specs.Prelude.{IfOk, IfErr}
 use Rattle.std.proofs.Common.{◌≡◌, ℕ, max, Bool, cond, List, [], Option, Result, Ok, Err, Vec, inr, inl, sym, ◌∙◌, subst}
 use Rattle.std.specs.declared.alloc.Global.{Global}
+use Rattle.yaml_text.specs.declared.fault.Fault.{Fault}
 use Rattle.yaml_text.specs.declared.side.Side.{Side}
 use Rattle.yaml_canon.specs.Comparing.{Compares}
 use Rattle.yaml_command.specs.Shelves.{IsOf}
 use Rattle.review_patterns.specs.declared.pattern.Pattern.{Pattern}
 use Rattle.review_args.specs.declared.words.Diff.{Diff}
+use Rattle.review_args.specs.declared.words.Form.{Form}
+use Rattle.review_args.specs.declared.words.Page.{Page}
+use Rattle.review_formats.specs.declared.finding.Finding.{Finding}
+use Rattle.review_formats.specs.declared.finding.Shown.{Shown}
+use Rattle.review_lines.specs.declared.listed.Listed.{Listed}
+use Rattle.review_compare.specs.Compared.{DiffLines, DiffLists}
 use Rattle.review_files.specs.Named.{IsUnread, NotBothRead}
 use Rattle.review_files.specs.Told.{TellsFile, TellsBoth, TellsNotCompared}
 use Rattle.review_files.specs.declared.rejected.Named.{Named}
 use Rattle.review_files.specs.declared.unread.Unread.{Unread}
-use Rattle.review_folders.specs.Folders.{IsPath, AsksAlike, LeavesNone, IsRead, NewStatus, BothStatus}
+use Rattle.review_folders.specs.Folders.{IsPath, IsRead, AreCompared, AreRejected, NewTold}
+use Rattle.review_folders.specs.Pages.{BytesFaults, AnswerFaults, FileFaults}
+use Rattle.review_folders.specs.Parts.{ShowsLines}
+use Rattle.review_folders.specs.Printed.{lines_text, AsksFiles, LinesCompared}
 
 -- not both are read
 pub left_unread : (a b : Result (Vec ℕ Global) Unread) (why : Unread) → a ≡ Err why → NotBothRead a b
@@ -27,9 +37,19 @@ read_is held answer bytes e h =
     let P : Result (Vec ℕ Global) Unread → Type 0 = λ z. IfOk z (λ v. IsOf held v.items) in
     subst P e h
 
-module _ (holds : List ℕ → Option (List ℕ)) (asked : Diff) (name : List ℕ) where
+-- the faults of a file that is read
+pub faults_at : (r : Result (Vec Finding Global) Fault) (file : Named) (bytes : Vec ℕ Global) → file.answer.now ≡ Ok bytes → IfOk r (λ list. BytesFaults file.name.now bytes.items list.items) → IfOk r (λ list. FileFaults file list.items)
+faults_at (Ok list) file bytes e h = subst (λ z. AnswerFaults file.name.now z list.items) (sym e) h
+faults_at (Err fault) file bytes e h = tt
+
+-- the lines of two files, by other terms for their names and bytes
+pub shown_as : (page : Page) (a b c d e f g h : List ℕ) (shown : Option (Shown × Shown)) → a ≡ b → c ≡ d → e ≡ f → g ≡ h → ShowsLines page a c e g shown → ShowsLines page b d f h shown
+shown_as page a b c d e f g h shown i j k l s =
+    subst (λ z. ShowsLines page b d f z shown) l (subst (λ z. ShowsLines page b d z g shown) k (subst (λ z. ShowsLines page b z e g shown) j (subst (λ z. ShowsLines page z c e g shown) i s)))
+
+module _ (holds : List ℕ → Option (List ℕ)) where
   -- what reading a path gave is what reading the name that is printed gave
-  is_read : (file : Named) (path read : List ℕ) → file.name.now ≡ path → read ≡ path → IfOk file.answer.now (λ v. IsOf (holds read) v.items) → IfErr file.answer.now (IsUnread (holds read)) → IsRead holds file
+  pub is_read : (file : Named) (path read : List ℕ) → file.name.now ≡ path → read ≡ path → IfOk file.answer.now (λ v. IsOf (holds read) v.items) → IfErr file.answer.now (IsUnread (holds read)) → IsRead holds file
   is_read file path read e f a b =
       let k : read ≡ file.name.now = f ∙ sym e in
       record {
@@ -37,62 +57,45 @@ module _ (holds : List ℕ → Option (List ℕ)) (asked : Diff) (name : List �
         unread = subst (λ z. IfErr file.answer.now (IsUnread (holds z))) k b;
       }
 
-  pub new_status : (file : Named) (path read text : List ℕ) (own status : ℕ) → IsPath asked.right.now name path → file.name.now ≡ path → read ≡ path → IfOk file.answer.now (λ v. IsOf (holds read) v.items) → IfErr file.answer.now (IsUnread (holds read)) → TellsFile asked.form file text own → status ≡ max own 1 → NewStatus holds asked name status
-  new_status file path read text own status p e f a b t m = record {
+  abbrev pub new_told : (asked : Diff) (name : List ℕ) (file : Named) (path read text err : List ℕ) (own status : ℕ) → err ≡ text → IsPath asked.right.now name path → file.name.now ≡ path → read ≡ path → IfOk file.answer.now (λ v. IsOf (holds read) v.items) → IfErr file.answer.now (IsUnread (holds read)) → TellsFile asked.form file text own → status ≡ max own 1 → NewTold holds asked name err status
+  new_told asked name file path read text err own status is p e f a b t m = record {
     file = file;
     path = subst (IsPath asked.right.now name) (sym e) p;
     is = is_read file path read e f a b;
-    text = text;
     own = own;
-    tells = t;
+    tells = subst (λ z. TellsFile asked.form file z own) (sym is) t;
     told = m;
   }
 
-  module _ (ignored : List Pattern) (left right : List ℕ) (at_left : IsPath asked.left.now name left) (at_right : IsPath asked.right.now name right) (left_read right_read : List ℕ) (read_left : left_read ≡ left) (read_right : right_read ≡ right) where
-    module _ (one other : Named) (text : List ℕ) (status : ℕ) (one_name : one.name.now ≡ left) (other_name : other.name.now ≡ right) (one_ok : IfOk one.answer.now (λ v. IsOf (holds left_read) v.items)) (one_err : IfErr one.answer.now (IsUnread (holds left_read))) (other_ok : IfOk other.answer.now (λ v. IsOf (holds right_read) v.items)) (other_err : IfErr other.answer.now (IsUnread (holds right_read))) where
-      pub not_read : TellsBoth asked.form one other text status → NotBothRead one.answer.now other.answer.now → BothStatus holds asked ignored name status
-      not_read t n = (
-        left,
-        right,
-        at_left,
-        at_right,
-        inr (record {
-          one = one;
-          other = other;
-          one_name = one_name;
-          other_name = other_name;
-          one_is = is_read one left left_read one_name read_left one_ok one_err;
-          other_is = is_read other right right_read other_name read_right other_ok other_err;
-          text = text;
-          tells = inl (n, t);
-        }),
-      )
+  module _ (left right left_read right_read : List ℕ) (read_left : left_read ≡ left) (read_right : right_read ≡ right) where
+    -- two files that are not compared
+    module _ (form : Form) (one other : Named) (text err : List ℕ) (status : ℕ) (is : err ≡ text) (one_name : one.name.now ≡ left) (other_name : other.name.now ≡ right) (one_ok : IfOk one.answer.now (λ v. IsOf (holds left_read) v.items)) (one_err : IfErr one.answer.now (IsUnread (holds left_read))) (other_ok : IfOk other.answer.now (λ v. IsOf (holds right_read) v.items)) (other_err : IfErr other.answer.now (IsUnread (holds right_read))) where
+      abbrev pub not_read : TellsBoth form one other text status → NotBothRead one.answer.now other.answer.now → AreRejected holds form left right err status
+      not_read t n = record {
+        one = one;
+        other = other;
+        one_name = one_name;
+        other_name = other_name;
+        one_is = is_read one left left_read one_name read_left one_ok one_err;
+        other_is = is_read other right right_read other_name read_right other_ok other_err;
+        tells = inl (n, subst (λ z. TellsBoth form one other z status) (sym is) t);
+      }
 
-      pub not_compared : (side : Side) → TellsNotCompared asked.form one other side text status → BothStatus holds asked ignored name status
-      not_compared side t = (
-        left,
-        right,
-        at_left,
-        at_right,
-        inr (record {
-          one = one;
-          other = other;
-          one_name = one_name;
-          other_name = other_name;
-          one_is = is_read one left left_read one_name read_left one_ok one_err;
-          other_is = is_read other right right_read other_name read_right other_ok other_err;
-          text = text;
-          tells = inr (side, t);
-        }),
-      )
+      abbrev pub not_compared : (side : Side) → TellsNotCompared form one other side text status → AreRejected holds form left right err status
+      not_compared side t = record {
+        one = one;
+        other = other;
+        one_name = one_name;
+        other_name = other_name;
+        one_is = is_read one left left_read one_name read_left one_ok one_err;
+        other_is = is_read other right right_read other_name read_right other_ok other_err;
+        tells = inr (side, subst (λ z. TellsNotCompared form one other side z status) (sym is) t);
+      }
 
-    pub compared : (first second : List ℕ) (none : Bool) (question : Diff) (status : ℕ) → IsOf (holds left_read) first → IsOf (holds right_read) second → (ignored ≡ [] → Compares first second none) → AsksAlike asked question → LeavesNone first second question ignored none → status ≡ cond none 0 1 → BothStatus holds asked ignored name status
-    compared first second none question status a b same alike leaves told = (
-      left,
-      right,
-      at_left,
-      at_right,
-      inl (record {
+    -- two files that are compared
+    module _ (asked : Diff) (ignored : List Pattern) (first second : List ℕ) (status : ℕ) (a : IsOf (holds left_read) first) (b : IsOf (holds right_read) second) where
+      pub lines_compared : (name : List ℕ) (none : Bool) (question : Diff) (lines out : List ℕ) → (ignored ≡ [] → Compares first second none) → AsksFiles asked name question → DiffLines first second question ignored none lines → out ≡ lines_text asked name none lines → status ≡ cond none 0 1 → LinesCompared holds asked ignored name left right out status
+      lines_compared name none question lines out same asks are printed told = record {
         first = first;
         second = second;
         one = subst (λ z. IsOf (holds z) first) read_left a;
@@ -100,8 +103,21 @@ module _ (holds : List ℕ → Option (List ℕ)) (asked : Diff) (name : List �
         none = none;
         compares = same;
         question = question;
-        alike = alike;
-        leaves = leaves;
+        asks = asks;
+        lines = lines;
+        are = are;
+        printed = printed;
         told = told;
-      }),
-    )
+      }
+
+      abbrev pub list_compared : (listed : Listed) → (ignored ≡ [] → Compares first second listed.same) → DiffLists first second asked ignored listed → status ≡ cond listed.same 0 1 → AreCompared holds asked ignored left right status
+      list_compared listed same lists told = record {
+        first = first;
+        second = second;
+        one = subst (λ z. IsOf (holds z) first) read_left a;
+        other = subst (λ z. IsOf (holds z) second) read_right b;
+        listed = listed;
+        lists = lists;
+        compares = same;
+        told = told;
+      }

@@ -1,1 +1,4 @@
 pub mod Folders
+pub mod Pages
+pub mod Parts
+pub mod Printed

@@ -1,6 +1,11 @@
 //! What differs in the files of two folders, as lines.
-ghost use Rattle.std.specs.Prelude.{◌≡◌, IfOk};
-ghost use Rattle.review_folders.specs.Folders.{AsksAlike, BothStatus, NewStatus, HasStatus, FolderEnds};
+ghost use Rattle.std.specs.Prelude.{◌≡◌, ◌++◌, ◌<◌, ◌-◌, ◌^◌, [], codes, IfOk, IfErr, OnOk, string_bytes};
+ghost use Rattle.yaml_text.specs.CountedModel.{faults_of};
+ghost use Rattle.yaml_text.specs.Writers.{Printed};
+ghost use Rattle.yaml_command.specs.Printing.{PrintFails};
+ghost use Rattle.review_files.specs.Lines.{TakesLine};
+ghost use Rattle.review_folders.specs.Folders.{NewTold};
+ghost use Rattle.review_folders.specs.Printed.{has_lines, file_object, name_line, name_text, alone_line, alone_text, head_text, lines_text, AsksFiles, BothTold, EntryTold, PrintsEntry, CutsEntry, FolderPrints};
 
 use crate::entry::{Entry, Has, path_in, status_of};
 use review_args::{Diff, Form};
@@ -13,6 +18,7 @@ use review_lines::Compared;
 use review_patterns::Pattern;
 use review_text::json::{Said, put_object};
 use review_text::put_shown;
+use review_text::text::put_all;
 use std::alloc::Global;
 use std::io::Write;
 use yaml_command::shelf::Shelf;
@@ -32,37 +38,17 @@ struct Told {
     status: u8,
 }
 
-impl Told {
-    /// Nothing yet.
-    fn new(alloc: Global) -> Told {
-        Told {
-            out: String::new(alloc),
-            err: String::new(alloc),
-            status: SAME,
-        }
-    }
-}
-
 /// Whether lines are printed, and not the status alone or numbers.
-fn has_lines(asked: &Diff<'_>) -> bool {
+fn has_lines(asked: &Diff<'_>) -> bool
+    ensures { result ≡ has_lines asked.now }
+{
     asked.lines > 0 && !asked.stat
 }
 
-/// Writes the name of a file, before what is printed of it.
-fn put_name(alloc: Global, out: &mut String, asked: &Diff<'_>, name: &str) -> Result<(), Fault> {
-    match asked.form {
-        Form::Line => {
-            out.push_str("diff ")?;
-            put_shown(out, name)?;
-            out.push('\n')?;
-            Ok(())
-        }
-        Form::Json => put_file(alloc, out, "file", name),
-    }
-}
-
 /// Writes a JSON object of a file.
-fn put_file(alloc: Global, out: &mut String, kind: &str, name: &str) -> Result<(), Fault> {
+fn put_file(alloc: Global, out: &mut String, kind: &str, name: &str) -> Result<(), Fault>
+    ensures { OnOk result (string_bytes out.new ≡ string_bytes out.old ++ file_object kind.now name.now) }
+{
     let members = [
         ("kind", Said::Text(Some(kind))),
         ("file", Said::Text(Some(name))),
@@ -70,38 +56,65 @@ fn put_file(alloc: Global, out: &mut String, kind: &str, name: &str) -> Result<(
     put_object(alloc, out, &members)
 }
 
-/// Writes that one folder alone has a file.
+/// Writes the line of a name.
+fn put_name_line(out: &mut String, name: &str) -> Result<(), Fault>
+    ensures { OnOk result (string_bytes out.new ≡ string_bytes out.old ++ name_line name.now) }
+{
+    out.push_str("diff ")?;
+    put_shown(out, name)?;
+    out.push_str("\n")?;
+    Ok(())
+}
+
+/// Writes the name of a file, before what is printed of it.
+fn put_name(alloc: Global, out: &mut String, form: Form, name: &str) -> Result<(), Fault>
+    ensures { OnOk result (string_bytes out.new ≡ string_bytes out.old ++ name_text form name.now) }
+{
+    match form {
+        Form::Line => put_name_line(out, name),
+        Form::Json => put_file(alloc, out, "file", name),
+    }
+}
+
+/// Writes that one folder alone has a file: the words below its name, or before it where no lines are printed.
+fn put_alone_line(out: &mut String, is_listed: bool, words: &str, name: &str) -> Result<(), Fault>
+    ensures { OnOk result (string_bytes out.new ≡ string_bytes out.old ++ alone_line is_listed words.now name.now) }
+{
+    if is_listed {
+        put_name_line(out, name)?;
+        return put_all(out, &[words, "\n"]);
+    }
+    put_all(out, &[words, " "])?;
+    put_shown(out, name)?;
+    out.push_str("\n")?;
+    Ok(())
+}
+
+/// Writes that one folder alone has a file, if anything is printed.
 fn put_alone(
     alloc: Global,
     out: &mut String,
     asked: &Diff<'_>,
+    words: &str,
     name: &str,
-    kind: &str,
-) -> Result<(), Fault> {
+) -> Result<(), Fault>
+    ensures { OnOk result (string_bytes out.new ≡ string_bytes out.old ++ alone_text asked.now words.now name.now) }
+{
     if asked.lines == 0 {
         return Ok(());
     }
-    if asked.form == Form::Json {
-        return put_file(alloc, out, kind, name);
+    match asked.form {
+        Form::Line => put_alone_line(out, has_lines(asked), words, name),
+        Form::Json => put_file(alloc, out, words, name),
     }
-    if has_lines(asked) {
-        put_name(alloc, out, asked, name)?;
-        out.push_str(kind)?;
-    } else {
-        out.push_str(kind)?;
-        out.push(' ')?;
-        put_shown(out, name)?;
-    }
-    out.push('\n')?;
-    Ok(())
 }
 
 /// What is printed of a file that the left folder alone has.
 fn deleted_told(alloc: Global, asked: &Diff<'_>, name: &str) -> Result<Told, Fault>
-    ensures { IfOk result (λ told. told.status ≡ 1) }
+    ensures { IfOk result (λ told. (string_bytes told.out ≡ alone_text asked.now (codes "deleted file") name.now) × (string_bytes told.err ≡ []) × (told.status ≡ 1)) }
 {
     let mut out = String::new(alloc);
-    put_alone(alloc, &mut out, asked, name, "deleted file")?;
+    put_alone(alloc, &mut out, asked, "deleted file", name)?;
     Ok(Told {
         out,
         err: String::new(alloc),
@@ -111,11 +124,12 @@ fn deleted_told(alloc: Global, asked: &Diff<'_>, name: &str) -> Result<Told, Fau
 
 /// What is printed of a file that the right folder alone has.
 fn new_told<S: Shelf>(shelf: &S, alloc: Global, asked: &Diff<'_>, name: &str) -> Result<Told, Fault>
-    ensures { IfOk result (λ told. NewStatus (S.holds shelf.now) asked.now name.now told.status) }
+    ensures out { IfOk result (λ told. string_bytes told.out ≡ alone_text asked.now (codes "new file") name.now) }
+    ensures told { IfOk result (λ told. NewTold (S.holds shelf.now) asked.now name.now (string_bytes told.err) told.status) }
 {
     let mut out = String::new(alloc);
     let mut err = String::new(alloc);
-    put_alone(alloc, &mut out, asked, name, "new file")?;
+    put_alone(alloc, &mut out, asked, "new file", name)?;
     let path = path_in(alloc, asked.right, name)?;
     let answer = read_file(shelf, alloc, path.as_str());
     let file = Named {
@@ -130,13 +144,13 @@ fn new_told<S: Shelf>(shelf: &S, alloc: Global, asked: &Diff<'_>, name: &str) ->
     })
 }
 
-/// What is asked of two folders, for two files.
-fn with_names<'n>(asked: &Diff<'n>, left: &'n str, right: &'n str) -> Diff<'n>
-    ensures { AsksAlike asked.now result }
+/// What is asked of two folders, of two files that are called by this name.
+fn of_files<'n>(asked: &Diff<'n>, name: &'n str) -> Diff<'n>
+    ensures { AsksFiles asked.now name.now result }
 {
     Diff {
-        left,
-        right,
+        left: name,
+        right: name,
         places: asked.places,
         whole: asked.whole,
         lines: asked.lines,
@@ -151,22 +165,33 @@ fn with_names<'n>(asked: &Diff<'n>, left: &'n str, right: &'n str) -> Diff<'n>
     }
 }
 
-/// Writes what is printed of two files that are compared.
-fn put_compared(
+/// Writes the name of a file that both folders have, where lines are printed.
+fn put_head(alloc: Global, out: &mut String, asked: &Diff<'_>, name: &str) -> Result<(), Fault>
+    ensures { OnOk result (string_bytes out.new ≡ string_bytes out.old ++ head_text asked.now name.now) }
+{
+    if has_lines(asked) {
+        put_name(alloc, out, asked.form, name)
+    } else {
+        Ok(())
+    }
+}
+
+/// What is printed of two files that are compared.
+fn lines_of(
     alloc: Global,
-    out: &mut String,
     asked: &Diff<'_>,
     name: &str,
     compared: &Compared,
-) -> Result<(), Fault> {
+) -> Result<String, Fault>
+    ensures { IfOk result (λ text. string_bytes text ≡ lines_text asked.now name.now compared.now.same (string_bytes compared.now.text)) }
+{
+    let mut out = String::new(alloc);
     if compared.same {
-        return Ok(());
+        return Ok(out);
     }
-    if has_lines(asked) {
-        put_name(alloc, out, asked, name)?;
-    }
+    put_head(alloc, &mut out, asked, name)?;
     out.push_str(&compared.text)?;
-    Ok(())
+    Ok(out)
 }
 
 /// What is printed of a file that both folders have.
@@ -177,9 +202,8 @@ fn both_told<S: Shelf>(
     ignored: &[Pattern<'_>],
     name: &str,
 ) -> Result<Told, Fault>
-    ensures { IfOk result (λ told. BothStatus (S.holds shelf.now) asked.now ignored.now name.now told.status) }
+    ensures { IfOk result (λ told. BothTold (S.holds shelf.now) asked.now ignored.now name.now (string_bytes told.out) (string_bytes told.err) told.status) }
 {
-    let mut told = Told::new(alloc);
     let left_path = path_in(alloc, asked.left, name)?;
     let right_path = path_in(alloc, asked.right, name)?;
     let left = read_file(shelf, alloc, left_path.as_str());
@@ -192,20 +216,30 @@ fn both_told<S: Shelf>(
         name: right_path.as_str(),
         answer: &right,
     };
+    let mut err = String::new(alloc);
     let (Ok(one), Ok(other)) = (&left, &right) else {
-        told.status = put_rejections(alloc, &mut told.err, first, second, asked.form)?;
-        return Ok(told);
+        let status = put_rejections(alloc, &mut err, first, second, asked.form)?;
+        return Ok(Told {
+            out: String::new(alloc),
+            err,
+            status,
+        });
     };
-    match compare_sides(alloc, &with_names(asked, name, name), ignored, one, other) {
-        Ok(compared) => {
-            put_compared(alloc, &mut told.out, asked, name, &compared)?;
-            told.status = status_of(compared.same);
-        }
+    match compare_sides(alloc, &of_files(asked, name), ignored, one, other) {
+        Ok(compared) => Ok(Told {
+            out: lines_of(alloc, asked, name, &compared)?,
+            err,
+            status: status_of(compared.same),
+        }),
         Err((side, _)) => {
-            told.status = put_not_compared(alloc, &mut told.err, first, second, side, asked.form)?;
+            let status = put_not_compared(alloc, &mut err, first, second, side, asked.form)?;
+            Ok(Told {
+                out: String::new(alloc),
+                err,
+                status,
+            })
         }
     }
-    Ok(told)
 }
 
 /// What is printed of the file of a name.
@@ -216,7 +250,7 @@ fn told_of<S: Shelf>(
     ignored: &[Pattern<'_>],
     entry: Entry<'_>,
 ) -> Result<Told, Fault>
-    ensures { IfOk result (λ told. HasStatus (S.holds shelf.now) entry.entry.has asked.now ignored.now entry.entry.name.now told.status) }
+    ensures { IfOk result (λ told. EntryTold (S.holds shelf.now) asked.now ignored.now entry.entry (string_bytes told.out) (string_bytes told.err) told.status) }
 {
     match entry.has {
         Has::Left => deleted_told(alloc, asked, entry.name),
@@ -226,12 +260,18 @@ fn told_of<S: Shelf>(
 }
 
 /// Writes what is printed of a file, and answers its status.
-fn put_told<W: Write, E: Write>(told: &Told, out: &mut W, err: &mut E) -> Result<u8, Fault>
-    ensures { IfOk result (λ status. status ≡ told.now.status) }
+fn put_told<W: Write, E: Write>(told: &Told, out: &mut Counted<W>, err: &mut E) -> Result<u8, Fault>
+    requires { faults_of out.old < 2 ^ 64 - 1 }
+    ensures line { TakesLine E.contents err.old err.new (string_bytes told.now.err) }
+    ensures printed { OnOk result (Printed W.contents out.old out.new (string_bytes told.now.out)) }
+    ensures status { IfOk result (λ status. status ≡ told.now.status) }
+    ensures cut { IfErr result (PrintFails W.contents out.old out.new (string_bytes told.now.out)) }
 {
     put_line(&told.err, err);
-    write_out(&mut Counted::new(out), told.out.as_bytes())?;
-    Ok(told.status)
+    match write_out(out, told.out.as_bytes()) {
+        Ok(()) => Ok(told.status),
+        Err(fault) => Err(fault),
+    }
 }
 
 /// Prints what differs in the file of a name, and answers its status.
@@ -241,13 +281,17 @@ fn tell_of<S: Shelf, W: Write, E: Write>(
     asked: &Diff<'_>,
     ignored: &[Pattern<'_>],
     entry: Entry<'_>,
-    out: &mut W,
+    out: &mut Counted<W>,
     err: &mut E,
 ) -> Result<u8, Fault>
-    ensures { IfOk result (HasStatus (S.holds shelf.now) entry.entry.has asked.now ignored.now entry.entry.name.now) }
+    requires { faults_of out.old < 2 ^ 64 - 1 }
+    ensures ok { IfOk result (PrintsEntry (S.holds shelf.now) W.contents E.contents asked.now ignored.now entry.entry out.old out.new err.old err.new) }
+    ensures cut { IfErr result (CutsEntry (S.holds shelf.now) W.contents E.contents asked.now ignored.now entry.entry out.old out.new err.old err.new) }
 {
-    let told = told_of(shelf, alloc, asked, ignored, entry)?;
-    put_told(&told, out, err)
+    match told_of(shelf, alloc, asked, ignored, entry) {
+        Ok(told) => put_told(&told, out, err),
+        Err(fault) => Err(fault),
+    }
 }
 
 /// Prints what differs in the files of two folders, but for what is at or below a path that one of the patterns matches, and answers the
@@ -258,10 +302,11 @@ pub fn folder_lines<S: Shelf, W: Write, E: Write>(
     asked: &Diff<'_>,
     ignored: &[Pattern<'_>],
     entries: &[Entry<'_>],
-    out: &mut W,
+    out: &mut Counted<W>,
     err: &mut E,
 ) -> u8
-    ensures { FolderEnds (S.holds shelf.now) asked.now ignored.now entries.now result }
+    requires { faults_of out.old < 2 ^ 64 - 1 }
+    ensures { FolderPrints (S.holds shelf.now) W.contents E.contents asked.now ignored.now entries.now out.old out.new err.old err.new result }
 {
     let mut status = SAME;
     'entries: for entry in entries {

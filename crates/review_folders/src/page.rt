@@ -1,6 +1,9 @@
 //! What differs in the files of two folders, as one page.
-ghost use Rattle.std.specs.Prelude.{◌≡◌, ◌⊎◌, ◌≤◌, IfOk};
-ghost use Rattle.review_folders.specs.Folders.{BothStatus, NewStatus, HasStatus, FolderStatus, FolderEnds};
+ghost use Rattle.std.specs.Prelude.{◌≡◌, ◌++◌, ◌<◌, ◌-◌, ◌^◌, List, IfOk, OnOk, string_bytes};
+ghost use Rattle.yaml_text.specs.CountedModel.{faults_of};
+ghost use Rattle.review_formats.specs.declared.finding.Part.{Part};
+ghost use Rattle.review_formats.specs.declared.finding.Sign.TheVariants as signs;
+ghost use Rattle.review_folders.specs.Pages.{BytesFaults, FileFaults, alone_rule, ShowsSign, IsAlone, IsList, RejectedFound, BothFound, DeletedFound, NewFound, HasFound, HasPart, FindsParts, WritesParts, FolderShows};
 
 use crate::entry::{Entry, Has, path_in, status_of};
 use crate::parts::{lines_shown, list_found, parts_text};
@@ -12,7 +15,7 @@ use review_files::telling::{put_line, tell_bare};
 use review_files::unread::{Unread, greater};
 use review_formats::{Finding, Level, Part, Sides, Sign};
 use review_patterns::Pattern;
-use review_reports::findings::fault_found;
+use review_reports::pages::fault_list;
 use review_text::put_visible;
 use std::alloc::Global;
 use std::io::Write;
@@ -38,7 +41,9 @@ struct Found {
 }
 
 /// A list of what is found in a file, without lines of it.
-fn part_with(list: Vec<Finding>) -> Part {
+fn part_with(list: Vec<Finding>) -> Part
+    ensures { IsList list.items result }
+{
     Part {
         name: None,
         list,
@@ -67,16 +72,14 @@ fn content_of(alloc: Global, bytes: &[u8]) -> Result<String, Fault> {
     Ok(out)
 }
 
-/// What a page shows of a file that one folder alone has, if it was read: its lines.
-fn sides_of(
+/// The text of a file that one folder alone has, if it was read.
+fn content_sides(
     alloc: Global,
-    page: Page,
     sign: Sign,
     answer: &Result<Vec<u8>, Unread>,
-) -> Result<Option<Sides>, Fault> {
-    if page != Page::Html {
-        return Ok(None);
-    }
+) -> Result<Option<Sides>, Fault>
+    ensures { IfOk result (ShowsSign Page.Html sign) }
+{
     let Ok(bytes) = answer else {
         return Ok(None);
     };
@@ -96,38 +99,72 @@ fn sides_of(
     }))
 }
 
-/// A file that one folder alone has.
-fn alone(alloc: Global, path: &str, sign: Sign, sides: Option<Sides>) -> Result<Finding, Fault> {
+/// What a page shows of a file that one folder alone has.
+fn sides_of(
+    alloc: Global,
+    page: Page,
+    sign: Sign,
+    answer: &Result<Vec<u8>, Unread>,
+) -> Result<Option<Sides>, Fault>
+    ensures { IfOk result (ShowsSign page sign) }
+{
+    match page {
+        Page::Html => content_sides(alloc, sign, answer),
+        Page::Markdown | Page::Sarif | Page::Github => Ok(None),
+    }
+}
+
+/// What a file is called that one folder alone has.
+fn rule_of(sign: Sign) -> &'static str
+    ensures { result.now ≡ alone_rule sign }
+{
+    match sign {
+        Sign::Left => "deleted-file",
+        Sign::Right | Sign::Changed | Sign::Moved => "new-file",
+    }
+}
+
+/// A file that one folder alone has, and what reading it gave.
+fn alone(
+    alloc: Global,
+    page: Page,
+    sign: Sign,
+    path: &str,
+    answer: &Result<Vec<u8>, Unread>,
+) -> Result<Finding, Fault>
+    ensures { IfOk result (IsAlone page sign path.now) }
+{
     Ok(Finding {
-        rule: if sign == Sign::Left {
-            "deleted-file"
-        } else {
-            "new-file"
-        },
+        rule: rule_of(sign),
         level: Level::Note,
         file: path.to_string(alloc)?,
         place: None,
         path: None,
         message: sign.says().to_string(alloc)?,
         line: None,
-        sides,
+        sides: sides_of(alloc, page, sign, answer)?,
     })
 }
 
-/// Adds why a file is rejected, if it is.
-fn add_fault(alloc: Global, list: &mut Vec<Finding>, file: Named<'_>) -> Result<(), Fault> {
-    match file.answer {
-        Ok(bytes) => {
-            if let Some(fault) = fault_of(alloc, bytes) {
-                list.push(fault_found(alloc, file.name, bytes, fault)?)?;
-            }
-        }
-        Err(Unread::Fault(Fault::TooLong)) => {
-            list.push(fault_found(alloc, file.name, &[], Fault::TooLong)?)?;
-        }
-        Err(_) => {}
+/// The fault of bytes that are rejected, as a list.
+fn bytes_faults(alloc: Global, name: &str, bytes: &[u8]) -> Result<Vec<Finding>, Fault>
+    ensures { IfOk result (λ list. BytesFaults name.now bytes.now list.items) }
+{
+    match fault_of(alloc, bytes) {
+        Some(fault) => fault_list(alloc, name, bytes, fault),
+        None => Ok(Vec::new(alloc)),
     }
-    Ok(())
+}
+
+/// Why a file is rejected, if it is.
+fn file_faults(alloc: Global, file: Named<'_>) -> Result<Vec<Finding>, Fault>
+    ensures { IfOk result (λ list. FileFaults file.entry list.items) }
+{
+    match file.answer {
+        Ok(bytes) => bytes_faults(alloc, file.name, bytes),
+        Err(Unread::Fault(Fault::TooLong)) => fault_list(alloc, file.name, &[], Fault::TooLong),
+        Err(_) => Ok(Vec::new(alloc)),
+    }
 }
 
 /// What is found of a file that the left folder alone has.
@@ -138,13 +175,12 @@ fn deleted_found<S: Shelf>(
     page: Page,
     name: &str,
 ) -> Result<Found, Fault>
-    ensures { IfOk result (λ found. found.status ≡ 1) }
+    ensures { IfOk result (λ found. DeletedFound (S.holds shelf.now) asked.now page name.now found.part (string_bytes found.err) found.status) }
 {
     let path = path_in(alloc, asked.left, name)?;
     let answer = read_file(shelf, alloc, path.as_str());
-    let sides = sides_of(alloc, page, Sign::Left, &answer)?;
     let mut list = Vec::new(alloc);
-    list.push(alone(alloc, path.as_str(), Sign::Left, sides)?)?;
+    list.push(alone(alloc, page, Sign::Left, path.as_str(), &answer)?)?;
     Ok(Found {
         part: part_with(list),
         err: String::new(alloc),
@@ -160,7 +196,7 @@ fn new_found<S: Shelf>(
     page: Page,
     name: &str,
 ) -> Result<Found, Fault>
-    ensures { IfOk result (λ found. NewStatus (S.holds shelf.now) asked.now name.now found.status) }
+    ensures { IfOk result (λ found. NewFound (S.holds shelf.now) asked.now page name.now found.part (string_bytes found.err) found.status) }
 {
     let path = path_in(alloc, asked.right, name)?;
     let answer = read_file(shelf, alloc, path.as_str());
@@ -170,10 +206,10 @@ fn new_found<S: Shelf>(
     };
     let mut err = String::new(alloc);
     let status = put_rejection(alloc, &mut err, file, asked.form)?;
-    let sides = sides_of(alloc, page, Sign::Right, &answer)?;
     let mut list = Vec::new(alloc);
-    list.push(alone(alloc, path.as_str(), Sign::Right, sides)?)?;
-    add_fault(alloc, &mut list, file)?;
+    list.push(alone(alloc, page, Sign::Right, path.as_str(), &answer)?)?;
+    let mut faults = file_faults(alloc, file)?;
+    list.append(&mut faults)?;
     Ok(Found {
         part: part_with(list),
         err,
@@ -181,24 +217,14 @@ fn new_found<S: Shelf>(
     })
 }
 
-/// Why two files are not compared, of which this is told, with this status.
-fn refused_found(
-    alloc: Global,
-    left: Named<'_>,
-    right: Named<'_>,
-    err: String,
-    status: u8,
-) -> Result<Found, Fault>
-    ensures { IfOk result (λ found. found.status ≡ status) }
+/// Why two files are not compared: the faults of each.
+fn faults_found(alloc: Global, left: Named<'_>, right: Named<'_>) -> Result<Part, Fault>
+    ensures { IfOk result (λ part. (first : List Finding) × (second : List Finding) × FileFaults left.entry first × FileFaults right.entry second × IsList (first ++ second) part) }
 {
-    let mut list = Vec::new(alloc);
-    add_fault(alloc, &mut list, left)?;
-    add_fault(alloc, &mut list, right)?;
-    Ok(Found {
-        part: part_with(list),
-        err,
-        status,
-    })
+    let mut list = file_faults(alloc, left)?;
+    let mut more = file_faults(alloc, right)?;
+    list.append(&mut more)?;
+    Ok(part_with(list))
 }
 
 /// What is found of a file that both folders have.
@@ -210,7 +236,7 @@ fn both_found<S: Shelf>(
     ignored: &[Pattern<'_>],
     name: &str,
 ) -> Result<Found, Fault>
-    ensures { IfOk result (λ found. BothStatus (S.holds shelf.now) asked.now ignored.now name.now found.status) }
+    ensures { IfOk result (λ found. BothFound (S.holds shelf.now) asked.now ignored.now page name.now found.part (string_bytes found.err) found.status) }
 {
     let left_path = path_in(alloc, asked.left, name)?;
     let right_path = path_in(alloc, asked.right, name)?;
@@ -227,15 +253,15 @@ fn both_found<S: Shelf>(
     let mut err = String::new(alloc);
     let (Ok(one), Ok(other)) = (&left, &right) else {
         let status = put_rejections(alloc, &mut err, first, second, asked.form)?;
-        return refused_found(alloc, first, second, err, status);
+        let part = faults_found(alloc, first, second)?;
+        return Ok(Found { part, err, status });
     };
     match list_sides(alloc, asked, ignored, one, other) {
         Ok(listed) => {
-            let (left, right) = (left_path.as_str(), right_path.as_str());
             let part = Part {
                 name: None,
-                list: list_found(alloc, asked, &listed, left, right)?,
-                shown: lines_shown(alloc, page, left, one, right, other)?,
+                list: list_found(alloc, &listed, first.name, second.name)?,
+                shown: lines_shown(alloc, page, first.name, one, second.name, other)?,
                 whole: listed.whole,
             };
             Ok(Found {
@@ -246,7 +272,8 @@ fn both_found<S: Shelf>(
         }
         Err((side, _)) => {
             let status = put_not_compared(alloc, &mut err, first, second, side, asked.form)?;
-            refused_found(alloc, first, second, err, status)
+            let part = faults_found(alloc, first, second)?;
+            Ok(Found { part, err, status })
         }
     }
 }
@@ -260,7 +287,7 @@ fn found_of<S: Shelf>(
     ignored: &[Pattern<'_>],
     entry: Entry<'_>,
 ) -> Result<Found, Fault>
-    ensures { IfOk result (λ found. HasStatus (S.holds shelf.now) entry.entry.has asked.now ignored.now entry.entry.name.now found.status) }
+    ensures { IfOk result (λ found. HasFound (S.holds shelf.now) entry.entry.has asked.now ignored.now page entry.entry.name.now found.part (string_bytes found.err) found.status) }
 {
     match entry.has {
         Has::Left => deleted_found(shelf, alloc, asked, page, entry.name),
@@ -270,7 +297,9 @@ fn found_of<S: Shelf>(
 }
 
 /// Adds a part with the name of its file, if something is found there.
-fn add_part(alloc: Global, parts: &mut Vec<Part>, part: Part, name: &str) -> Result<(), Fault> {
+fn add_part(alloc: Global, parts: &mut Vec<Part>, part: Part, name: &str) -> Result<(), Fault>
+    ensures { OnOk result ((own : List Part) × HasPart name.now part own × (parts.new.items ≡ parts.old.items ++ own)) }
+{
     if part.list.len() == 0 {
         return Ok(());
     }
@@ -293,7 +322,7 @@ fn parts_of<S: Shelf, E: Write>(
     entries: &[Entry<'_>],
     err: &mut E,
 ) -> Result<(Vec<Part>, u8), Fault>
-    ensures { IfOk result (λ told. FolderStatus (S.holds shelf.now) asked.now ignored.now entries.now told.1) }
+    ensures { IfOk result (λ told. FindsParts (S.holds shelf.now) E.contents asked.now ignored.now page entries.now told.0.items err.old err.new told.1) }
 {
     let mut parts = Vec::new(alloc);
     let mut status = SAME;
@@ -309,24 +338,24 @@ fn parts_of<S: Shelf, E: Write>(
 /// Writes the page, and answers the status: that of the files, unless the output fails or memory is refused.
 fn put_parts<W: Write, E: Write>(
     alloc: Global,
-    asked: &Diff<'_>,
-    page: Page,
-    parts: Vec<Part>,
-    status: u8,
-    out: &mut W,
+    told: (&Diff<'_>, Page),
+    found: (Vec<Part>, u8),
+    out: &mut Counted<W>,
     err: &mut E,
 ) -> u8
-    ensures { (result ≡ status) ⊎ (2 ≤ result) }
+    requires { faults_of out.old < 2 ^ 64 - 1 }
+    ensures { WritesParts W.contents told.entry.0.now told.entry.1 found.0.items out.old out.new found.1 result }
 {
+    let (asked, page) = told;
+    let (parts, status) = found;
     if asked.lines == 0 {
         return status;
     }
-    let written = match parts_text(alloc, asked, page, parts) {
-        Ok(text) => write_out(&mut Counted::new(out), text.as_bytes()),
-        Err(fault) => Err(fault),
-    };
-    match written {
-        Ok(()) => status,
+    match parts_text(alloc, asked, page, parts) {
+        Ok(text) => match write_out(out, text.as_bytes()) {
+            Ok(()) => status,
+            Err(fault) => greater(status, tell_bare(fault, err)),
+        },
         Err(fault) => greater(status, tell_bare(fault, err)),
     }
 }
@@ -339,14 +368,14 @@ pub fn folder_page<S: Shelf, W: Write, E: Write>(
     told: (&Diff<'_>, Page),
     ignored: &[Pattern<'_>],
     entries: &[Entry<'_>],
-    out: &mut W,
+    out: &mut Counted<W>,
     err: &mut E,
 ) -> u8
-    ensures { FolderEnds (S.holds shelf.now) told.entry.0.now ignored.now entries.now result }
+    requires { faults_of out.old < 2 ^ 64 - 1 }
+    ensures { FolderShows (S.holds shelf.now) W.contents E.contents told.entry.0.now ignored.now told.entry.1 entries.now out.old out.new err.old result }
 {
-    let (asked, page) = told;
-    match parts_of(shelf, alloc, asked, page, ignored, entries, err) {
-        Ok((parts, status)) => put_parts(alloc, asked, page, parts, status, out, err),
+    match parts_of(shelf, alloc, told.0, told.1, ignored, entries, err) {
+        Ok(found) => put_parts(alloc, told, found, out, err),
         Err(fault) => tell_bare(fault, err),
     }
 }

@@ -1,54 +1,41 @@
 //! Parts of a page: what two files have differently.
+ghost use Rattle.std.specs.Prelude.{◌≡◌, IfOk, IfErr, string_bytes};
+ghost use Rattle.review_folders.specs.Parts.{ListsAll, IsShown, ShowsLines, AreParts, IsPartsText};
+
 use review_args::{Diff, Page};
-use review_formats::{Finding, Findings, Part, Shown, Sign};
+use review_formats::{Finding, Findings, Part, Shown};
 use review_lines::Listed;
-use review_reports::findings::difference_found;
+use review_reports::findings::differences_found;
 use review_reports::pages::page_text;
 use review_text::put_visible;
 use std::alloc::Global;
 use std::str;
 use yaml_text::fault::Fault;
 
-/// A difference of two files of these names, at the right one unless that has nothing there.
-fn found_in(alloc: Global, found: Finding, left: &str, right: &str) -> Result<Finding, Fault> {
-    let name = match &found.sides {
-        Some(sides) if sides.sign == Sign::Left => left,
-        _ => right,
-    };
-    Ok(Finding {
-        rule: found.rule,
-        level: found.level,
-        file: name.to_string(alloc)?,
-        place: found.place,
-        path: found.path,
-        message: found.message,
-        line: found.line,
-        sides: found.sides,
-    })
-}
-
-/// What two files of these names have differently, of a list.
+/// What two files of these names have differently, of a list: its differences and then the pairs of items that moved.
+///
+/// # Errors
+/// 21: memory is refused.
 pub fn list_found(
     alloc: Global,
-    asked: &Diff<'_>,
     listed: &Listed,
     left: &str,
     right: &str,
-) -> Result<Vec<Finding>, Fault> {
-    let mut list = Vec::new(alloc);
-    for line in &listed.lines {
-        let found = difference_found(alloc, asked, line)?;
-        list.push(found_in(alloc, found, left, right)?)?;
-    }
-    for line in &listed.moves {
-        let found = difference_found(alloc, asked, line)?;
-        list.push(found_in(alloc, found, left, right)?)?;
-    }
+) -> Result<Vec<Finding>, Fault>
+    ensures ok { IfOk result (λ list. ListsAll left.now right.now listed.now list.items) }
+    ensures err { IfErr result (λ fault. fault ≡ Fault.OutOfMemory) }
+{
+    let mut list = differences_found(alloc, left, right, &listed.lines)?;
+    let mut moves = differences_found(alloc, left, right, &listed.moves)?;
+    list.append(&mut moves)?;
     Ok(list)
 }
 
 /// A file of which lines are shown, with escapes for the characters that would not be seen.
-fn shown_of(alloc: Global, name: &str, bytes: &[u8]) -> Result<Shown, Fault> {
+fn shown_of(alloc: Global, name: &str, bytes: &[u8]) -> Result<Shown, Fault>
+    ensures ok { IfOk result (IsShown name.now bytes.now) }
+    ensures err { IfErr result (λ fault. fault ≡ Fault.OutOfMemory) }
+{
     let mut text = String::new(alloc);
     put_visible(&mut text, str::from_utf8(bytes).unwrap_or(""))?;
     Ok(Shown {
@@ -58,6 +45,9 @@ fn shown_of(alloc: Global, name: &str, bytes: &[u8]) -> Result<Shown, Fault> {
 }
 
 /// The lines of two files of these names, if the page shows them.
+///
+/// # Errors
+/// 21: memory is refused.
 pub fn lines_shown(
     alloc: Global,
     page: Page,
@@ -65,7 +55,10 @@ pub fn lines_shown(
     left: &[u8],
     right_name: &str,
     right: &[u8],
-) -> Result<Option<(Shown, Shown)>, Fault> {
+) -> Result<Option<(Shown, Shown)>, Fault>
+    ensures ok { IfOk result (ShowsLines page left_name.now left.now right_name.now right.now) }
+    ensures err { IfErr result (λ fault. fault ≡ Fault.OutOfMemory) }
+{
     if page != Page::Html {
         return Ok(None);
     }
@@ -74,17 +67,30 @@ pub fn lines_shown(
     Ok(Some((first, second)))
 }
 
+/// What two files or folders have differently, of which these are the parts.
+fn parts_found(alloc: Global, asked: &Diff<'_>, parts: Vec<Part>) -> Result<Findings, Fault>
+    ensures ok { IfOk result (AreParts asked.now.left.now asked.now.right.now parts.items) }
+    ensures err { IfErr result (λ fault. fault ≡ Fault.OutOfMemory) }
+{
+    Ok(Findings {
+        command: "diff",
+        names: Some((asked.left.to_string(alloc)?, asked.right.to_string(alloc)?)),
+        parts,
+    })
+}
+
 /// What two files or folders have differently as a page.
+///
+/// # Errors
+/// 21: memory is refused.
 pub fn parts_text(
     alloc: Global,
     asked: &Diff<'_>,
     page: Page,
     parts: Vec<Part>,
-) -> Result<String, Fault> {
-    let found = Findings {
-        command: "diff",
-        names: Some((asked.left.to_string(alloc)?, asked.right.to_string(alloc)?)),
-        parts,
-    };
-    page_text(alloc, page, &found)
+) -> Result<String, Fault>
+    ensures ok { IfOk result (λ text. IsPartsText asked.now.left.now asked.now.right.now page parts.items (string_bytes text)) }
+    ensures err { IfErr result (λ fault. fault ≡ Fault.OutOfMemory) }
+{
+    page_text(alloc, page, &parts_found(alloc, asked, parts)?)
 }

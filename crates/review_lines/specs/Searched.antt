@@ -15,10 +15,10 @@ room_for (suc lines) = suc lines
 abbrev pub search_room : List Pattern → ℕ → ℕ
 search_room ps room = cond ((length ps == 0) || nat_lt 1000000 room) room 1000000
 
--- The differences and moves of two streams are looked for, with room for as many as lines are asked for. Only where one line may tell several moves, there may be more room: if some of what is found are moves, it is all, or there is room for a million.
+-- The differences and moves of two streams are looked for, with room for as many as lines are asked for. Only where one line may tell several moves, there may be more room: if some of what is found are moves, it is all, or there is room for a hundred thousand.
 pub record Searches (both : Both) (ignored : List Pattern) (lines : ℕ) (folds : Bool) (f : Found) : Type 0 where
   pub room : ℕ
   pub finds : FindsItems both.graph (take both.documents (roots_of both.graph)) (drop both.documents (roots_of both.graph)) room f
   pub enough : search_room ignored (room_for lines) ≤ room
   pub unfolded : folds ≡ false → room ≡ search_room ignored (room_for lines)
-  pub folded : folds ≡ true → f.whole ≡ false → 0 < length f.moves.items → 1000000 ≤ room
+  pub folded : folds ≡ true → f.whole ≡ false → 0 < length f.moves.items → 100000 ≤ room

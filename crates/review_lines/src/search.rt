@@ -43,8 +43,11 @@ fn list_of(alloc: Global, both: &Both<'_>, asked: &Diff<'_>, room: usize) -> Res
     stream_differences(alloc, &both.graph, &both.ranks, lefts, rights, asked, room)
 }
 
-/// How many differences and moves are looked at where some are left out, or where one line may tell many moves, at least.
+/// How many differences and moves are looked at where some are left out, at least.
 const SEARCHED: usize = 1_000_000;
+
+/// How many are looked at where one line may tell many moves, at least. Each has a path, which can have 1,024 steps.
+const FOLDED: usize = 100_000;
 
 /// Room for so many lines, and for one at least, without which no list would tell whether there is a difference.
 pub(crate) fn room_for(lines: usize) -> usize
@@ -69,11 +72,11 @@ fn search_room(ignored: &[Pattern<'_>], room: usize) -> usize
 /// Whether no more is to be looked for: one line tells one move, or all was found, or no move, or there was room for as many as are
 /// looked at.
 fn is_enough(found: &Found, folds: bool, room: usize) -> bool
-    ensures enough { result ≡ true → folds ≡ true → found.now.whole ≡ false → 0 < length found.now.moves.items → 1000000 ≤ room }
+    ensures enough { result ≡ true → folds ≡ true → found.now.whole ≡ false → 0 < length found.now.moves.items → 100000 ≤ room }
     ensures folds { result ≡ false → folds ≡ true }
-    ensures room { result ≡ false → room ≤ 1000000 }
+    ensures room { result ≡ false → room ≤ 100000 }
 {
-    !folds || found.whole || found.moves.is_empty() || SEARCHED <= room
+    !folds || found.whole || found.moves.is_empty() || FOLDED <= room
 }
 
 /// The differences and moves of two streams, as many as lines are asked for. More are looked for where some are left out, and where one
@@ -94,7 +97,7 @@ pub(crate) fn searched(
     if is_enough(&found, folds, room) {
         return Ok(found);
     }
-    list_of(alloc, both, asked, SEARCHED)
+    list_of(alloc, both, asked, FOLDED)
 }
 
 /// Whether all differences and moves are listed, and there is none.

@@ -1,3 +1,3 @@
 pub mod FourLaws
 pub mod JudgeLaws
-pub mod MergeLaws
+pub mod RefusalLaws

@@ -1,3 +1,4 @@
 pub mod Four
 pub mod Judged
 pub mod Merges
+pub mod Refusals

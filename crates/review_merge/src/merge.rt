@@ -1,10 +1,13 @@
 //! The command `merge3`.
-ghost use Rattle.std.specs.Prelude.{◌≡◌, ◌<◌, ◌≤◌, ◌-◌, ◌^◌, cond, IfOk, IfErr};
-ghost use Rattle.std.specs.Option.{is_some, option_map};
+ghost use Rattle.std.specs.Prelude.{◌≡◌, ◌<◌, ◌≤◌, ◌-◌, ◌^◌, ◌++◌, ◌↔◌, ℕ, List, [], max, cond, codes, bytes_eq, string_bytes, IsTrue, IfOk, IfErr};
+ghost use Rattle.std.specs.Option.{is_some, option_map, unwrap_or};
 ghost use Rattle.yaml_text.specs.CountedModel.{faults_of};
 ghost use Rattle.yaml_canon.specs.Both.{HasBoth};
 ghost use Rattle.review_files.specs.Named.{ReadsNamed};
+ghost use Rattle.review_args.specs.declared.words.Form.TheVariants.{Line};
+ghost use Rattle.review_files.specs.Told.{TellsFaults};
 ghost use Rattle.review_merge.specs.Merges.{no_merge_status, ReadsResult, HaveBytes, TellsMerge, MergeTells};
+ghost use Rattle.review_merge.specs.Refusals.{FilesNotRead, MergeRefuses, NotRead, OneNotRead, TellsEach, TellsRejected, TellsTooMany, TellsWhy, all_names, input_count, or_none, result_name};
 
 use crate::four::graph_of;
 use crate::judge::{judge, roots_of, verdict_of};
@@ -70,33 +73,52 @@ struct Bytes {
     result: Vec<u8>,
 }
 
+/// 1 if a name is that of standard input.
+fn input_count(name: &str) -> u8
+    ensures value { result ≡ cond (bytes_eq name.now (codes "-")) 1 0 }
+    ensures most { result ≤ 1 }
+{
+    if name == INPUT { 1 } else { 0 }
+}
+
+/// The same of a name that may be left out.
+fn result_count(name: Option<&str>) -> u8
+    ensures value { result ≡ input_count (or_none (option_map (λ n. n.now) name.entry)) }
+    ensures most { result ≤ 1 }
+{
+    match name {
+        Some(name) => input_count(name),
+        None => 0,
+    }
+}
+
 /// Whether two of the names are that of standard input.
-fn has_two_inputs(names: &Names<'_>) -> bool {
-    let base = names.base == INPUT;
-    let ours = names.ours == INPUT;
-    let theirs = names.theirs == INPUT;
-    let result = match names.result {
-        Some(name) => name == INPUT,
-        None => false,
-    };
-    (base && (ours || (theirs || result))) || ((ours && (theirs || result)) || (theirs && result))
+fn has_two_inputs(names: &Names<'_>) -> bool
+    ensures { IsTrue result ↔ 1 < input_count (all_names names.now) }
+{
+    let base = input_count(names.base);
+    let ours = input_count(names.ours);
+    let theirs = input_count(names.theirs);
+    let result = result_count(names.result);
+    base + ours + theirs + result > 1
 }
 
 /// The status, or that of a file that is rejected if it is less.
 fn at_least(status: u8) -> u8
-    ensures { 2 ≤ result }
+    ensures { result ≡ max status 2 }
 {
     if status < REJECTED { REJECTED } else { status }
 }
 
 /// What is printed of a file that is not read.
 fn not_read(alloc: Global, name: &str, unread: Unread) -> NoMerge
-    ensures { 2 ≤ no_merge_status result }
+    ensures status { 2 ≤ no_merge_status result }
+    ensures told { TellsWhy name.now unread result }
 {
     let mut text = String::new(alloc);
     match put_no_bytes(alloc, &mut text, name, unread, Form::Line) {
         Ok(status) => NoMerge::Told(text, at_least(status)),
-        Err(fault) => NoMerge::Fault(fault),
+        Err(_) => NoMerge::Fault(Fault::OutOfMemory),
     }
 }
 
@@ -109,6 +131,7 @@ fn bytes_of<S: Shelf, R: Read>(
 ) -> Result<Vec<u8>, NoMerge>
     ensures ok { IfOk result (λ v. ReadsNamed (S.holds shelf.now) R.remaining name.now input.old input.new v.items) }
     ensures err { IfErr result (λ none. 2 ≤ no_merge_status none) }
+    ensures why { IfErr result (NotRead (S.holds shelf.now) R.remaining name.now input.old input.new) }
 {
     match read_named(shelf, alloc, name, input) {
         Ok(bytes) => Ok(bytes),
@@ -125,6 +148,7 @@ fn result_of<S: Shelf, R: Read>(
 ) -> Result<Vec<u8>, NoMerge>
     ensures ok { IfOk result (λ v. ReadsResult (S.holds shelf.now) R.remaining (option_map (λ n. n.now) name.entry) input.old input.new v.items) }
     ensures err { IfErr result (λ none. 2 ≤ no_merge_status none) }
+    ensures why { IfErr result (OneNotRead (S.holds shelf.now) R.remaining (or_none (option_map (λ n. n.now) name.entry)) input.old input.new) }
 {
     match name {
         Some(name) => bytes_of(shelf, alloc, name, input),
@@ -141,6 +165,7 @@ fn read_files<S: Shelf, R: Read>(
 ) -> Result<Bytes, NoMerge>
     ensures ok { IfOk result (HaveBytes (S.holds shelf.now) R.remaining names.now input.old input.new) }
     ensures err { IfErr result (λ none. 2 ≤ no_merge_status none) }
+    ensures why { IfErr result (FilesNotRead (S.holds shelf.now) R.remaining names.now input.old input.new) }
 {
     if has_two_inputs(names) {
         return Err(NoMerge::OneInput);
@@ -157,45 +182,45 @@ fn read_files<S: Shelf, R: Read>(
     })
 }
 
+/// Writes why a file of these bytes is rejected, if it is, and answers its status.
+fn put_one(alloc: Global, out: &mut String, name: &str, bytes: Vec<u8>) -> Result<u8, Fault>
+    ensures { IfOk result (λ status. (text : List ℕ) × (string_bytes out.new ≡ string_bytes out.old ++ text) × TellsFaults Line name.now bytes.items text status) }
+{
+    let answer = Ok(bytes);
+    let file = Named {
+        name,
+        answer: &answer,
+    };
+    put_rejection(alloc, out, file, Form::Line)
+}
+
+/// The name of the result, or no text if there is none.
+fn result_name<'n>(names: &Names<'n>) -> &'n str
+    ensures { result.now ≡ unwrap_or (result_name names.now) [] }
+{
+    names.result.unwrap_or("")
+}
+
 /// Writes why files are rejected, of each that is, and answers the greatest status.
 fn put_rejections(
     alloc: Global,
     out: &mut String,
     names: &Names<'_>,
     bytes: Bytes,
-) -> Result<u8, Fault> {
-    let base = Ok(bytes.base);
-    let ours = Ok(bytes.ours);
-    let theirs = Ok(bytes.theirs);
-    let result = Ok(bytes.result);
-    let files = [
-        Named {
-            name: names.base,
-            answer: &base,
-        },
-        Named {
-            name: names.ours,
-            answer: &ours,
-        },
-        Named {
-            name: names.theirs,
-            answer: &theirs,
-        },
-        Named {
-            name: names.result.unwrap_or(""),
-            answer: &result,
-        },
-    ];
-    let mut status = 0;
-    for file in files {
-        status = greater(status, put_rejection(alloc, out, file, Form::Line)?);
-    }
-    Ok(status)
+) -> Result<u8, Fault>
+    ensures { IfOk result (λ status. (text : List ℕ) × (string_bytes out.new ≡ string_bytes out.old ++ text) × TellsEach names.now bytes text status) }
+{
+    let base = put_one(alloc, out, names.base, bytes.base)?;
+    let ours = put_one(alloc, out, names.ours, bytes.ours)?;
+    let theirs = put_one(alloc, out, names.theirs, bytes.theirs)?;
+    let result = put_one(alloc, out, result_name(names), bytes.result)?;
+    Ok(greater(greater(base, ours), greater(theirs, result)))
 }
 
 /// What is printed of files of which one is rejected. Where none is, as where memory is refused, the fault is reported.
 fn rejected(alloc: Global, names: &Names<'_>, bytes: Bytes, fault: Fault) -> NoMerge
-    ensures { 2 ≤ no_merge_status result }
+    ensures status { 2 ≤ no_merge_status result }
+    ensures told { TellsRejected names.now bytes result }
 {
     let mut text = String::new(alloc);
     match put_rejections(alloc, &mut text, names, bytes) {
@@ -206,13 +231,14 @@ fn rejected(alloc: Global, names: &Names<'_>, bytes: Bytes, fault: Fault) -> NoM
                 NoMerge::Told(text, at_least(status))
             }
         }
-        Err(fault) => NoMerge::Fault(fault),
+        Err(_) => NoMerge::Fault(Fault::OutOfMemory),
     }
 }
 
 /// What is printed where places are left that were not looked at.
 fn too_many(alloc: Global) -> NoMerge
-    ensures { 2 ≤ no_merge_status result }
+    ensures status { 2 ≤ no_merge_status result }
+    ensures told { TellsTooMany result }
 {
     match TOO_MANY.to_string(alloc) {
         Ok(text) => NoMerge::Told(text, REJECTED),
@@ -304,6 +330,7 @@ pub fn merge3<S: Shelf, R: Read, W: Write>(
     requires { faults_of out.old < 2 ^ 64 - 1 }
     ensures tells { IfOk result (MergeTells (S.holds shelf.now) R.remaining W.contents names.now input.old input.new out.old out.new) }
     ensures none { IfErr result (λ none. 2 ≤ no_merge_status none) }
+    ensures refuses { IfErr result (MergeRefuses (S.holds shelf.now) R.remaining W.contents names.now input.old input.new out.old out.new) }
 {
     let bytes = read_files(shelf, alloc, names, input)?;
     let given = names.result.is_some();

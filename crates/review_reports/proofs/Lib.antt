@@ -1,3 +1,5 @@
+mod DifferenceLaws
 mod PageLaws
 mod ReportLaws
+mod TextLaws
 mod WarningLaws

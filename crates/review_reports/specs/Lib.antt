@@ -1,2 +1,4 @@
+pub mod Differences
 pub mod Pages
 pub mod Reports
+pub mod Texts

@@ -7,8 +7,10 @@ use Rattle.yaml_text.specs.declared.counted.Counted.{Counted}
 use Rattle.yaml_text.specs.Writers.{Printed, Broken}
 use Rattle.yaml_canon.specs.Claims.{CanonicalRefuses}
 use Rattle.yaml_canon.specs.FaultPlaces.{TellsPlace}
+use Rattle.review_args.specs.declared.words.Page.{Page}
 use Rattle.review_args.specs.declared.words.Warn.{Warn}
 use Rattle.review_formats.specs.declared.finding.Finding.{Finding}
+use Rattle.review_formats.specs.declared.finding.Level.TheVariants as levels
 use Rattle.review_text.specs.Hidden.{visible}
 use Rattle.review_text.specs.Shown.{front}
 use Rattle.review_text.specs.declared.yaml11.Older.{Older}
@@ -18,6 +20,7 @@ use Rattle.review_faults.specs.declared.warn.Warning.{Warning}
 use Rattle.review_files.specs.Named.{ReadsNamed, ReadsNot}
 use Rattle.review_files.specs.Told.{IsAccepted}
 use Rattle.review_reports.specs.Reports.{HasNoText}
+use Rattle.review_reports.specs.Texts.{IsListText}
 use Rattle.review_files.specs.Statuses.{fault_status, unread_status}
 use Rattle.review_files.specs.declared.unread.Unread.{Unread}
 use Rattle.review_files.specs.declared.unread.Unread.TheVariants as unread
@@ -30,6 +33,7 @@ use Rattle.review_reports.specs.declared.reports.Kind.TheVariants.{Faults, Warni
 pub record IsFault (name bytes : List ℕ) (fault : Fault) (one : Finding) : Type 0 where
   pub file : string_bytes one.file ≡ name
   pub rule : one.rule.now ≡ fault_name fault
+  pub level : one.level ≡ levels.Error
   pub place : IsSpotted bytes fault one.place
 
 -- one fault is found
@@ -40,6 +44,7 @@ FindsFault name bytes fault list = (one : Finding) × (list ≡ one ∷ []) × I
 pub record IsFoundWarning (name : List ℕ) (w : Warning) (one : Finding) : Type 0 where
   pub file : string_bytes one.file ≡ name
   pub rule : one.rule.now ≡ codes "yaml-1.1"
+  pub level : one.level ≡ levels.Warning
   pub place : one.place ≡ Some w.place
   pub message : string_bytes one.message ≡ visible (front 60 (string_bytes w.text)) ++ (codes ": " ++ string_bytes w.words)
 
@@ -69,11 +74,11 @@ FindsBytes kind name bytes list status =
 -- ---- what is written
 
 module _ {W : Type 0} (contents : W → Option (List ℕ)) where
-  -- Some text was written of what was found, and the status is that; or the output fails behind a beginning of it, or nothing is written because of a fault.
-  abbrev pub WritesPage : Counted W → Counted W → ℕ → ℕ → Type 0
-  WritesPage out end found status =
-      ((text : List ℕ) × Printed contents out end text × (status ≡ found))
-      ⊎ (((text : List ℕ) × Broken contents out end text × (status ≡ max found 3))
+  -- What was found is written as text, and the status is that; or the output fails behind a beginning of it, or nothing is written because of a fault.
+  abbrev pub WritesPage : Kind → Page → List Finding → Counted W → Counted W → ℕ → ℕ → Type 0
+  WritesPage kind page list out end found status =
+      ((text : List ℕ) × IsListText kind page list text × Printed contents out end text × (status ≡ found))
+      ⊎ (((text : List ℕ) × IsListText kind page list text × Broken contents out end text × (status ≡ max found 3))
       ⊎ ((fault : Fault) × (end ≡ out) × (status ≡ max found (fault_status fault))))
 
 -- ---- a file
@@ -101,7 +106,7 @@ module _ {R : Type 0} (holds : List ℕ → Option (List ℕ)) (remaining : R �
 
   module _ {W : Type 0} (contents : W → Option (List ℕ)) where
     -- The files are looked at in turn and the page is written. Where memory for what was found is refused, nothing is written, and the status tells it.
-    abbrev pub TellsPage : Kind → List (List ℕ) → R → R → Counted W → Counted W → ℕ → Type 0
-    TellsPage kind names old new out end status =
-        ((list : List Finding) × (found : ℕ) × FindsFiles kind names old new list found × WritesPage contents out end found status)
+    abbrev pub TellsPage : Kind → Page → List (List ℕ) → R → R → Counted W → Counted W → ℕ → Type 0
+    TellsPage kind page names old new out end status =
+        ((list : List Finding) × (found : ℕ) × FindsFiles kind names old new list found × WritesPage contents kind page list out end found status)
         ⊎ ((fault : Fault) × (end ≡ out) × (status ≡ fault_status fault))

@@ -1,21 +1,23 @@
 //! What is found, by its parts.
-ghost use Rattle.std.specs.Prelude.{◌≡◌, ◌++◌, codes, IfOk, string_bytes};
+ghost use Rattle.std.specs.Prelude.{◌≡◌, ◌++◌, codes, option_map, IfOk, IfErr, OnOk, string_bytes};
 ghost use Rattle.review_text.specs.Hidden.{visible};
 ghost use Rattle.review_text.specs.Shown.{front};
+ghost use Rattle.review_reports.specs.Differences.{sign_of, file_of, place_of, sides_text, message_text, AreSides, IsDifference, AreDifferences};
 ghost use Rattle.review_reports.specs.Pages.{IsFault, IsFoundWarning};
 
-use review_args::Diff;
 use review_faults::{Warning, spot_fault};
 use review_formats::{Finding, Level, Sides, Sign};
 use review_lines::lines::Line;
 use review_text::put_visible;
-use review_text::text::{CUT, front};
+use review_text::text::{CUT, front, put_all};
 use std::alloc::Global;
+use yaml_place::Place;
 use yaml_text::fault::Fault;
 
 /// A text with escapes for the characters that would not be seen.
 fn visible(alloc: Global, text: &str) -> Result<String, Fault>
-    ensures { IfOk result (λ s. string_bytes s ≡ visible text.now) }
+    ensures ok { IfOk result (λ s. string_bytes s ≡ visible text.now) }
+    ensures err { IfErr result (λ fault. fault ≡ Fault.OutOfMemory) }
 {
     let mut out = String::new(alloc);
     put_visible(&mut out, text)?;
@@ -23,7 +25,10 @@ fn visible(alloc: Global, text: &str) -> Result<String, Fault>
 }
 
 /// The same, if there is a text.
-fn visible_of(alloc: Global, text: &Option<String>) -> Result<Option<String>, Fault> {
+fn visible_of(alloc: Global, text: &Option<String>) -> Result<Option<String>, Fault>
+    ensures ok { IfOk result (λ s. option_map string_bytes s ≡ option_map (λ t. visible (string_bytes t)) text.now) }
+    ensures err { IfErr result (λ fault. fault ≡ Fault.OutOfMemory) }
+{
     match text {
         Some(text) => Ok(Some(visible(alloc, text)?)),
         None => Ok(None),
@@ -31,67 +36,122 @@ fn visible_of(alloc: Global, text: &Option<String>) -> Result<Option<String>, Fa
 }
 
 /// What both sides of a line have.
-fn sign_of(line: &Line) -> Sign {
-    match (line.left.is_some(), line.right.is_some()) {
-        (true, true) => Sign::Changed,
-        (true, false) => Sign::Left,
-        (false, true) => Sign::Right,
-        (false, false) => Sign::Moved,
+fn sign_of(line: &Line) -> Sign
+    ensures { result ≡ sign_of line.now.left line.now.right }
+{
+    match (&line.left, &line.right) {
+        (Some(_), Some(_)) => Sign::Changed,
+        (Some(_), None) => Sign::Left,
+        (None, Some(_)) => Sign::Right,
+        (None, None) => Sign::Moved,
+    }
+}
+
+/// Writes the texts of both sides.
+fn put_sides(out: &mut String, sides: &Sides) -> Result<(), Fault>
+    ensures ok { OnOk result (string_bytes out.new ≡ string_bytes out.old ++ sides_text (option_map string_bytes sides.now.left) (option_map string_bytes sides.now.right)) }
+    ensures err { IfErr result (λ fault. fault ≡ Fault.OutOfMemory) }
+{
+    match (&sides.left, &sides.right) {
+        (Some(left), Some(right)) => put_all(out, &[": ", left, " -> ", right]),
+        (Some(text), None) | (None, Some(text)) => put_all(out, &[": ", text]),
+        (None, None) => Ok(()),
     }
 }
 
 /// What is said of a difference behind its path.
-fn message_of(alloc: Global, sign: Sign, sides: &Sides) -> Result<String, Fault> {
+fn message_of(alloc: Global, sides: &Sides) -> Result<String, Fault>
+    ensures ok { IfOk result (λ s. string_bytes s ≡ message_text sides.now.sign (option_map string_bytes sides.now.left) (option_map string_bytes sides.now.right)) }
+    ensures err { IfErr result (λ fault. fault ≡ Fault.OutOfMemory) }
+{
     let mut out = String::new(alloc);
-    out.push_str(sign.says())?;
-    match (&sides.left, &sides.right) {
-        (Some(left), Some(right)) => {
-            out.push_str(": ")?;
-            out.push_str(left)?;
-            out.push_str(" -> ")?;
-            out.push_str(right)?;
-        }
-        (Some(text), None) | (None, Some(text)) => {
-            out.push_str(": ")?;
-            out.push_str(text)?;
-        }
-        (None, None) => {}
-    }
+    out.push_str(sides.sign.says())?;
+    put_sides(&mut out, sides)?;
     Ok(out)
 }
 
+/// The changed lines of two strings, if there are.
+fn changes_of(alloc: Global, line: &Line) -> Result<Option<String>, Fault>
+    ensures ok { IfOk result (λ s. option_map string_bytes s ≡ option_map (λ changes. visible (string_bytes changes.text)) line.now.changes) }
+    ensures err { IfErr result (λ fault. fault ≡ Fault.OutOfMemory) }
+{
+    match &line.changes {
+        Some(changes) => Ok(Some(visible(alloc, &changes.text)?)),
+        None => Ok(None),
+    }
+}
+
 /// What both sides have.
-fn sides_of(alloc: Global, line: &Line) -> Result<Sides, Fault> {
+fn sides_of(alloc: Global, line: &Line) -> Result<Sides, Fault>
+    ensures ok { IfOk result (AreSides line.now) }
+    ensures err { IfErr result (λ fault. fault ≡ Fault.OutOfMemory) }
+{
     Ok(Sides {
         sign: sign_of(line),
         left: visible_of(alloc, &line.left)?,
         right: visible_of(alloc, &line.right)?,
         left_place: line.left_place,
         right_place: line.right_place,
-        changes: match &line.changes {
-            Some(changes) => Some(visible(alloc, &changes.text)?),
-            None => None,
-        },
+        changes: changes_of(alloc, line)?,
     })
 }
 
-/// A difference, at the right file unless that has nothing there.
-pub fn difference_found(alloc: Global, asked: &Diff<'_>, line: &Line) -> Result<Finding, Fault> {
+/// Of two names that of the file that a difference is told of.
+fn file_of<'n>(left: &'n str, right: &'n str, sign: Sign) -> &'n str
+    ensures { result.now ≡ file_of sign left.now right.now }
+{
+    match sign {
+        Sign::Left => left,
+        Sign::Changed | Sign::Right | Sign::Moved => right,
+    }
+}
+
+/// The place in this file.
+fn place_of(line: &Line, sign: Sign) -> Option<Place>
+    ensures { result ≡ place_of sign line.now }
+{
+    match sign {
+        Sign::Left => line.left_place,
+        Sign::Changed | Sign::Right | Sign::Moved => line.right_place,
+    }
+}
+
+/// A difference of two files of these names, at the right one unless that has nothing there.
+fn difference_found(alloc: Global, left: &str, right: &str, line: &Line) -> Result<Finding, Fault>
+    ensures ok { IfOk result (IsDifference left.now right.now line.now) }
+    ensures err { IfErr result (λ fault. fault ≡ Fault.OutOfMemory) }
+{
     let sides = sides_of(alloc, line)?;
-    let (name, place) = match sides.sign {
-        Sign::Left => (asked.left, line.left_place),
-        _ => (asked.right, line.right_place),
-    };
     Ok(Finding {
         rule: sides.sign.word(),
         level: Level::Note,
-        file: name.to_string(alloc)?,
-        place,
+        file: file_of(left, right, sides.sign).to_string(alloc)?,
+        place: place_of(line, sides.sign),
         path: Some(visible(alloc, &line.path)?),
-        message: message_of(alloc, sides.sign, &sides)?,
+        message: message_of(alloc, &sides)?,
         line: None,
         sides: Some(sides),
     })
+}
+
+/// Differences of two files of these names, one by one.
+///
+/// # Errors
+/// 21: memory is refused.
+pub fn differences_found(
+    alloc: Global,
+    left: &str,
+    right: &str,
+    lines: &[Line],
+) -> Result<Vec<Finding>, Fault>
+    ensures ok { IfOk result (λ list. AreDifferences left.now right.now lines.now list.items) }
+    ensures err { IfErr result (λ fault. fault ≡ Fault.OutOfMemory) }
+{
+    let mut list = Vec::new(alloc);
+    'lines: for line in lines {
+        list.push(difference_found(alloc, left, right, line)?)?;
+    }
+    Ok(list)
 }
 
 /// A fault of a file of this name and these bytes.

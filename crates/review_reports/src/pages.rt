@@ -1,7 +1,8 @@
 //! The commands `faults` and `warn`, of which all that is found is written as a whole.
-ghost use Rattle.std.specs.Prelude.{◌≡◌, ◌<◌, ◌-◌, ◌^◌, ◌++◌, map, [], IfOk, IfErr, OnOk};
+ghost use Rattle.std.specs.Prelude.{◌≡◌, ◌<◌, ◌-◌, ◌^◌, ◌++◌, map, [], IfOk, IfErr, OnOk, string_bytes};
 ghost use Rattle.yaml_text.specs.CountedModel.{faults_of};
 ghost use Rattle.review_reports.specs.Reports.{HasNoText};
+ghost use Rattle.review_reports.specs.Texts.{IsPageText, command_word, AreFound, IsListText};
 ghost use Rattle.review_reports.specs.Pages.{AreFoundWarnings, FindsWarnings, FindsAccepted, FindsFault, FindsBytes, HasFound, FindsFile, FindsFiles, WritesPage, TellsPage};
 
 use crate::findings::{fault_found, warning_found};
@@ -29,7 +30,10 @@ const REJECTED: u8 = 2;
 ///
 /// # Errors
 /// 21: memory is refused.
-pub fn page_text(alloc: Global, page: Page, found: &Findings) -> Result<String, Fault> {
+pub fn page_text(alloc: Global, page: Page, found: &Findings) -> Result<String, Fault>
+    ensures ok { IfOk result (λ text. IsPageText page found.now (string_bytes text)) }
+    ensures err { IfErr result (λ fault. fault ≡ Fault.OutOfMemory) }
+{
     match page {
         Page::Html => html_text(alloc, found),
         Page::Markdown => markdown_text(alloc, found),
@@ -38,8 +42,13 @@ pub fn page_text(alloc: Global, page: Page, found: &Findings) -> Result<String, 
     }
 }
 
-/// A fault of a file, as a list.
-fn fault_list(alloc: Global, name: &str, bytes: &[u8], fault: Fault) -> Result<Vec<Finding>, Fault>
+/// A fault of a file of this name and these bytes, as a list.
+pub fn fault_list(
+    alloc: Global,
+    name: &str,
+    bytes: &[u8],
+    fault: Fault,
+) -> Result<Vec<Finding>, Fault>
     ensures { IfOk result (λ list. FindsFault name.now bytes.now fault list.items) }
 {
     let mut list = Vec::new(alloc);
@@ -178,27 +187,21 @@ fn files_list<S: Shelf, R: Read, E: Write>(
     Ok((list, status))
 }
 
-/// Writes what is found, and answers the status: that of the files, unless the output fails or memory is refused.
-fn put_page<W: Write, E: Write>(
-    text: Result<String, Fault>,
-    status: u8,
-    out: &mut Counted<W>,
-    err: &mut E,
-) -> u8
-    requires { faults_of out.old < 2 ^ 64 - 1 }
-    ensures { WritesPage W.contents out.old out.new status result }
+/// The command.
+fn word_of(kind: Kind<'_>) -> &'static str
+    ensures { result.now ≡ command_word kind.entry }
 {
-    match text {
-        Ok(text) => match write_out(out, text.as_bytes()) {
-            Ok(()) => status,
-            Err(fault) => greater(status, tell_bare(fault, err)),
-        },
-        Err(fault) => greater(status, tell_bare(fault, err)),
+    match kind {
+        Kind::Faults => "faults",
+        Kind::Warnings(_) => "warn",
     }
 }
 
 /// What a command found, of which all is listed.
-fn as_found(alloc: Global, kind: Kind<'_>, list: Vec<Finding>) -> Result<Findings, Fault> {
+fn as_found(alloc: Global, kind: Kind<'_>, list: Vec<Finding>) -> Result<Findings, Fault>
+    ensures ok { IfOk result (AreFound kind.entry list.items) }
+    ensures err { IfErr result (λ fault. fault ≡ Fault.OutOfMemory) }
+{
     let mut parts = Vec::new(alloc);
     parts.push(Part {
         name: None,
@@ -207,10 +210,7 @@ fn as_found(alloc: Global, kind: Kind<'_>, list: Vec<Finding>) -> Result<Finding
         whole: true,
     })?;
     Ok(Findings {
-        command: match kind {
-            Kind::Faults => "faults",
-            Kind::Warnings(_) => "warn",
-        },
+        command: word_of(kind),
         names: None,
         parts,
     })
@@ -222,8 +222,33 @@ fn found_text(
     kind: Kind<'_>,
     page: Page,
     list: Vec<Finding>,
-) -> Result<String, Fault> {
+) -> Result<String, Fault>
+    ensures ok { IfOk result (λ text. IsListText kind.entry page list.items (string_bytes text)) }
+    ensures err { IfErr result (λ fault. fault ≡ Fault.OutOfMemory) }
+{
     page_text(alloc, page, &as_found(alloc, kind, list)?)
+}
+
+/// Writes what is found, and answers the status: that of the files, unless the output fails or memory is refused.
+fn put_page<W: Write, E: Write>(
+    alloc: Global,
+    told: (Kind<'_>, Page),
+    found: (Vec<Finding>, u8),
+    out: &mut Counted<W>,
+    err: &mut E,
+) -> u8
+    requires { faults_of out.old < 2 ^ 64 - 1 }
+    ensures { WritesPage W.contents told.entry.0 told.entry.1 found.0.items out.old out.new found.1 result }
+{
+    let (kind, page) = told;
+    let (list, status) = found;
+    match found_text(alloc, kind, page, list) {
+        Ok(text) => match write_out(out, text.as_bytes()) {
+            Ok(()) => status,
+            Err(fault) => greater(status, tell_bare(fault, err)),
+        },
+        Err(fault) => greater(status, tell_bare(fault, err)),
+    }
 }
 
 /// Looks at each file, and writes what is found as a whole. The status is the greatest of all.
@@ -237,14 +262,10 @@ pub fn pages<S: Shelf, R: Read, W: Write, E: Write>(
     err: &mut E,
 ) -> u8
     requires { faults_of out.old < 2 ^ 64 - 1 }
-    ensures { TellsPage (S.holds shelf.now) R.remaining W.contents told.entry.0 (map (λ s. s.now) asked.now.files.items) input.old input.new out.old out.new result }
+    ensures { TellsPage (S.holds shelf.now) R.remaining W.contents told.entry.0 told.entry.1 (map (λ s. s.now) asked.now.files.items) input.old input.new out.old out.new result }
 {
-    let (kind, page) = told;
-    match files_list(shelf, alloc, kind, &asked.files, input, err) {
-        Ok((list, status)) => {
-            let text = found_text(alloc, kind, page, list);
-            put_page(text, status, out, err)
-        }
+    match files_list(shelf, alloc, told.0, &asked.files, input, err) {
+        Ok(found) => put_page(alloc, told, found, out, err),
         Err(fault) => tell_bare(fault, err),
     }
 }

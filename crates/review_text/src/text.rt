@@ -2,6 +2,7 @@
 ghost use Rattle.std.specs.Prelude.{◌≡◌, ◌<◌, ◌≤◌, ◌++◌, ◌∷◌, ◌&&◌, [], length, map, flat_map, cond, bytes_eq, codes, string_bytes, OnOk, IfOk, MatchOption, MatchBool, IfErr};
 ghost use Rattle.std.specs.List.{All, list_all};
 ghost use Rattle.std.specs.Str.{encode_utf8_all};
+ghost use Rattle.yaml_definitions.specs.grammar.Characters.{c-mapping-start, c-sequence-start};
 ghost use Rattle.yaml_definitions.specs.model.Tag.{str_tag};
 ghost use Rattle.yaml_definitions.specs.model.Tree.{scalar};
 ghost use Rattle.yaml_definitions.specs.model.Order.{arranged};
@@ -246,7 +247,7 @@ fn put_items(
 ) -> Result<(), Fault>
     requires ranked { RanksAre both.now.graph both.now.ranks }
     requires below { All (λ i. i.0 < owner.0) items.now }
-    ensures ok { OnOk result (Fills room (string_bytes out.old) (string_bytes out.new) (encode_utf8_all (91 ∷ items_text [] (items_out (trees (map (λ i. arranged (tree both.now.graph i.0)) items.now))) []))) }
+    ensures ok { OnOk result (Fills room (string_bytes out.old) (string_bytes out.new) (encode_utf8_all (c-sequence-start ∷ items_text [] (items_out (trees (map (λ i. arranged (tree both.now.graph i.0)) items.now))) []))) }
     ensures err { IfErr result (λ fault. fault ≡ Fault.OutOfMemory) }
 {
     out.push('[')?;
@@ -272,7 +273,7 @@ fn put_entries(
 ) -> Result<(), Fault>
     requires ranked { RanksAre both.now.graph both.now.ranks }
     requires below { All (λ p. (p.0.0 < owner.0) × (p.1.0 < owner.0)) entries.now }
-    ensures ok { OnOk result (Fills room (string_bytes out.old) (string_bytes out.new) (encode_utf8_all (123 ∷ pairs_text [] (pairs_out (pairs (map (key_pair both.now.graph) entries.now))) []))) }
+    ensures ok { OnOk result (Fills room (string_bytes out.old) (string_bytes out.new) (encode_utf8_all (c-mapping-start ∷ pairs_text [] (pairs_out (pairs (map (key_pair both.now.graph) entries.now))) []))) }
     ensures err { IfErr result (λ fault. fault ≡ Fault.OutOfMemory) }
 {
     out.push('{')?;

@@ -6,6 +6,7 @@ use std::io;
 use std::rt::HostRuntime;
 use std::test::Fail;
 use yaml_command::shelf::Shelf;
+use yaml_text::counted::Counted;
 
 /// Two folders, of which each has some of the files.
 #[derive(Clone, Copy)]
@@ -66,7 +67,7 @@ fn compared(alloc: Global, row: &Row) -> Result<(u8, String, String), Fail> {
         folds: true,
         paths: Paths::Plain,
     };
-    let (mut out, mut err) = (Vec::new(alloc), Vec::new(alloc));
+    let (mut out, mut err) = (Counted::new(Vec::new(alloc)), Vec::new(alloc));
     let status = match row.page {
         None => folder_lines(&Folders, alloc, &asked, &[], &entries, &mut out, &mut err),
         Some(page) => folder_page(
@@ -79,7 +80,8 @@ fn compared(alloc: Global, row: &Row) -> Result<(u8, String, String), Fail> {
             &mut err,
         ),
     };
-    Ok((status, String::from_utf8(out)?, String::from_utf8(err)?))
+    let out = String::from_utf8(out.into_inner())?;
+    Ok((status, out, String::from_utf8(err)?))
 }
 
 const ALL: [(&str, Has); 6] = [
@@ -211,16 +213,22 @@ fn folders_are_compared(rt: HostRuntime) -> Result<(), Fail> {
 }
 
 /// Texts that a page of the folders has, each behind the one before.
-const SHOWN: [&str; 9] = [
-    "<p>3 places are found",
-    "<code>gone</code>",
-    "<code>more</code>",
+const SHOWN: [&str; 15] = [
+    "<title>yamlreview diff: old → new/</title>",
+    "<p>3 places are found, in 3 files.</p>",
+    "<a href=\"#f1\"><code>gone</code></a>",
+    "<a href=\"#f2\"><code>more</code></a>",
+    "<a href=\"#f3\"><code>one</code></a>",
     "<main>",
+    " id=\"f1\"><code>gone</code></h2>",
     "<code>old/gone</code>",
     "<pre>a: 1\n</pre>",
+    " id=\"f2\"><code>more</code></h2>",
     "<code>new/more</code>",
     "<pre>&#x3C;i&#x3E;: &#x27;&#x26;amp;&#x27;\n</pre>",
-    "<code>one</code>",
+    " id=\"f3\"><code>one</code></h2>",
+    "<a href=\"#l3-1\">1:4</a>",
+    "</html>",
 ];
 
 const PAGE: Row = Row {

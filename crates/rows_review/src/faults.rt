@@ -165,7 +165,7 @@ pub static MEANINGS: [Row; 9] = [
 ];
 
 /// Characters, directives and tags, files that are read or not, and where the caret stands.
-pub static OTHERS: [Row; 9] = [
+pub static OTHERS: [Row; 10] = [
     Row {
         name: "a control character",
         words: FAULTS,
@@ -209,6 +209,15 @@ pub static OTHERS: [Row; 9] = [
         right: b"",
         status: 2,
         out: "left:1:6: 8 BadEscape at byte 9: no escape begins so: a backslash is written `\\\\`, or the text stands between single quotes\n日本: \"\\q\"\n       ^\n",
+        err: "",
+    },
+    Row {
+        name: "of a long line 80 characters on either side of the caret are shown",
+        words: FAULTS,
+        left: b"[aaaaaaaaaaaaaaaaaaaaaaaaaaaaaaaaaaaaaaaaaaaaaaaaaaaaaaaaaaaaaaaaaaaaaaaaaaaaaaaaaaaaaaaaaaaaaaaaaaaa, *x, bbbbbbbbbbbbbbbbbbbbbbbbbbbbbbbbbbbbbbbbbbbbbbbbbbbbbbbbbbbbbbbbbbbbbbbbbbbbbbbbbbbbbbbbbbbbbbbbbbbb]\n",
+        right: b"",
+        status: 2,
+        out: "left:1:104: 12 UndefinedAlias at byte 103: [1]: no node before this one in its document has an anchor of this name\naaaaaaaaaaaaaaaaaaaaaaaaaaaaaaaaaaaaaaaaaaaaaaaaaaaaaaaaaaaaaaaaaaaaaaaaaaaaaa, *x, bbbbbbbbbbbbbbbbbbbbbbbbbbbbbbbbbbbbbbbbbbbbbbbbbbbbbbbbbbbbbbbbbbbbbbbbbbbb\n                                                                                ^\n",
         err: "",
     },
     Row {

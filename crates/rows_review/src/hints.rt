@@ -7,7 +7,7 @@ use std::test::Fail;
 /// A file, and the words of its fault.
 pub type Slip = (&'static [u8], &'static str);
 
-static LINES: [Slip; 74] = [
+static LINES: [Slip; 75] = [
     // Indentation of flow collections and quoted scalars.
     (
         b"k: [\n  a\n]\n",
@@ -237,6 +237,10 @@ static LINES: [Slip; 74] = [
     (
         b"a: [1}\n",
         "the bracket opened at line 1, column 4 is closed by a brace",
+    ),
+    (
+        b"a: {b: 1]\n",
+        "the brace opened at line 1, column 4 is closed by a bracket",
     ),
     (
         b"a: [1,\n---\n2]\n",

@@ -1,4 +1,4 @@
-//! Words that are not UTF-8, and a canonical text that would be too long.
+//! Words that are not UTF-8, an input that is too long, and one whose canonical text would be.
 use crate::runs::{ALL, Given, Ran, run};
 use review_command::arguments::words_of;
 use std::alloc::Global;
@@ -138,5 +138,33 @@ fn a_canonical_text_that_would_be_too_long_is_told(rt: HostRuntime) -> Result<()
     };
     let told = "left: 20 TextTooLong: the canonical text would have more than 67,108,864 bytes\n";
     run(alloc, given)?.gave(&rt, "faults of long tags", 2, told, "");
+    Ok(())
+}
+
+/// One byte more than an input may have.
+fn long_input(alloc: Global) -> Result<Vec<u8>, Fail> {
+    let mut bytes = Vec::new(alloc);
+    bytes.extend_from_slice(&[b'a'; 1024])?;
+    for _ in 0..16 {
+        let half = bytes.clone()?;
+        bytes.extend_from_slice(&half)?;
+    }
+    bytes.push(b'a')?;
+    Ok(bytes)
+}
+
+#[test]
+fn an_input_that_is_too_long_is_told(rt: HostRuntime) -> Result<(), Fail> {
+    let alloc = rt.alloc();
+    let bytes = long_input(alloc)?;
+    let given = Given {
+        words: &["faults", "left"],
+        left: &bytes,
+        right: b"",
+        input: b"",
+        rooms: ALL,
+    };
+    let told = "left: 1 TooLong: an input has at most 67,108,864 bytes\n";
+    run(alloc, given)?.gave(&rt, "faults of a long input", 2, told, "");
     Ok(())
 }

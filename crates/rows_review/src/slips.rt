@@ -1,7 +1,7 @@
 //! Slips outside quotes and brackets that are common in files, and the words of their faults.
 use crate::hints::Slip;
 
-pub static NODES: [Slip; 88] = [
+pub static NODES: [Slip; 92] = [
     // Dashes, keys and document markers.
     (
         b"a: - b\n",
@@ -273,6 +273,11 @@ pub static NODES: [Slip; 88] = [
         "a document has one `%YAML` line at most: remove it",
     ),
     (
+        b"%TAG !e! a:\n%TAG !e! b:\n---\na: 1\n",
+        "a directive is `%YAML 1.2` or `%TAG`, each at most once for a document and a handle",
+    ),
+    (b"%YAML 1.2\n", "the text ends before a node is whole"),
+    (
         b"%FOO bar\na: 1\n",
         "a line `---` is missing after the directives",
     ),
@@ -291,6 +296,10 @@ pub static NODES: [Slip; 88] = [
     (
         b"a: \"\\u12\"\n",
         "`\\u` has four hexadecimal digits: a backslash is written `\\\\`, or the text stands between single quotes",
+    ),
+    (
+        b"a: \"\\xq\"\n",
+        "`\\x` has two hexadecimal digits: a backslash is written `\\\\`, or the text stands between single quotes",
     ),
     (
         b"a: \"it\\'s\"\n",
@@ -324,5 +333,10 @@ pub static NODES: [Slip; 88] = [
     (
         b"a: !x - b\n",
         "a block sequence starts on the line after its anchor or tag",
+    ),
+    // What is another language's.
+    (
+        b"[section]\nkey=v\n",
+        "this looks like TOML or INI, and is not YAML",
     ),
 ];

@@ -3,14 +3,19 @@ use Rattle.std.specs.Prelude.{◌≡◌, ◌⊎◌, ℕ, List}
 use Rattle.yaml_shown.specs.Alike.{MeanAlike}
 use Rattle.yaml_shown.specs.Lines.{LinesOf}
 use Rattle.yaml_shown.specs.Refused.{ShowRefuses}
+use Rattle.yaml_shown.specs.Shows.{Shows}
 use Rattle.yaml_c.specs.declared.fault.YamlcanonFault.{YamlcanonFault}
 use Rattle.yaml_c.specs.Answers.{Gives, Lacks, Refuses}
 
+-- the text that is shown of these bytes: a stream that means the same
+abbrev pub IsShown : List ℕ → List ℕ → Type 0
+IsShown bytes text = MeanAlike bytes text × Shows bytes text
+
 abbrev pub GivesShown : List ℕ → List ℕ → List ℕ → ℕ → YamlcanonFault → YamlcanonFault → Type 0
-GivesShown bytes = Gives (MeanAlike bytes)
+GivesShown bytes = Gives (IsShown bytes)
 
 abbrev pub ShortShown : List ℕ → List ℕ → List ℕ → ℕ → YamlcanonFault → YamlcanonFault → Type 0
-ShortShown bytes = Lacks (MeanAlike bytes)
+ShortShown bytes = Lacks (IsShown bytes)
 
 abbrev pub RefusesShown : List ℕ → List ℕ → List ℕ → ℕ → ℕ → YamlcanonFault → Type 0
 RefusesShown bytes = Refuses (ShowRefuses bytes)

@@ -3,6 +3,8 @@ ghost use Rattle.std.specs.Prelude.{◌≡◌, ◌⊎◌, List};
 ghost use Rattle.yaml_definitions.specs.model.Tree.{Tree};
 ghost use Rattle.yaml_definitions.specs.model.Proper.{Admitted};
 ghost use Rattle.yaml_definitions.specs.model.Means.{Means};
+ghost use Rattle.yaml_shown.specs.Refused.{JsonRefuses};
+ghost use Rattle.yaml_shown.specs.declared.unshown.Unshown.TheVariants.{NoJson, Unlike};
 ghost use Rattle.yaml_c.specs.Shown.{GivesShown, ShortShown, RefusesShown, IsLengthOrMemoryNumber};
 ghost use Rattle.yaml_c.specs.Shown.{GivesJson, ShortJson, WritesNothing};
 
@@ -54,6 +56,8 @@ pub extern "C" fn yaml_c_json(
     ensures given { result ≡ 0 → GivesJson input.now out.old out.new len.new fault.old fault.new }
     ensures short { result ≡ 3 → ShortJson input.now out.old out.new len.new fault.old fault.new }
     ensures refused { result ≡ 2 → RefusesShown input.now out.old out.new len.old len.new fault.new }
+    ensures lacks { result ≡ 4 → JsonRefuses input.now NoJson }
+    ensures unlike { result ≡ 5 → JsonRefuses input.now Unlike }
     ensures none { (result ≡ 4) ⊎ (result ≡ 5) → WritesNothing out.old out.new len.old len.new fault.old fault.new }
 {
     match show_json(alloc, input) {

@@ -4,6 +4,7 @@ ghost use Rattle.std.specs.Option.{option_map};
 ghost use Rattle.std.specs.Cow.{cow_str_bytes};
 ghost use Rattle.yaml_definitions.specs.model.Event.{full};
 ghost use Rattle.yaml_definitions.specs.model.Tag.{is_full};
+ghost use Rattle.yaml_definitions.specs.grammar.Characters.{c-tag};
 ghost use Rattle.yaml_definitions.specs.grammar.Tags.{decoded, percent_decode};
 ghost use Rattle.yaml_text.specs.declared.fault.Fault.TheVariants as fault;
 ghost use Rattle.yaml_mark.specs.PrefixModel.{bytes_of};
@@ -132,7 +133,7 @@ pub(crate) fn expand<'a>(
     shorthand: &'a str,
     suffix: &str,
 ) -> Result<Option<CowStr<'a>>, Fault>
-    requires { (handle : List ℕ) × (shorthand.now ≡ 33 ∷ (handle ++ suffix.now)) }
+    requires { (handle : List ℕ) × (shorthand.now ≡ c-tag ∷ (handle ++ suffix.now)) }
     ensures ok { IfOk result (λ tag. (text : List ℕ) → percent_decode text ≡ bytes_of prefix.entry ++ percent_decode suffix.now → option_map (λ t. full (cow_str_bytes t)) tag ≡ decoded text) }
     ensures err { IfErr result (λ e. e ≡ fault.OutOfMemory) }
 {

@@ -1,6 +1,7 @@
 //! Prefixes of tags, decoded (YAML 1.2.2, 6.8.2).
 ghost use Rattle.std.specs.Prelude.{◌≡◌, [], ◌∷◌, IfOk, IfErr};
 ghost use Rattle.std.specs.Bool.{OnTrue};
+ghost use Rattle.yaml_definitions.specs.grammar.Characters.{c-tag};
 ghost use Rattle.yaml_definitions.specs.grammar.Tags.{percent_decode};
 ghost use Rattle.yaml_text.specs.declared.fault.Fault.TheVariants as fault;
 ghost use Rattle.yaml_mark.specs.PrefixModel.{bytes_of, decoded_of, made_of};
@@ -36,7 +37,7 @@ pub(crate) enum Made<'a> {
 impl Prefix<'_> {
     /// Whether this is `!`.
     pub(crate) fn is_bang(self) -> bool
-        ensures { OnTrue result (bytes_of self.entry ≡ 33 ∷ []) }
+        ensures { OnTrue result (bytes_of self.entry ≡ c-tag ∷ []) }
     {
         match self {
             Prefix::Text(text) => text == "!",

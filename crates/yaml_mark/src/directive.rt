@@ -198,7 +198,7 @@ fn read_body<'a>(
     requires at { IsBorder source.now at }
     requires start { IsBorder source.now start }
     requires order { at < start }
-    requires percent { chr (text_of source.now) 37 (place_of source.now at) (place_of source.now start) }
+    requires percent { chr (text_of source.now) c-directive (place_of source.now at) (place_of source.now start) }
     ensures border { IfOk result (λ r. IsBorder source.now r.1) }
     ensures onward { IfOk result (λ r. at < r.1) }
     ensures settles { IfOk result (λ r. Settles (text_of source.now) (body (text_of source.now)) (place_of source.now at) (place_of source.now r.1) (directive_of r.0)) }
@@ -238,7 +238,7 @@ pub(crate) fn read_directive<'a>(
     requires at { IsBorder source.now at }
     requires start { IsBorder source.now start }
     requires order { at < start }
-    requires percent { chr (text_of source.now) 37 (place_of source.now at) (place_of source.now start) }
+    requires percent { chr (text_of source.now) c-directive (place_of source.now at) (place_of source.now start) }
     requires line { StartsLine (text_of source.now) (place_of source.now at) }
     ensures border { IfOk result (λ r. IsBorder source.now r.1) }
     ensures onward { IfOk result (λ r. at < r.1) }

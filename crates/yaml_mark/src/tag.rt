@@ -83,7 +83,7 @@ fn read_shorthand<'a>(
     requires at { IsBorder source.now at }
     requires first { IsBorder source.now first }
     requires order { at < first }
-    requires bang { chr (text_of source.now) 33 (place_of source.now at) (place_of source.now first) }
+    requires bang { chr (text_of source.now) c-tag (place_of source.now at) (place_of source.now first) }
     requires other { slice_get (text_of source.now) (place_of source.now first) ≢ Some 60 }
     ensures border { IfOk result (λ r. IsBorder source.now r.1) }
     ensures onward { IfOk result (λ r. at < r.1) }

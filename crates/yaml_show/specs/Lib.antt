@@ -1,2 +1,4 @@
 pub mod Flow
+pub mod JsonText
+pub mod JsonTrees
 pub mod Layout

@@ -35,7 +35,7 @@ pub(crate) fn is_short<I: Copy, V: RankedNodes<I>>(view: &V, id: I) -> bool
 }
 
 /// Writes what is before the part at this place.
-fn put_separator(out: &mut Out, place: usize) -> Result<(), Stop>
+pub(crate) fn put_separator(out: &mut Out, place: usize) -> Result<(), Stop>
     ensures { OnOk result (written out.new ≡ written out.old ++ separator place) }
 {
     if place == 0 {

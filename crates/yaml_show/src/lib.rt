@@ -1,6 +1,6 @@
 //! Readable texts of ranked documents: block style, a line for each entry and item (`block_text`), and a line of JSON for each document
-//! (`json_lines`). Scalars and tags are written by `yaml_show_scalar`. The text in block style is that of a definition, so it depends on
-//! what the documents mean alone. That it means the same is not claimed here: `yaml_shown` checks each text before it is handed out.
+//! (`json_lines`). Scalars and tags are written by `yaml_show_scalar`. Both texts are those of definitions, so they depend on what the
+//! documents mean alone. That they mean the same is not claimed here: `yaml_shown` checks each text before it is handed out.
 #![tactic(auto)]
 
 mod block;

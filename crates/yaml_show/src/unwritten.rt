@@ -1,5 +1,6 @@
 //! Why documents are not written as JSON.
-use std::alloc::AllocError;
+ghost use Rattle.std.specs.Prelude.{◌≡◌};
+
 use yaml_show_scalar::Stop;
 
 /// Why documents are not written as JSON.
@@ -9,18 +10,14 @@ pub enum Unwritten {
     Stopped(Stop),
     /// JSON cannot express a node.
     NoJson,
-    /// A number of a node is none of the graph, or nodes nest deeper than documents do. No document has such a node.
-    Lost,
 }
 
 impl From<Stop> for Unwritten {
+    ghost use Rattle.yaml_show.specs.declared.unwritten.Unwritten.TheVariants.{Stopped};
+
+    ghost from_gives = { λ stop why. why ≡ Stopped stop };
+
     fn from(stop: Stop) -> Unwritten {
         Unwritten::Stopped(stop)
-    }
-}
-
-impl From<AllocError> for Unwritten {
-    fn from(_error: AllocError) -> Unwritten {
-        Unwritten::Stopped(Stop::OutOfMemory)
     }
 }

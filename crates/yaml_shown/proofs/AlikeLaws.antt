@@ -1,5 +1,5 @@
 -- Streams that mean the same are shown as the same bytes.
-use Rattle.std.proofs.Common.{◌≡◌, inl, inr, ℕ, ◌≤◌, List, [], ◌∷◌, ◌++◌, length, map, refl, sym, ◌∙◌, ap, subst, arith}
+use Rattle.std.proofs.Common.{◌≡◌, inl, inr, true, ℕ, ◌≤◌, List, [], ◌∷◌, ◌++◌, length, map, refl, sym, ◌∙◌, ap, subst, arith}
 use Rattle.std.specs.Cmp.Lexicographic.{pointwise}
 use Rattle.std.specs.Prelude.{encode_utf8_all, Option, Some, None, IfNone}
 use Rattle.std.proofs.lemmas.List.{append-nil}
@@ -18,9 +18,11 @@ use Rattle.yaml_spell.specs.Documents.{arranged_bytes, spell_more}
 use Rattle.yaml_spell.proofs.DocumentLaws.{arranged_same, spell_whole}
 use Rattle.law_one_reading.proofs.Documents.{one_meaning}
 use Rattle.law_read_back.proofs.Meanings.{spellings_mean}
+use Rattle.yaml_show.specs.JsonText.{json_text}
 use Rattle.yaml_show.specs.Layout.{shown_text}
 use Rattle.yaml_canon.specs.Claims.{AllOf, MeansAlone, IsCanonicalText}
 use Rattle.yaml_shown.specs.Alike.{MeanAlike}
+use Rattle.yaml_shown.specs.Lines.{joined, all_have_json, AreTheirs, SameIsJsonAlike}
 use Rattle.yaml_shown.specs.Shows.{readable, ReadsBack, IsShownText, Shows, SameIsShownAlike}
 
 -- ---- documents that are alike
@@ -93,11 +95,20 @@ pub when_none : {T P : Type 0} (o : Option T) → o ≡ None → IfNone o P → 
 when_none None e h = h
 when_none (Some x) e h = absurd (cc)
 
--- the text of the documents of a store that holds this stream and an empty one
+-- the documents of a store that holds this stream and an empty one
+all_meant : (bytes : List ℕ) (f lefts rights all : List Tree) → Means bytes lefts → Means [] rights → all ≡ lefts ++ rights → Means bytes f → all ≡ f
+all_meant bytes f lefts rights all m n e k = e ∙ ap (λ z. lefts ++ z) (nothing_meant rights n) ∙ append-nil lefts ∙ one_meaning bytes lefts f m k
+
+-- what is known of these documents
+pub of_meant : (P : List Tree → Type 0) (bytes : List ℕ) (f lefts rights all : List Tree) → Means bytes lefts → Means [] rights → all ≡ lefts ++ rights → P all → Means bytes f → P f
+of_meant P bytes f lefts rights all m n e h k = subst P (all_meant bytes f lefts rights all m n e k) h
+
+pub theirs : (f : List Tree) (lines : List (List ℕ)) → (lines ≡ map json_text (map arranged f)) × (all_have_json f ≡ true) → AreTheirs f lines
+theirs f lines h = record { written = h.0; has = h.1 }
+
+-- the text of such documents
 pub readable_is : (bytes text : List ℕ) (f lefts rights all : List Tree) → Means bytes lefts → Means [] rights → all ≡ lefts ++ rights → text ≡ shown_text (map arranged all) → Means bytes f → text ≡ readable f
-readable_is bytes text f lefts rights all m n e h k =
-    let all_is : all ≡ f = e ∙ ap (λ z. lefts ++ z) (nothing_meant rights n) ∙ append-nil lefts ∙ one_meaning bytes lefts f m k in
-    h ∙ ap readable all_is
+readable_is bytes text f lefts rights all m n e h k = h ∙ ap readable (all_meant bytes f lefts rights all m n e k)
 
 pub shows_readable : (bytes text : List ℕ) → MeanAlike bytes text → ((f : List Tree) → Means bytes f → text ≡ readable f) → Shows bytes text
 shows_readable bytes text m r =
@@ -130,3 +141,10 @@ same_is_shown_alike left right text other m p q =
     let j : q.forest ≡ m.shown = m.text_means.only q.forest q.means.means in
     let e = alike_arranged m.meant m.shown m.bytes_mean.keyed m.text_means.keyed m.alike in
     shown_alike p.forest q.forest p.means.keyed q.means.keyed (ap (map arranged) i ∙ e ∙ ap (map arranged) (sym j)) text other p.shown q.shown
+
+pub same_is_json_alike : SameIsJsonAlike
+same_is_json_alike left right text other m p q =
+    let a = p.theirs m.meant m.bytes_mean.means in
+    let b = q.theirs m.shown m.text_means.means in
+    let e = alike_arranged m.meant m.shown m.bytes_mean.keyed m.text_means.keyed m.alike in
+    p.text_is ∙ ap (joined []) (a.written ∙ ap (map json_text) e ∙ sym b.written) ∙ sym q.text_is

@@ -1,7 +1,9 @@
-//! A law of what the calls promise. The function has an empty body, and its contract is the law.
+//! Laws of what the calls promise. The function has an empty body, and its contract is the laws.
+ghost use Rattle.yaml_shown.specs.Lines.{SameIsJsonAlike};
 ghost use Rattle.yaml_shown.specs.Shows.{SameIsShownAlike};
 
-/// Streams that mean the same are shown as the same bytes.
+/// Streams that mean the same are shown as the same bytes, in YAML and in JSON.
 pub fn same_is_shown_alike()
-    ensures { SameIsShownAlike }
+    ensures yaml { SameIsShownAlike }
+    ensures json { SameIsJsonAlike }
 {}

@@ -1,6 +1,6 @@
 //! Readable texts of a stream, each checked before it is handed out: `show` in YAML, `show_json` in JSON. The check is the comparer, so no
-//! text is handed out that means something else than the stream, whatever the presenter wrote. Streams that mean the same are shown in YAML as
-//! the same bytes.
+//! text is handed out that means something else than the stream, whatever the presenter wrote. Streams that mean the same are shown as the same
+//! bytes.
 #![tactic(auto)]
 
 mod checking;

@@ -1,11 +1,13 @@
 //! What a presenter writes of a stream.
-ghost use Rattle.std.specs.Prelude.{◌≡◌, ◌++◌, ℕ, List, IfOk, IfErr, IfSome, string_bytes};
+ghost use Rattle.std.specs.Prelude.{◌≡◌, ◌++◌, ℕ, List, IfOk, IfErr, IfSome, map, string_bytes};
 ghost use Rattle.yaml_definitions.specs.model.Tree.{Tree};
 ghost use Rattle.yaml_definitions.specs.model.Means.{Means};
 ghost use Rattle.yaml_graph.specs.GraphView.{forest as root_trees};
 ghost use Rattle.yaml_rank.specs.RanksView.{RanksAre};
 ghost use Rattle.yaml_canon.specs.Claims.{CanonicalRefuses};
 ghost use Rattle.yaml_canon.specs.Both.{HasBoth};
+ghost use Rattle.yaml_show.specs.JsonTrees.{Lacks};
+ghost use Rattle.yaml_shown.specs.Lines.{all_have_json, AreTheirs};
 ghost use Rattle.yaml_shown.specs.Refused.{ShowRefuses, JsonRefuses};
 ghost use Rattle.yaml_shown.specs.Shows.{readable};
 
@@ -76,12 +78,11 @@ pub(crate) fn readable_text(alloc: Global, bytes: &[u8]) -> Result<String, Fault
 
 /// The fault of lines that are not finished.
 fn unwritten(why: Unwritten) -> Unshown
-    ensures { (bytes : List ℕ) → JsonRefuses bytes result }
+    ensures { (bytes : List ℕ) → ((f : List Tree) → Means bytes f → Lacks (all_have_json f) why) → JsonRefuses bytes result }
 {
     match why {
         Unwritten::Stopped(stop) => Unshown::Rejected(stopped(stop)),
         Unwritten::NoJson => Unshown::NoJson,
-        Unwritten::Lost => Unshown::Unlike,
     }
 }
 
@@ -91,7 +92,8 @@ fn unwritten(why: Unwritten) -> Unshown
 /// Those of `canonical`. 20: the lines would be too long. Else JSON cannot express a node.
 #[tactic(auto, using(crate::proofs::ShownLaws::refused_shown))]
 pub(crate) fn written_lines(alloc: Global, bytes: &[u8]) -> Result<Vec<String>, Unshown>
-    ensures { IfErr result (JsonRefuses bytes.now) }
+    ensures lines { IfOk result (λ lines. (f : List Tree) → Means bytes.now f → AreTheirs f (map string_bytes lines.items)) }
+    ensures refused { IfErr result (JsonRefuses bytes.now) }
 {
     let Ok(forests) = forest_of_both(alloc, bytes, b"") else {
         return Err(Unshown::Rejected(rejection(alloc, bytes)));

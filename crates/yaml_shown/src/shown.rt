@@ -58,7 +58,7 @@ pub fn show(alloc: Global, bytes: &[u8]) -> Result<String, Fault>
     }
 }
 
-/// The stream in these bytes as JSON: a line for each document.
+/// The stream in these bytes as JSON: a line for each document. Streams that mean the same have the same lines.
 ///
 /// # Errors
 /// Those of `canonical`, and what JSON cannot express. 20 means that the lines would have more than 67,108,864 bytes, with four more for

@@ -1,5 +1,5 @@
 -- What becomes of the files of a list of sums, one line more at a time.
-use Rattle.std.proofs.Common.{◌≡◌, ◌==◌, ◌⊎◌, ◌++◌, ℕ, zero, suc, Bool, true, false, not, cond, ◌+◌, ◌-◌, ◌^◌, ◌<◌, ◌≤◌, max, List, [], ◌∷◌, Option, None, Some, length, take, refl, sym, ◌∙◌, ap, subst, arith, append_assoc, append-nil, length-append, inl, inr}
+use Rattle.std.proofs.Common.{◌≡◌, ◌==◌, ◌++◌, ℕ, zero, suc, Bool, true, false, not, cond, ◌+◌, ◌-◌, ◌^◌, ◌<◌, ◌≤◌, max, List, [], ◌∷◌, Option, None, Some, length, take, refl, sym, ◌∙◌, ap, subst, arith, append_assoc, append-nil, length-append, inl, inr}
 use Rattle.std.specs.Prelude.{Result, Ok, Err, OnOk, IfErr}
 use Rattle.std.specs.Io.KnownBytes.{Appends}
 use Rattle.std.proofs.Math.Seq.{take-length}
@@ -18,7 +18,7 @@ use Rattle.yaml_sum.specs.Asks.{list_limit, ListChecked, ListNotChecked}
 use Rattle.yaml_sum.specs.Sums.{IsRead, Halts}
 use Rattle.yaml_sum.specs.Listed.{Listing, listed_name, is_remark, listing_of, listing_in, improper_in, all_listings, improper_count, lines_of}
 use Rattle.yaml_sum.specs.Checks.{verdict_line, verdicts, finding_status, worst_found, TellsFound, TellAllFound, Finds, FindAll, ChecksAll, ChecksCut, any_in, none_line, improper_line, TellsImproper, Closes}
-use Rattle.yaml_sum.specs.Checking.{Counts, IsCounted, Puts, PutsNot, ChecksSome, ChecksOne, Sees, CutsFile, CutsLine, Checking}
+use Rattle.yaml_sum.specs.Checking.{Counts, IsCounted, Puts, PutsNot, ChecksSome, ChecksOne, Sees, CutsLine, Checking}
 use Rattle.yaml_sum.specs.declared.finding.Finding.{Finding}
 use Rattle.yaml_sum.specs.declared.check.Seen.{Seen}
 use Rattle.yaml_sum.specs.declared.check.Seen.TheVariants.{Remark, Improper, File}

@@ -1,11 +1,11 @@
 -- A name that is written with escapes, byte by byte.
-use Rattle.std.proofs.Common.{◌≡◌, ◌==◌, ◌++◌, ℕ, ◌+◌, ◌<◌, ◌≤◌, Bool, true, false, cond, List, [], ◌∷◌, Option, None, Some, length, take, drop, get_or, refl, sym, ◌∙◌, ap, subst, append_assoc, append-nil, arith}
+use Rattle.std.proofs.Common.{◌≡◌, ◌==◌, ◌++◌, ℕ, ◌+◌, ◌<◌, Bool, true, false, cond, List, [], ◌∷◌, Option, None, Some, length, take, drop, get_or, refl, sym, ◌∙◌, ap, append_assoc, append-nil, arith}
 use Rattle.std.specs.Prelude.{◌&&◌, ◌||◌, nat_lt, slice_index, option_map}
 use Rattle.std.proofs.lemmas.Bool.{ltb-true}
 use Rattle.std.proofs.lemmas.List.{length-take-le}
 use Rattle.std.proofs.lemmas.List.{drop_more}
 use Rattle.hex.specs.Hex.{decode_sized}
-use Rattle.yaml_sum.specs.Listed.{Listing, listed, escaped, with_front, name_of, is_apart, told_digest, both, listing, listing_of}
+use Rattle.yaml_sum.specs.Listed.{listed, escaped, with_front, name_of, is_apart, told_digest, both, listing, listing_of}
 use Rattle.yaml_sum.specs.Reads.{name_as, said, name_behind}
 use Rattle.yaml_sum.specs.declared.listed.Listed.{Listed}
 

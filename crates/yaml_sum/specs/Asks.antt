@@ -1,5 +1,6 @@
 -- What is asked of `sum`, and what it tells.
-use Rattle.std.specs.Prelude.{◌≡◌, ◌⊎◌, ℕ, List, map, Option}
+use Rattle.std.specs.Prelude.{◌≡◌, ◌⊎◌, ℕ, List, map, Option, Some, None}
+use Rattle.std.specs.Borrow.{Bor}
 use Rattle.yaml_text.specs.declared.counted.Counted.{Counted}
 use Rattle.yaml_text.specs.CountedModel.{inner_of, faults_of}
 use Rattle.yaml_text.specs.Writers.{Printed, Broken}
@@ -17,6 +18,12 @@ use Rattle.yaml_sum.specs.declared.stop.Stop.TheVariants.{CannotOpen, Refused}
 -- the greatest length of a list, in bytes
 abbrev pub list_limit : ℕ
 list_limit = 1073741824
+
+-- the list that names the files, if there is one
+abbrev pub list_in : Asked → Option (Bor (List ℕ))
+list_in (Files files) = None
+list_in (FilesFrom list) = Some list
+list_in (Check list) = Some list
 
 module _ {R : Type 0} (holds : List ℕ → Option (List ℕ)) (remaining : R → Option (List ℕ)) where
   -- why a list is not read

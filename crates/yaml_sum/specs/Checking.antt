@@ -1,10 +1,9 @@
 -- What stands while a list of sums is checked.
-use Rattle.std.specs.Prelude.{◌≡◌, ◌==◌, ◌⊎◌, ◌++◌, ℕ, ◌+◌, ◌≤◌, Bool, true, false, max, List, [], ◌∷◌, length, Option, Some, None}
+use Rattle.std.specs.Prelude.{◌≡◌, ◌⊎◌, ◌++◌, ℕ, ◌+◌, ◌≤◌, true, false, max, List, length, Option, Some, None}
 use Rattle.yaml_text.specs.declared.fault.Fault.{Fault}
 use Rattle.yaml_text.specs.declared.fault.Fault.TheVariants.{OutOfMemory}
 use Rattle.yaml_text.specs.declared.counted.Counted.{Counted}
 use Rattle.yaml_spell.specs.Writers.{Sent, CutOff}
-use Rattle.yaml_sum.specs.Complaints.{IsTold}
 use Rattle.yaml_sum.specs.Listed.{Listing, listed_name, is_remark, listing_of, all_listings, improper_count, lines_of}
 use Rattle.yaml_sum.specs.Checks.{verdict_line, verdicts, finding_status, worst_found, TellsFound, TellAllFound, Finds, FindAll, any_in}
 use Rattle.yaml_sum.specs.declared.finding.Finding.{Finding}

@@ -4,7 +4,6 @@ use Rattle.std.specs.Fmt.{decimal}
 use Rattle.std.specs.List.{list_any}
 use Rattle.yaml_text.specs.declared.fault.Fault.{Fault}
 use Rattle.yaml_text.specs.declared.counted.Counted.{Counted}
-use Rattle.yaml_spell.specs.Writers.{Sent}
 use Rattle.yaml_text.specs.Writers.{Printed}
 use Rattle.yaml_sum.specs.Complaints.{complaint, IsTold}
 use Rattle.yaml_sum.specs.Lines.{name_text}

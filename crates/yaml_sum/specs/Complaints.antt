@@ -1,6 +1,9 @@
 -- The lines that tell why a file has no sum.
-use Rattle.std.specs.Prelude.{◌⊎◌, ◌++◌, ℕ, List, Option, codes}
+use Rattle.std.specs.Prelude.{◌⊎◌, ◌++◌, ◌==◌, ℕ, cond, List, Option, codes}
+use Rattle.std.specs.List.{list_any}
 use Rattle.std.specs.Fmt.{decimal}
+use Rattle.std.specs.declared.io.ErrorKind.{ErrorKind}
+use Rattle.std.specs.declared.io.ErrorKind.TheVariants as kind
 use Rattle.yaml_text.specs.Fault.{fault_number, fault_name}
 use Rattle.yaml_text.specs.declared.fault.Fault.{Fault}
 use Rattle.yaml_text.specs.declared.counted.Counted.{Counted}
@@ -11,6 +14,18 @@ use Rattle.yaml_sum.specs.declared.reason.Reason.{Reason}
 use Rattle.yaml_sum.specs.declared.reason.Reason.TheVariants.{NotFound, Denied, Folder, NoFolder, NotUtf8, Other}
 use Rattle.yaml_sum.specs.declared.stop.Stop.{Stop}
 use Rattle.yaml_sum.specs.declared.stop.Stop.TheVariants.{CannotOpen, NotRegular, Refused}
+
+-- why a file cannot be opened, by the kind of the error
+abbrev pub reason_by : ErrorKind → Reason
+reason_by kind.NotFound = NotFound
+reason_by kind.PermissionDenied = Denied
+reason_by kind.IsADirectory = Folder
+reason_by kind.NotADirectory = NoFolder
+reason_by _ = Other
+
+-- A name that is not UTF-8 is given with a NUL, which no name of a file has.
+abbrev pub reason_for : List ℕ → ErrorKind → Reason
+reason_for name kind = cond (list_any (λ b. b == 0) name) NotUtf8 (reason_by kind)
 
 -- why a file cannot be opened, in words
 abbrev pub reason_words : Reason → List ℕ

@@ -1,6 +1,6 @@
 -- What reading a line of a list of sums answers.
 use Rattle.std.specs.Prelude.{◌≡◌, ◌++◌, ℕ, Bool, true, false, List, Option, Some, None, option_map}
-use Rattle.yaml_sum.specs.Listed.{Listing, listed, name_of, both}
+use Rattle.yaml_sum.specs.Listed.{Listing, name_of, both}
 use Rattle.yaml_sum.specs.declared.listed.Listed.{Listed}
 
 -- a name by how it is written

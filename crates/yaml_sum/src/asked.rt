@@ -12,8 +12,13 @@ pub enum Asked<'a> {
 }
 
 impl<'a> Asked<'a> {
+    ghost use Rattle.std.specs.Prelude.{◌≡◌};
+    ghost use Rattle.yaml_sum.specs.Asks.{list_in};
+
     /// The list that names the files, if there is one.
-    pub fn list(self) -> Option<&'a str> {
+    pub fn list(self) -> Option<&'a str>
+        ensures { result ≡ list_in self.entry }
+    {
         match self {
             Asked::Files(_) => None,
             Asked::FilesFrom(list) | Asked::Check(list) => Some(list),

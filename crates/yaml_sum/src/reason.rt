@@ -1,4 +1,7 @@
 //! Why a file cannot be opened.
+ghost use Rattle.std.specs.Prelude.{◌≡◌};
+ghost use Rattle.yaml_sum.specs.Complaints.{reason_for};
+
 use std::io::ErrorKind;
 
 /// Why a file cannot be opened.
@@ -20,10 +23,12 @@ pub enum Reason {
 
 impl Reason {
     ghost use Rattle.std.specs.Prelude.{◌≡◌};
-    ghost use Rattle.yaml_sum.specs.Complaints.{reason_words};
+    ghost use Rattle.yaml_sum.specs.Complaints.{reason_by, reason_words};
 
     /// The reason of an error of opening.
-    pub fn of(kind: ErrorKind) -> Reason {
+    pub fn of(kind: ErrorKind) -> Reason
+        ensures { result ≡ reason_by kind }
+    {
         match kind {
             ErrorKind::NotFound => Reason::NotFound,
             ErrorKind::PermissionDenied => Reason::Denied,
@@ -50,7 +55,9 @@ impl Reason {
 
 /// Why the file of a name is not opened, by the kind of the error. Bytes of a word that are not UTF-8 are given as NUL, which no name
 /// of a file has.
-pub fn reason_of(name: &[u8], kind: ErrorKind) -> Reason {
+pub fn reason_of(name: &[u8], kind: ErrorKind) -> Reason
+    ensures { result ≡ reason_for name.now kind }
+{
     if name.contains(&0) {
         Reason::NotUtf8
     } else {

@@ -17,8 +17,13 @@ pub struct Regular<'a, 'b, T> {
 }
 
 impl<'a, 'b, T> Regular<'a, 'b, T> {
+    ghost use Rattle.std.specs.Prelude.{◌≡◌};
+
     /// The files of this runtime, with the name of the list, if there is one.
-    pub fn new(rt: &'a T, list: Option<&'b str>) -> Regular<'a, 'b, T> {
+    pub fn new(rt: &'a T, list: Option<&'b str>) -> Regular<'a, 'b, T>
+        ensures runtime { result.rt ≡ rt.entry }
+        ensures list { result.list ≡ list.entry }
+    {
         Regular { rt, list }
     }
 

@@ -6,6 +6,7 @@ import subprocess
 import time
 
 from lib.crates import write_list
+from lib.paths import RT
 
 PARTS = ("src", "specs", "proofs")
 PROVED = re.compile(r"rt: (\S+) (proved|NOT PROVED)")
@@ -35,7 +36,7 @@ class Proving:
         """Runs it to its end; rt's status."""
         said = []
         with open(self.log, "w", encoding="utf-8") as log, subprocess.Popen(
-            ["rt", "ci", "--anew", self.crate],
+            [RT, "ci", "--anew", self.crate],
             cwd=self.room,
             stdin=subprocess.DEVNULL,
             stdout=subprocess.PIPE,

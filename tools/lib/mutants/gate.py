@@ -4,6 +4,7 @@ import re
 import subprocess
 import threading
 
+from lib.paths import RT
 from lib.room import free_memory
 
 
@@ -25,7 +26,7 @@ class Gate:
         self.proved, self.status = set(), None
         self.changed = threading.Condition()
         self.process = subprocess.Popen(
-            ["rt", "ci"],
+            [RT, "ci"],
             cwd=root,
             stdin=subprocess.DEVNULL,
             stdout=subprocess.PIPE,

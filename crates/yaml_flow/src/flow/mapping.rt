@@ -1,6 +1,7 @@
 //! Flow mappings (YAML 1.2.2, 7.4.2).
 ghost use Rattle.std.specs.Prelude.{◌≡◌, IfOk, IfErr};
 ghost use Rattle.yaml_text.specs.EventModel.{context_of};
+ghost use Rattle.yaml_definitions.specs.grammar.Characters.{c-mapping-start};
 ghost use Rattle.yaml_definitions.specs.grammar.Separation.{inner, flow_in};
 ghost use Rattle.yaml_layout.specs.declared.flow.Kind.TheVariants.{Json};
 ghost use Rattle.yaml_text.specs.Placed.{IsPlaced};
@@ -32,7 +33,7 @@ pub fn read_mapping<'a, K: Keeper>(
     level: &Level<'_, 'a>,
     out: &mut Sink<'a, K>,
 ) -> Result<FlowNode, Fault>
-    requires { StartsCollection source.now level.now 123 at inside }
+    requires { StartsCollection source.now level.now c-mapping-start at inside }
     ensures ends { IfOk result (λ node. EndsPast source.now level.now at node.end node.deep) }
     ensures reads { ReadsNode content_rule source.now level.now at (holds_of K.holds) out.old out.new result }
     ensures kind { IfOk result (λ node. node.kind ≡ Json) }

@@ -2,6 +2,7 @@
 ghost use Rattle.std.specs.Prelude.{◌≡◌, ◌⊎◌, IfOk, IfErr};
 ghost use Rattle.yaml_text.specs.Source.{text_of, place_of};
 ghost use Rattle.yaml_text.specs.EventModel.{context_of};
+ghost use Rattle.yaml_definitions.specs.grammar.Characters.{c-sequence-start};
 ghost use Rattle.yaml_definitions.specs.grammar.Separation.{inner, flow_in};
 ghost use Rattle.yaml_text.specs.Lines.{Inside};
 ghost use Rattle.law_one_reading.specs.Follows.{Closes};
@@ -39,7 +40,7 @@ pub fn read_sequence<'a, K: Keeper>(
     level: &Level<'_, 'a>,
     out: &mut Sink<'a, K>,
 ) -> Result<FlowNode, Fault>
-    requires { StartsCollection source.now level.now 91 at inside }
+    requires { StartsCollection source.now level.now c-sequence-start at inside }
     ensures ends { IfOk result (λ node. EndsPast source.now level.now at node.end node.deep) }
     ensures reads { ReadsNode content_rule source.now level.now at (holds_of K.holds) out.old out.new result }
     ensures kind { IfOk result (λ node. node.kind ≡ Json) }

@@ -4,6 +4,7 @@ ghost use Rattle.std.specs.Bool.{OnTrue, OnFalse};
 ghost use Rattle.yaml_text.specs.Place.{Steps};
 ghost use Rattle.yaml_text.specs.Source.{bytes_of, text_of, place_of, IsBorder};
 ghost use Rattle.yaml_text.specs.EventModel.{context_of};
+ghost use Rattle.yaml_definitions.specs.grammar.Characters.{c-mapping-key, c-mapping-value};
 ghost use Rattle.yaml_definitions.specs.grammar.Separation.{inner};
 ghost use Rattle.yaml_text.specs.Lines.{Inside};
 ghost use Rattle.law_one_reading.specs.Follows.{Closes};
@@ -85,7 +86,7 @@ pub fn part_gap(source: &Chars<'_>, at: usize, least: usize, context: Ctx) -> Re
 /// The border after the colon that makes a node a key, if it stands at a border.
 pub fn value_sign(source: &Chars<'_>, at: usize, kind: Kind, context: Ctx) -> Option<usize>
     requires { IsBorder source.now at }
-    ensures colon { IfSome result (λ after. Steps (bytes_of source.now) at 58 after) }
+    ensures colon { IfSome result (λ after. Steps (bytes_of source.now) at c-mapping-value after) }
     ensures sign { IfSome result (λ after. MayFollowColon kind (context_of context) (text_of source.now) (place_of source.now after)) }
     ensures none { IfNone result (SignAt kind (context_of context) (text_of source.now) (place_of source.now at) → ⊥) }
 {
@@ -104,7 +105,7 @@ pub fn value_sign(source: &Chars<'_>, at: usize, kind: Kind, context: Ctx) -> Op
 /// The border after the `?` that begins an entry, if it stands at a border.
 pub fn question_sign(source: &Chars<'_>, at: usize, context: Ctx) -> Option<usize>
     requires { IsBorder source.now at }
-    ensures sign { IfSome result (λ after. Steps (bytes_of source.now) at 63 after) }
+    ensures sign { IfSome result (λ after. Steps (bytes_of source.now) at c-mapping-key after) }
     ensures asked { IfSome result (λ _. AskedAt (context_of context) (text_of source.now) (place_of source.now at)) }
     ensures none { IfNone result (AskedAt (context_of context) (text_of source.now) (place_of source.now at) → ⊥) }
 {

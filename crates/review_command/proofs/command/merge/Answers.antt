@@ -10,5 +10,5 @@ returns g c = record {
   new = c.merge3-answer.new.out;
   writer = c.new-out.ensures.inner;
   no_write = c.new-out.ensures.faults;
-  ends = merge_ends (g.S.Shelf.holds c.args.shelf.now) g.R.Read.remaining g.W.Write.contents c.merge_names-names.result c.args.input c.merge3-answer.new.input c.new-out.result c.merge3-answer.new.out c.merge3-answer.result c.merge_status.result c.merge3-answer.ensures.tells c.merge3-answer.ensures.none c.merge_status.ensures.ok c.merge_status.ensures.err;
+  ends = merge_ends (g.S.Shelf.holds c.args.shelf.now) g.R.Read.remaining g.W.Write.contents g.E.Write.contents c.merge_names-names.result c.args.input c.merge3-answer.new.input c.new-out.result c.merge3-answer.new.out c.args.err c.merge_status.new.err c.merge3-answer.result c.merge_status.result c.merge3-answer.ensures.tells c.merge3-answer.ensures.none c.merge3-answer.ensures.refuses c.merge_status.ensures.ok c.merge_status.ensures.err c.merge_status.ensures.told;
 }

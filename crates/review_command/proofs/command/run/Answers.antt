@@ -31,7 +31,7 @@ returns-in-Warn g c =
 pub returns-in-WarnPage : goal.returns-in-WarnPage
 returns-in-WarnPage g c =
     subst (λ z. Does (g.S.Shelf.holds c.args.shelf.now) g.R.Read.remaining g.W.Write.contents g.E.Write.contents z c.args.input c.args.out c.args.err c.report_as-in-WarnPage.result) (sym c.in-WarnPage.is)
-    (warns_page (g.S.Shelf.holds c.args.shelf.now) g.R.Read.remaining g.W.Write.contents g.E.Write.contents c.in-WarnPage.asked c.in-WarnPage.warn _ c.args.input c.args.out c.report_as-in-WarnPage.result refl c.report_as-in-WarnPage.ensures)
+    (warns_page (g.S.Shelf.holds c.args.shelf.now) g.R.Read.remaining g.W.Write.contents g.E.Write.contents c.in-WarnPage.page c.in-WarnPage.asked c.in-WarnPage.warn _ c.args.input c.args.out c.report_as-in-WarnPage.result refl c.report_as-in-WarnPage.ensures)
 
 pub returns-in-Show : goal.returns-in-Show
 returns-in-Show g c =

@@ -19,7 +19,7 @@ returns-clause-ok c =
     let e : c.search_room-room.result ≡ search_room c.args.ignored.now (room_for c.args.asked.now.lines) = c.search_room-room.ensures.asked ∙ ap (search_room c.args.ignored.now) c.room_for.ensures.asked in
     if_ok c.list_of-2.result
     (λ x h. record {
-      room = 1000000;
+      room = 100000;
       finds = h;
       enough = let l = c.is_enough.ensures.room c.if-is_enough.false in omega (arith, e, l);
       unfolded = λ f. absurd (true-false (sym (c.is_enough.ensures.folds c.if-is_enough.false) ∙ f));

@@ -1,4 +1,17 @@
+use Rattle.std.proofs.Common.{[], map}
+use Rattle.std.specs.String.{string_bytes}
+use Rattle.yaml_show.specs.JsonTrees.{Lacks}
+use Rattle.yaml_shown.specs.Lines.{all_have_json, AreTheirs}
+use Rattle.yaml_shown.proofs.AlikeLaws.{of_meant, theirs}
 use Rattle.yaml_shown.proofs.presenting.written_lines.Goals as goal
 
-pub returns : goal.returns
-returns c = c.unwritten.ensures c.args.bytes.now
+pub returns-in-Ok-json_lines-clause-lines : goal.returns-in-Ok-json_lines-clause-lines
+returns-in-Ok-json_lines-clause-lines c = λ f m.
+    let has = c.in-Ok.ensures.both in
+    let lines = map string_bytes c.in-Ok-json_lines.lines.items in
+    of_meant (λ z. AreTheirs z lines) c.args.bytes.now f has.mean.lefts has.mean.rights _ has.mean.left_means has.mean.right_means (c.in-Some.ensures.trees c.args.bytes.now [] has) (theirs _ lines c.in-Ok-json_lines.ensures.ok) m
+
+pub returns-clause-refused : goal.returns-clause-refused
+returns-clause-refused c =
+    let has = c.in-Ok.ensures.both in
+    c.unwritten.ensures c.args.bytes.now (λ f m. of_meant (λ z. Lacks (all_have_json z) c.in-Err.why) c.args.bytes.now f has.mean.lefts has.mean.rights _ has.mean.left_means has.mean.right_means (c.in-Some.ensures.trees c.args.bytes.now [] has) c.in-Err.ensures.err m)

@@ -14,5 +14,12 @@ returns-clause-lines c =
       lines = map string_bytes items;
       text_is = c.in_ok-join.ensures.ok ∙ ap (λ z. joined [] (map string_bytes z)) c.deref-3.ensures.value;
       json = All-map IsJsonLine string_bytes items (subst (All (λ line. IsJsonLine (string_bytes line))) c.deref.ensures.value (c.in_ok-are_json_lines.ensures.json c.if-not-branch.false));
+      theirs = c.in_ok-lines.ensures.lines;
       alike = subst (MeanAlike c.args.bytes.now) stream (c.in_ok-is_alike.ensures.alike c.if-not-branch-2.false);
     }
+
+pub returns-then-not-branch-clause-refused : goal.returns-then-not-branch-clause-refused
+returns-then-not-branch-clause-refused c = λ f m. (c.in_ok-lines.ensures.lines f m).has
+
+pub returns-then-not-branch-2-clause-refused : goal.returns-then-not-branch-2-clause-refused
+returns-then-not-branch-2-clause-refused c = λ f m. (c.in_ok-lines.ensures.lines f m).has
