@@ -39,7 +39,8 @@ fn shown(
     room: usize,
 ) -> Result<Option<String>, Fault>
     requires ranked { RanksAre both.now.graph both.now.ranks }
-    ensures { IfOk result (ShowsNode both.now.graph room id) }
+    ensures ok { IfOk result (ShowsNode both.now.graph room id) }
+    ensures err { IfErr result (λ fault. fault ≡ Fault.OutOfMemory) }
 {
     match id {
         Some(id) => Ok(Some(node_text(alloc, both, id, room)?)),
@@ -79,6 +80,7 @@ fn fronts(
     requires ranked { RanksAre both.now.graph both.now.ranks }
     ensures left { IfOk result (λ s. ShowsNode both.now.graph room difference.now.left s.left) }
     ensures right { IfOk result (λ s. ShowsNode both.now.graph room difference.now.right s.right) }
+    ensures err { IfErr result (λ fault. fault ≡ Fault.OutOfMemory) }
 {
     Ok(Texts {
         left: shown(alloc, both, difference.left, room)?,
@@ -96,7 +98,8 @@ fn shown_both(
     budget: &mut Budget,
 ) -> Result<Texts, Fault>
     requires ranked { RanksAre both.now.graph both.now.ranks }
-    ensures { IfOk result (λ s. ShowsBoth both.now.graph room difference.now s.left s.right) }
+    ensures ok { IfOk result (λ s. ShowsBoth both.now.graph room difference.now s.left s.right) }
+    ensures err { IfErr result (λ fault. fault ≡ Fault.OutOfMemory) }
 {
     let texts = fronts(alloc, both, difference, room)?;
     if !texts.is_one() {
@@ -146,7 +149,8 @@ fn path_of(
     paths: Paths,
 ) -> Result<String, Fault>
     requires ranked { RanksAre both.now.graph both.now.ranks }
-    ensures { IfOk result (λ s. string_bytes s ≡ path_as paths (is_numbered both.now) difference.now.left difference.now.right (way_of both.now.graph difference.now.path.items)) }
+    ensures ok { IfOk result (λ s. string_bytes s ≡ path_as paths (is_numbered both.now) difference.now.left difference.now.right (way_of both.now.graph difference.now.path.items)) }
+    ensures err { IfErr result (λ fault. fault ≡ Fault.OutOfMemory) }
 {
     let numbered = is_numbered(both);
     let path = &difference.path;
@@ -167,7 +171,8 @@ pub(crate) fn members_in(
     budget: &mut Budget,
 ) -> Result<Option<Members>, Fault>
     requires ranked { RanksAre both.now.graph both.now.ranks }
-    ensures { IfOk result (TellsMembers form both.now.graph difference.now) }
+    ensures ok { IfOk result (TellsMembers form both.now.graph difference.now) }
+    ensures err { IfErr result (λ fault. fault ≡ Fault.OutOfMemory) }
 {
     match form {
         Form::Line => Ok(None),
@@ -255,7 +260,8 @@ pub(crate) fn lines_of(
 
 /// Lines as text.
 fn put_each(alloc: Global, text: &mut String, lines: &[Line], asked: &Diff<'_>) -> Result<(), Fault>
-    ensures { OnOk result (string_bytes text.new ≡ string_bytes text.old ++ lines_text asked.now lines.now) }
+    ensures ok { OnOk result (string_bytes text.new ≡ string_bytes text.old ++ lines_text asked.now lines.now) }
+    ensures err { IfErr result (λ fault. fault ≡ Fault.OutOfMemory) }
 {
     for line in lines {
         line.put(alloc, text, asked)?;

@@ -1,5 +1,5 @@
 //! The lines of a comparison.
-ghost use Rattle.std.specs.Prelude.{◌≡◌, ◌++◌, cond, unwrap_or, option_map, [], string_bytes, OnOk};
+ghost use Rattle.std.specs.Prelude.{◌≡◌, ◌++◌, cond, unwrap_or, option_map, [], string_bytes, OnOk, IfErr};
 ghost use Rattle.review_text.specs.Hidden.{visible};
 ghost use Rattle.review_lines.specs.Lines.{column, place_text, more_text, others_text};
 
@@ -48,7 +48,7 @@ const MORE: &str = "...\n";
 const PLAIN: &str = "\u{1b}[0m";
 
 impl Line {
-    ghost use Rattle.std.specs.Prelude.{◌≡◌, ◌++◌, [], cond, unwrap_or, option_map, string_bytes, OnOk};
+    ghost use Rattle.std.specs.Prelude.{◌≡◌, ◌++◌, [], cond, unwrap_or, option_map, string_bytes, OnOk, IfErr};
     ghost use Rattle.review_lines.specs.Lines.{sign, kind, color_text, plain_text, label_or, values, below, places_text, columns, told_text, left_value, right_value, steps_text, line_json, line_text};
 
     /// What the two sides have at the path: other things, or one of them nothing. Where both have no text, a pair of items moved.
@@ -98,7 +98,8 @@ impl Line {
 
     /// Both texts or, of strings whose changed lines are printed below, what is said of these; of items that moved their label.
     fn put_values(&self, out: &mut String) -> Result<(), Fault>
-        ensures { OnOk result (string_bytes out.new ≡ string_bytes out.old ++ values self.now.changes self.now) }
+        ensures ok { OnOk result (string_bytes out.new ≡ string_bytes out.old ++ values self.now.changes self.now) }
+        ensures err { IfErr result (λ fault. fault ≡ Fault.OutOfMemory) }
     {
         match &self.changes {
             Some(changes) => put_column(out, Some(changes.summary.as_str())),
@@ -111,7 +112,8 @@ impl Line {
 
     /// The places' columns, if they are told.
     fn put_places(&self, out: &mut String, places: bool) -> Result<(), Fault>
-        ensures { OnOk result (string_bytes out.new ≡ string_bytes out.old ++ places_text places self.now) }
+        ensures ok { OnOk result (string_bytes out.new ≡ string_bytes out.old ++ places_text places self.now) }
+        ensures err { IfErr result (λ fault. fault ≡ Fault.OutOfMemory) }
     {
         if places {
             put_place(out, self.left_place)?;
@@ -122,7 +124,8 @@ impl Line {
 
     /// The changed lines, where they are printed.
     fn put_below(&self, out: &mut String) -> Result<(), Fault>
-        ensures { OnOk result (string_bytes out.new ≡ string_bytes out.old ++ below self.now.changes) }
+        ensures ok { OnOk result (string_bytes out.new ≡ string_bytes out.old ++ below self.now.changes) }
+        ensures err { IfErr result (λ fault. fault ≡ Fault.OutOfMemory) }
     {
         match &self.changes {
             Some(changes) => put_visible(out, &changes.text),
@@ -132,7 +135,8 @@ impl Line {
 
     /// Columns parted by tabs: sign, path, what the sides have, and behind these the places if they are told; and the lines below.
     fn put_columns(&self, out: &mut String, places: bool, color: bool) -> Result<(), Fault>
-        ensures { OnOk result (string_bytes out.new ≡ string_bytes out.old ++ columns places color self.now) }
+        ensures ok { OnOk result (string_bytes out.new ≡ string_bytes out.old ++ columns places color self.now) }
+        ensures err { IfErr result (λ fault. fault ≡ Fault.OutOfMemory) }
     {
         put_if(out, color, self.color())?;
         out.push_str(self.sign())?;
@@ -148,7 +152,8 @@ impl Line {
     /// The columns and, where the line tells several differences, how many others; nothing where another line tells this one.
     #[tactic(auto, using(crate::proofs::LineLaws::told_none, crate::proofs::LineLaws::told_some))]
     fn put_told(&self, out: &mut String, places: bool, color: bool) -> Result<(), Fault>
-        ensures { OnOk result (string_bytes out.new ≡ string_bytes out.old ++ told_text self.now.count (columns places color self.now)) }
+        ensures ok { OnOk result (string_bytes out.new ≡ string_bytes out.old ++ told_text self.now.count (columns places color self.now)) }
+        ensures err { IfErr result (λ fault. fault ≡ Fault.OutOfMemory) }
     {
         if self.count == 0 {
             return Ok(());
@@ -190,7 +195,8 @@ impl Line {
 
     /// One JSON object.
     fn put_json(&self, alloc: Global, out: &mut String) -> Result<(), Fault>
-        ensures { OnOk result (string_bytes out.new ≡ string_bytes out.old ++ line_json self.now) }
+        ensures ok { OnOk result (string_bytes out.new ≡ string_bytes out.old ++ line_json self.now) }
+        ensures err { IfErr result (λ fault. fault ≡ Fault.OutOfMemory) }
     {
         put_text(alloc, out, "{\"kind\":", Some(self.kind()))?;
         put_text(alloc, out, ",\"left\":", text_of(&self.left))?;
@@ -207,7 +213,8 @@ impl Line {
 
     /// Writes the line in the form that is asked for.
     pub fn put(&self, alloc: Global, out: &mut String, asked: &Diff<'_>) -> Result<(), Fault>
-        ensures { OnOk result (string_bytes out.new ≡ string_bytes out.old ++ line_text asked.now self.now) }
+        ensures ok { OnOk result (string_bytes out.new ≡ string_bytes out.old ++ line_text asked.now self.now) }
+        ensures err { IfErr result (λ fault. fault ≡ Fault.OutOfMemory) }
     {
         match asked.form {
             Form::Line => self.put_told(out, asked.places, asked.color),
@@ -218,7 +225,8 @@ impl Line {
 
 /// Tells that there are more lines.
 pub fn put_more(out: &mut String, form: Form) -> Result<(), Fault>
-    ensures { OnOk result (string_bytes out.new ≡ string_bytes out.old ++ more_text form) }
+    ensures ok { OnOk result (string_bytes out.new ≡ string_bytes out.old ++ more_text form) }
+    ensures err { IfErr result (λ fault. fault ≡ Fault.OutOfMemory) }
 {
     match form {
         Form::Line => out.push_str(MORE)?,
@@ -230,7 +238,8 @@ pub fn put_more(out: &mut String, form: Form) -> Result<(), Fault>
 /// How many other differences a line tells, on a line of its own behind a tab, if there are some.
 #[tactic(auto, using(crate::proofs::LineLaws::others_none, crate::proofs::LineLaws::others_some))]
 fn put_others(out: &mut String, others: usize) -> Result<(), Fault>
-    ensures { OnOk result (string_bytes out.new ≡ string_bytes out.old ++ others_text others) }
+    ensures ok { OnOk result (string_bytes out.new ≡ string_bytes out.old ++ others_text others) }
+    ensures err { IfErr result (λ fault. fault ≡ Fault.OutOfMemory) }
 {
     if others == 0 {
         return Ok(());
@@ -241,7 +250,8 @@ fn put_others(out: &mut String, others: usize) -> Result<(), Fault>
 
 /// A text, if it is asked for.
 fn put_if(out: &mut String, is_asked: bool, text: &str) -> Result<(), Fault>
-    ensures { OnOk result (string_bytes out.new ≡ string_bytes out.old ++ cond is_asked text.now []) }
+    ensures ok { OnOk result (string_bytes out.new ≡ string_bytes out.old ++ cond is_asked text.now []) }
+    ensures err { IfErr result (λ fault. fault ≡ Fault.OutOfMemory) }
 {
     if is_asked {
         out.push_str(text)?;
@@ -251,7 +261,8 @@ fn put_if(out: &mut String, is_asked: bool, text: &str) -> Result<(), Fault>
 
 /// A column behind another: the text, if there is one, with escapes for the characters that a terminal would not show.
 fn put_column(out: &mut String, text: Option<&str>) -> Result<(), Fault>
-    ensures { OnOk result (string_bytes out.new ≡ string_bytes out.old ++ column (visible (unwrap_or (option_map (λ told. told.now) text.entry) []))) }
+    ensures ok { OnOk result (string_bytes out.new ≡ string_bytes out.old ++ column (visible (unwrap_or (option_map (λ told. told.now) text.entry) []))) }
+    ensures err { IfErr result (λ fault. fault ≡ Fault.OutOfMemory) }
 {
     out.push('\t')?;
     if let Some(text) = text {
@@ -262,7 +273,8 @@ fn put_column(out: &mut String, text: Option<&str>) -> Result<(), Fault>
 
 /// A column with a place, if there is one.
 fn put_place(out: &mut String, place: Option<Place>) -> Result<(), Fault>
-    ensures { OnOk result (string_bytes out.new ≡ string_bytes out.old ++ column (place_text place)) }
+    ensures ok { OnOk result (string_bytes out.new ≡ string_bytes out.old ++ column (place_text place)) }
+    ensures err { IfErr result (λ fault. fault ≡ Fault.OutOfMemory) }
 {
     out.push('\t')?;
     if let Some(place) = place {

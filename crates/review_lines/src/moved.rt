@@ -1,5 +1,5 @@
 //! The lines of items that moved.
-ghost use Rattle.std.specs.Prelude.{◌≡◌, ◌++◌, ◌∷◌, None, cond, take, option_map, is_some, string_bytes, OnOk, IfOk, IfSome};
+ghost use Rattle.std.specs.Prelude.{◌≡◌, ◌++◌, ◌∷◌, None, cond, take, option_map, is_some, string_bytes, OnOk, IfOk, IfSome, IfErr};
 ghost use Rattle.yaml_rank.specs.RanksView.{RanksAre};
 ghost use Rattle.yaml_diff.specs.Lines.{way_of};
 ghost use Rattle.yaml_diff.specs.declared.difference.Step.TheVariants.{Item};
@@ -36,7 +36,8 @@ fn is_plain(paths: Paths) -> bool
 
 /// The path to the items of a move.
 fn item_path(alloc: Global, one: &Move) -> Result<Vec<Step>, Fault>
-    ensures { IfOk result (λ path. path.items ≡ Item one.now.places ∷ one.now.path.items) }
+    ensures ok { IfOk result (λ path. path.items ≡ Item one.now.places ∷ one.now.path.items) }
+    ensures err { IfErr result (λ fault. fault ≡ Fault.OutOfMemory) }
 {
     let mut path = Vec::new(alloc);
     path.push(Step::Item(one.places))?;
@@ -49,7 +50,8 @@ fn item_path(alloc: Global, one: &Move) -> Result<Vec<Step>, Fault>
 /// The first move of a group as a difference that has no node on either side, and whose path leads to the items.
 #[tactic(auto, using(crate::proofs::MoveLaws::first_none, crate::proofs::MoveLaws::first_some))]
 fn first_of(alloc: Global, moves: &[Move], group: Group) -> Result<Difference, Fault>
-    ensures { IfOk result (IsFirst moves.now group) }
+    ensures ok { IfOk result (IsFirst moves.now group) }
+    ensures err { IfErr result (λ fault. fault ≡ Fault.OutOfMemory) }
 {
     let Some(one) = moves.get(group.first) else {
         return Ok(Difference {
@@ -80,7 +82,8 @@ fn last_of(moves: &[Move], group: Group) -> Option<Places>
 
 /// Writes where neighbours stand on both sides: the places of the first one and of the last one.
 fn put_range(out: &mut String, first: Step, last: Places) -> Result<(), Fault>
-    ensures { OnOk result (string_bytes out.new ≡ string_bytes out.old ++ range_of first last) }
+    ensures ok { OnOk result (string_bytes out.new ≡ string_bytes out.old ++ range_of first last) }
+    ensures err { IfErr result (λ fault. fault ≡ Fault.OutOfMemory) }
 {
     match (first, last) {
         (Step::Item(Places::Both(left, right)), Places::Both(left_end, right_end)) => {
@@ -99,7 +102,8 @@ fn put_range(out: &mut String, first: Step, last: Places) -> Result<(), Fault>
 #[tactic(auto, using(crate::proofs::MoveLaws::before_alone, crate::proofs::MoveLaws::before_path))]
 fn before_text(alloc: Global, both: &Both<'_>, list: &[Step]) -> Result<String, Fault>
     requires ranked { RanksAre both.now.graph both.now.ranks }
-    ensures { IfOk result (λ s. string_bytes s ≡ before_text (is_numbered both.now) (way_of both.now.graph list.now)) }
+    ensures ok { IfOk result (λ s. string_bytes s ≡ before_text (is_numbered both.now) (way_of both.now.graph list.now)) }
+    ensures err { IfErr result (λ fault. fault ≡ Fault.OutOfMemory) }
 {
     let numbered = is_numbered(both);
     if list.len() == 1 && !numbered {
@@ -118,7 +122,8 @@ fn range_path(
     last: Places,
 ) -> Result<String, Fault>
     requires ranked { RanksAre both.now.graph both.now.ranks }
-    ensures { IfOk result (λ s. string_bytes s ≡ range_path (is_numbered both.now) first last (way_of both.now.graph list.now)) }
+    ensures ok { IfOk result (λ s. string_bytes s ≡ range_path (is_numbered both.now) first last (way_of both.now.graph list.now)) }
+    ensures err { IfErr result (λ fault. fault ≡ Fault.OutOfMemory) }
 {
     let mut out = before_text(alloc, both, list)?;
     if list.is_empty() {
@@ -139,7 +144,8 @@ fn path_of_both(
     path: &[Step],
 ) -> Result<String, Fault>
     requires ranked { RanksAre both.now.graph both.now.ranks }
-    ensures { IfOk result (λ s. string_bytes s ≡ path_as paths (is_numbered both.now) None None (way_of both.now.graph path.now)) }
+    ensures ok { IfOk result (λ s. string_bytes s ≡ path_as paths (is_numbered both.now) None None (way_of both.now.graph path.now)) }
+    ensures err { IfErr result (λ fault. fault ≡ Fault.OutOfMemory) }
 {
     let numbered = is_numbered(both);
     match paths {
@@ -161,7 +167,8 @@ fn group_path(
     path: &[Step],
 ) -> Result<String, Fault>
     requires ranked { RanksAre both.now.graph both.now.ranks }
-    ensures { IfOk result (λ s. string_bytes s ≡ group_text paths (is_numbered both.now) both.now.graph whole last path.now) }
+    ensures ok { IfOk result (λ s. string_bytes s ≡ group_text paths (is_numbered both.now) both.now.graph whole last path.now) }
+    ensures err { IfErr result (λ fault. fault ≡ Fault.OutOfMemory) }
 {
     let Some((first, list)) = path.split_first() else {
         return Ok(String::new(alloc));
@@ -187,7 +194,8 @@ fn label_if(
 ) -> Result<Option<String>, Fault>
     requires ranked { RanksAre both.now.graph both.now.ranks }
     requires keys { IfSome keys.now (AreKeys both.now) }
-    ensures { IfOk result (λ told. option_map string_bytes told ≡ cond (is_some keys.now) (label both.now (room_of asked.now.whole) group path.now) None) }
+    ensures ok { IfOk result (λ told. option_map string_bytes told ≡ cond (is_some keys.now) (label both.now (room_of asked.now.whole) group path.now) None) }
+    ensures err { IfErr result (λ fault. fault ≡ Fault.OutOfMemory) }
 {
     match keys {
         Some(keys) => label_of(alloc, both, keys, group, path, room_of(asked.whole)),
@@ -208,7 +216,8 @@ fn line_of_group(
 ) -> Result<Line, Fault>
     requires ranked { RanksAre both.now.graph both.now.ranks }
     requires keys { IfSome keys.now (AreKeys both.now) }
-    ensures { IfOk result (TellsGroup (is_some keys.now) both.now asked.now moves.now group) }
+    ensures ok { IfOk result (TellsGroup (is_some keys.now) both.now asked.now moves.now group) }
+    ensures err { IfErr result (λ fault. fault ≡ Fault.OutOfMemory) }
 {
     let first = first_of(alloc, moves, group)?;
     let last = last_of(moves, group);
@@ -231,7 +240,9 @@ fn line_of_group(
 }
 
 /// The first move of each group as a difference.
-fn firsts(alloc: Global, moves: &[Move], groups: &[Group]) -> Result<Vec<Difference>, Fault> {
+fn firsts(alloc: Global, moves: &[Move], groups: &[Group]) -> Result<Vec<Difference>, Fault>
+    ensures err { IfErr result (λ fault. fault ≡ Fault.OutOfMemory) }
+{
     let mut list = Vec::new(alloc);
     for group in groups {
         list.push(first_of(alloc, moves, *group)?)?;
@@ -251,7 +262,8 @@ fn lines_of_groups(
 ) -> Result<Vec<Line>, Fault>
     requires ranked { RanksAre both.now.graph both.now.ranks }
     requires keys { IfSome keys.now (AreKeys both.now) }
-    ensures { IfOk result (λ lines. TellsGroups (is_some keys.now) both.now asked.now moves.now groups.now lines.items) }
+    ensures ok { IfOk result (λ lines. TellsGroups (is_some keys.now) both.now asked.now moves.now groups.now lines.items) }
+    ensures err { IfErr result (λ fault. fault ≡ Fault.OutOfMemory) }
 {
     let firsts = firsts(alloc, moves, groups)?;
     let sides = if firsts.is_empty() { None } else { sides };
@@ -272,6 +284,7 @@ fn keys_if(alloc: Global, both: &Both<'_>, has_labels: bool) -> Result<Option<Ke
     requires ranked { RanksAre both.now.graph both.now.ranks }
     ensures are { IfOk result (λ keys. IfSome keys (AreKeys both.now)) }
     ensures told { IfOk result (λ keys. is_some keys ≡ has_labels) }
+    ensures err { IfErr result (λ fault. fault ≡ Fault.OutOfMemory) }
 {
     if has_labels {
         return Ok(Some(Keys::new(alloc, both)?));
@@ -314,7 +327,8 @@ pub(crate) fn lines_of_moves(
     has_labels: bool,
 ) -> Result<MoveLines, Fault>
     requires ranked { RanksAre both.now.graph both.now.ranks }
-    ensures { IfOk result (λ told. TellsMoves folds has_labels both.now asked.now found.now told.lines.items told.whole) }
+    ensures ok { IfOk result (λ told. TellsMoves folds has_labels both.now asked.now found.now told.lines.items told.whole) }
+    ensures err { IfErr result (λ fault. fault ≡ Fault.OutOfMemory) }
 {
     let groups = groups(alloc, folds, is_plain(asked.paths), found)?;
     let room = moves_room(asked, found);

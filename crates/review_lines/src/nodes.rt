@@ -1,4 +1,6 @@
 //! Where the nodes of differences stand, and which of them have one cause.
+ghost use Rattle.std.specs.Prelude.{◌≡◌, IfErr};
+
 use review_folds::Cause;
 use review_places::finder::{Finder, Hand, Seat, Stream};
 use review_places::layout::lay_out_from;
@@ -89,7 +91,9 @@ fn seat_at(
     finder: &mut Finder<'_>,
     difference: &Difference,
     hand: Hand,
-) -> Result<Option<Seat>, Fault> {
+) -> Result<Option<Seat>, Fault>
+    ensures err { IfErr result (λ fault. fault ≡ Fault.OutOfMemory) }
+{
     if has_node(difference, hand) {
         return finder.seat(alloc, &difference.path);
     }
@@ -106,7 +110,9 @@ fn side_places(
     list: &[Difference],
     hand: Hand,
     side: Traced<'_>,
-) -> Result<SidePlaces, Fault> {
+) -> Result<SidePlaces, Fault>
+    ensures err { IfErr result (λ fault. fault ≡ Fault.OutOfMemory) }
+{
     let layout = lay_out_from(alloc, side.trace, side.first, side.end)?;
     let mut finder = Finder::new(alloc, both, stream_of(both, hand), layout);
     let mut offsets = Vec::new(alloc);
@@ -145,7 +151,9 @@ fn own_causes(
     alloc: Global,
     lefts: &[Option<Mark>],
     rights: &[Option<Mark>],
-) -> Result<BTreeSet<Cause>, Fault> {
+) -> Result<BTreeSet<Cause>, Fault>
+    ensures err { IfErr result (λ fault. fault ≡ Fault.OutOfMemory) }
+{
     let mut own = BTreeSet::new(alloc);
     for number in 0..lefts.len() {
         if let Some((left, right)) = marks_at(lefts, rights, number) {
@@ -163,7 +171,9 @@ fn causes_of(
     alloc: Global,
     lefts: &[Option<Mark>],
     rights: &[Option<Mark>],
-) -> Result<Vec<Option<Cause>>, Fault> {
+) -> Result<Vec<Option<Cause>>, Fault>
+    ensures err { IfErr result (λ fault. fault ≡ Fault.OutOfMemory) }
+{
     let own = own_causes(alloc, lefts, rights)?;
     let mut causes = Vec::new(alloc);
     for number in 0..lefts.len() {
@@ -180,11 +190,9 @@ fn causes_of(
 }
 
 /// The places of one side by the numbers of their lines, of which there are so many.
-fn spread(
-    alloc: Global,
-    places: &[(usize, Place)],
-    len: usize,
-) -> Result<Vec<Option<Place>>, Fault> {
+fn spread(alloc: Global, places: &[(usize, Place)], len: usize) -> Result<Vec<Option<Place>>, Fault>
+    ensures err { IfErr result (λ fault. fault ≡ Fault.OutOfMemory) }
+{
     let mut list = vec![in alloc; None; len]?;
     for (number, place) in places {
         if let Some(slot) = list.get_mut(*number) {
@@ -200,7 +208,9 @@ pub(crate) fn find_places(
     both: &Both<'_>,
     list: &[Difference],
     sides: Option<(Traced<'_>, Traced<'_>)>,
-) -> Result<Places, Fault> {
+) -> Result<Places, Fault>
+    ensures err { IfErr result (λ fault. fault ≡ Fault.OutOfMemory) }
+{
     match sides {
         Some((left, right)) => {
             let lefts = side_places(alloc, both, list, Hand::Left, left)?;

@@ -1,5 +1,5 @@
 //! How many differences and moves there are.
-ghost use Rattle.std.specs.Prelude.{◌≡◌, ◌++◌, decimal, string_bytes, OnOk, IfOk};
+ghost use Rattle.std.specs.Prelude.{◌≡◌, ◌++◌, decimal, string_bytes, OnOk, IfOk, IfErr};
 ghost use Rattle.review_lines.specs.Stat.{is_added, is_removed, is_changed, added, removed, changed, moved, moves_text, whole_text, stat_line, stat_json, numbers_text, lists_nothing, stat_text};
 
 use review_args::{Diff, Form};
@@ -55,7 +55,8 @@ fn moved(found: &Found) -> usize
 
 /// Writes the number of moves, if there are some.
 fn put_moves(out: &mut String, moves: usize) -> Result<(), Fault>
-    ensures { OnOk result (string_bytes out.new ≡ string_bytes out.old ++ moves_text moves) }
+    ensures ok { OnOk result (string_bytes out.new ≡ string_bytes out.old ++ moves_text moves) }
+    ensures err { IfErr result (λ fault. fault ≡ Fault.OutOfMemory) }
 {
     if moves > 0 {
         write!(out, " >{moves}")?;
@@ -65,7 +66,8 @@ fn put_moves(out: &mut String, moves: usize) -> Result<(), Fault>
 
 /// Writes the numbers and the name of the right file. Behind numbers that are not all stands `...`.
 fn put_line(out: &mut String, found: &Found, right: &str) -> Result<(), Fault>
-    ensures { OnOk result (string_bytes out.new ≡ string_bytes out.old ++ stat_line found.now right.now) }
+    ensures ok { OnOk result (string_bytes out.new ≡ string_bytes out.old ++ stat_line found.now right.now) }
+    ensures err { IfErr result (λ fault. fault ≡ Fault.OutOfMemory) }
 {
     let (added, removed, changed) = (added(found), removed(found), changed(found));
     write!(out, "+{added} -{removed} ~{changed}")?;
@@ -78,7 +80,8 @@ fn put_line(out: &mut String, found: &Found, right: &str) -> Result<(), Fault>
 
 /// Writes what stands before a member's number, and the number.
 fn put_number(out: &mut String, front: &str, number: usize) -> Result<(), Fault>
-    ensures { OnOk result (string_bytes out.new ≡ string_bytes out.old ++ (front.now ++ decimal number)) }
+    ensures ok { OnOk result (string_bytes out.new ≡ string_bytes out.old ++ (front.now ++ decimal number)) }
+    ensures err { IfErr result (λ fault. fault ≡ Fault.OutOfMemory) }
 {
     out.push_str(front)?;
     write!(out, "{number}")?;
@@ -87,7 +90,8 @@ fn put_number(out: &mut String, front: &str, number: usize) -> Result<(), Fault>
 
 /// Writes whether the numbers are all, and the object's end.
 fn put_whole(out: &mut String, whole: bool) -> Result<(), Fault>
-    ensures { OnOk result (string_bytes out.new ≡ string_bytes out.old ++ whole_text whole) }
+    ensures ok { OnOk result (string_bytes out.new ≡ string_bytes out.old ++ whole_text whole) }
+    ensures err { IfErr result (λ fault. fault ≡ Fault.OutOfMemory) }
 {
     if whole {
         out.push_str(",\"whole\":true}\n")?;
@@ -99,7 +103,8 @@ fn put_whole(out: &mut String, whole: bool) -> Result<(), Fault>
 
 /// Writes the numbers, and whether they are all, as an object of JSON.
 fn put_json(out: &mut String, found: &Found) -> Result<(), Fault>
-    ensures { OnOk result (string_bytes out.new ≡ string_bytes out.old ++ stat_json found.now) }
+    ensures ok { OnOk result (string_bytes out.new ≡ string_bytes out.old ++ stat_json found.now) }
+    ensures err { IfErr result (λ fault. fault ≡ Fault.OutOfMemory) }
 {
     put_number(out, "{\"added\":", added(found))?;
     put_number(out, ",\"changed\":", changed(found))?;
@@ -111,7 +116,8 @@ fn put_json(out: &mut String, found: &Found) -> Result<(), Fault>
 
 /// Writes the numbers in the form that is asked for.
 fn put_numbers(out: &mut String, asked: &Diff<'_>, found: &Found) -> Result<(), Fault>
-    ensures { OnOk result (string_bytes out.new ≡ string_bytes out.old ++ numbers_text asked.now.form found.now asked.now.right.now) }
+    ensures ok { OnOk result (string_bytes out.new ≡ string_bytes out.old ++ numbers_text asked.now.form found.now asked.now.right.now) }
+    ensures err { IfErr result (λ fault. fault ≡ Fault.OutOfMemory) }
 {
     match asked.form {
         Form::Line => put_line(out, found, asked.right),
@@ -128,7 +134,8 @@ fn lists_nothing(found: &Found) -> bool
 
 /// The numbers of differences and moves as a line; no line where none is asked for, or where nothing is listed.
 pub(crate) fn stat_text(alloc: Global, asked: &Diff<'_>, found: &Found) -> Result<String, Fault>
-    ensures { IfOk result (λ text. string_bytes text ≡ stat_text asked.now found.now) }
+    ensures ok { IfOk result (λ text. string_bytes text ≡ stat_text asked.now found.now) }
+    ensures err { IfErr result (λ fault. fault ≡ Fault.OutOfMemory) }
 {
     let mut out = String::new(alloc);
     if asked.lines == 0 || lists_nothing(found) {

@@ -1,5 +1,5 @@
 //! What is shown of two strings that differ: their changed lines, or the parts where they differ.
-ghost use Rattle.std.specs.Prelude.{◌≡◌, ◌==◌, ◌++◌, ◌≤◌, [], cond, nat_le, take, drop, length, codes, string_bytes, Some, OnOk, IfOk, IfSome};
+ghost use Rattle.std.specs.Prelude.{◌≡◌, ◌==◌, ◌++◌, ◌≤◌, [], cond, nat_le, take, drop, length, codes, string_bytes, Some, OnOk, IfOk, IfSome, IfErr};
 ghost use Rattle.yaml_scalar.specs.Spelling.{quoted_bytes};
 ghost use Rattle.yaml_definitions.specs.model.Tree.{scalar};
 ghost use Rattle.yaml_graph.specs.GraphView.{tree};
@@ -132,7 +132,8 @@ fn dots_behind(rest: &str, room: usize) -> &'static str
 
 /// Writes a part of a content, from a byte on.
 fn put_part(out: &mut String, start: usize, rest: &str, room: usize) -> Result<(), Fault>
-    ensures { OnOk result (string_bytes out.new ≡ string_bytes out.old ++ (cond (start == 0) [] (codes "...") ++ (quoted_bytes (front room rest.now) ++ cond (nat_le (length rest.now) room) [] (codes "...")))) }
+    ensures ok { OnOk result (string_bytes out.new ≡ string_bytes out.old ++ (cond (start == 0) [] (codes "...") ++ (quoted_bytes (front room rest.now) ++ cond (nat_le (length rest.now) room) [] (codes "...")))) }
+    ensures err { IfErr result (λ fault. fault ≡ Fault.OutOfMemory) }
 {
     out.push_str(dots_before(start))?;
     spell_into(front(rest, room), out)?;
@@ -142,7 +143,8 @@ fn put_part(out: &mut String, start: usize, rest: &str, room: usize) -> Result<(
 
 /// The text of a part of a content, from a byte on.
 fn part_of(alloc: Global, start: usize, rest: &str, room: usize) -> Result<String, Fault>
-    ensures { IfOk result (λ s. string_bytes s ≡ cond (start == 0) [] (codes "...") ++ (quoted_bytes (front room rest.now) ++ cond (nat_le (length rest.now) room) [] (codes "..."))) }
+    ensures ok { IfOk result (λ s. string_bytes s ≡ cond (start == 0) [] (codes "...") ++ (quoted_bytes (front room rest.now) ++ cond (nat_le (length rest.now) room) [] (codes "..."))) }
+    ensures err { IfErr result (λ fault. fault ≡ Fault.OutOfMemory) }
 {
     let mut out = String::new(alloc);
     put_part(&mut out, start, rest, room)?;
@@ -195,7 +197,8 @@ pub(crate) fn differing_parts(
     room: usize,
     budget: &mut Budget,
 ) -> Result<Option<(String, String)>, Fault>
-    ensures { IfOk result (λ told. IfSome told (λ texts. ShowsParts both.now.graph room difference.now (Some texts.0) (Some texts.1))) }
+    ensures ok { IfOk result (λ told. IfSome told (λ texts. ShowsParts both.now.graph room difference.now (Some texts.0) (Some texts.1))) }
+    ensures err { IfErr result (λ fault. fault ≡ Fault.OutOfMemory) }
 {
     let Some((left, right)) = scalars_of(both, difference) else {
         return Ok(None);
@@ -241,7 +244,9 @@ impl Counts {
 }
 
 /// The groups of changed lines.
-fn groups_of(alloc: Global, edits: &[Edit<'_>]) -> Result<(Vec<Group>, usize), Fault> {
+fn groups_of(alloc: Global, edits: &[Edit<'_>]) -> Result<(Vec<Group>, usize), Fault>
+    ensures err { IfErr result (λ fault. fault ≡ Fault.OutOfMemory) }
+{
     let mut groups: Vec<Group> = Vec::new(alloc);
     let mut lines = 0usize;
     let mut is_open = false;
@@ -275,7 +280,9 @@ fn groups_of(alloc: Global, edits: &[Edit<'_>]) -> Result<(Vec<Group>, usize), F
 }
 
 /// Writes a number of lines and what becomes of them, if there are any.
-fn put_count(out: &mut String, count: usize, words: &str) -> Result<(), Fault> {
+fn put_count(out: &mut String, count: usize, words: &str) -> Result<(), Fault>
+    ensures err { IfErr result (λ fault. fault ≡ Fault.OutOfMemory) }
+{
     if count > 0 {
         write!(out, ", {count} {words}")?;
     }
@@ -283,7 +290,9 @@ fn put_count(out: &mut String, count: usize, words: &str) -> Result<(), Fault> {
 }
 
 /// How many lines the left content has, how many are changed, removed and added, and the left lines at which that is.
-fn summary_of(alloc: Global, edits: &[Edit<'_>]) -> Result<String, Fault> {
+fn summary_of(alloc: Global, edits: &[Edit<'_>]) -> Result<String, Fault>
+    ensures err { IfErr result (λ fault. fault ≡ Fault.OutOfMemory) }
+{
     let (groups, lines) = groups_of(alloc, edits)?;
     let mut counts = Counts {
         lines,
