@@ -1,5 +1,5 @@
 //! The lines of a text.
-ghost use Rattle.std.specs.Prelude.{◌≡◌, ◌++◌, ◌∷◌, [], cond, true, IfOk};
+ghost use Rattle.std.specs.Prelude.{◌≡◌, ◌++◌, ◌∷◌, [], cond, true, IfOk, IfErr};
 ghost use Rattle.std.specs.List.{flat_map};
 ghost use Rattle.yaml_script.specs.Script.{content};
 
@@ -63,7 +63,8 @@ fn piece_of(text: &str) -> Piece<'_>
 
 /// The lines of a text, which are the text again one behind another.
 pub fn pieces_of<'t>(alloc: Global, text: &'t str) -> Result<Vec<Piece<'t>>, Fault>
-    ensures { IfOk result (λ pieces. flat_map content pieces.items ≡ text.now) }
+    ensures ok { IfOk result (λ pieces. flat_map content pieces.items ≡ text.now) }
+    ensures err { IfErr result (λ fault. fault ≡ Fault.OutOfMemory) }
 {
     let mut pieces = Vec::new(alloc);
     'lines: for line in text.split_inclusive('\n') {

@@ -1,4 +1,6 @@
 //! Equal lines of two texts.
+ghost use Rattle.std.specs.Prelude.{◌≡◌, IfErr};
+
 use crate::lines::Piece;
 use std::alloc::Global;
 use std::collections::BTreeMap;
@@ -48,6 +50,8 @@ struct Both<'s, 't> {
 }
 
 impl<'t> Both<'_, 't> {
+    ghost use Rattle.std.specs.Prelude.{◌≡◌, IfErr};
+
     /// Whether two places hold equal lines.
     fn are_same(self, left: usize, right: usize) -> bool {
         match (self.left.get(left), self.right.get(right)) {
@@ -94,7 +98,9 @@ impl<'t> Both<'_, 't> {
     }
 
     /// The lines that a range has once on either side, by their places, of which the left ones rise.
-    fn lone(self, alloc: Global, range: Range) -> Result<Vec<(usize, usize)>, Fault> {
+    fn lone(self, alloc: Global, range: Range) -> Result<Vec<(usize, usize)>, Fault>
+        ensures err { IfErr result (λ fault. fault ≡ Fault.OutOfMemory) }
+    {
         let mut seen: BTreeMap<&'t str, Seen> = BTreeMap::new(alloc);
         for place in range.left..range.left_end {
             if let Some(piece) = self.left.get(place) {
@@ -123,7 +129,9 @@ impl<'t> Both<'_, 't> {
     }
 
     /// For each two places of a small range, by rows: how many equal lines there are from them on in one order.
-    fn table(self, alloc: Global, range: Range, width: usize) -> Result<Vec<usize>, Fault> {
+    fn table(self, alloc: Global, range: Range, width: usize) -> Result<Vec<usize>, Fault>
+        ensures err { IfErr result (λ fault. fault ≡ Fault.OutOfMemory) }
+    {
         let height = range.left_end.saturating_sub(range.left).saturating_add(1);
         let mut table = vec![in alloc; 0usize; height.saturating_mul(width)]?;
         for row in (range.left..range.left_end).rev() {
@@ -152,7 +160,9 @@ impl<'t> Both<'_, 't> {
         alloc: Global,
         range: Range,
         pairs: &mut Vec<(usize, usize)>,
-    ) -> Result<(), Fault> {
+    ) -> Result<(), Fault>
+        ensures err { IfErr result (λ fault. fault ≡ Fault.OutOfMemory) }
+    {
         let width = range
             .right_end
             .saturating_sub(range.right)
@@ -209,7 +219,9 @@ impl<'t> Both<'_, 't> {
         alloc: Global,
         range: Range,
         pairs: &mut Vec<(usize, usize)>,
-    ) -> Result<(), Fault> {
+    ) -> Result<(), Fault>
+        ensures err { IfErr result (λ fault. fault ≡ Fault.OutOfMemory) }
+    {
         let Inner {
             front,
             middle,
@@ -236,7 +248,9 @@ fn put_run(
     left: usize,
     right: usize,
     count: usize,
-) -> Result<(), Fault> {
+) -> Result<(), Fault>
+    ensures err { IfErr result (λ fault. fault ≡ Fault.OutOfMemory) }
+{
     for place in 0..count {
         pairs.push((left.saturating_add(place), right.saturating_add(place)))?;
     }
@@ -273,7 +287,9 @@ fn piles_before(pairs: &[(usize, usize)], tops: &[usize], right: usize) -> usize
 }
 
 /// As many of the pairs, whose left places rise, as there can be with rising right places.
-fn longest_rising(alloc: Global, pairs: &[(usize, usize)]) -> Result<Vec<(usize, usize)>, Fault> {
+fn longest_rising(alloc: Global, pairs: &[(usize, usize)]) -> Result<Vec<(usize, usize)>, Fault>
+    ensures err { IfErr result (λ fault. fault ≡ Fault.OutOfMemory) }
+{
     let mut tops: Vec<usize> = Vec::new(alloc);
     let mut before: Vec<Option<usize>> = Vec::new(alloc);
     for (index, pair) in pairs.iter().enumerate() {
@@ -307,7 +323,9 @@ pub(crate) fn pairs_of(
     alloc: Global,
     left: &[Piece<'_>],
     right: &[Piece<'_>],
-) -> Result<Vec<(usize, usize)>, Fault> {
+) -> Result<Vec<(usize, usize)>, Fault>
+    ensures err { IfErr result (λ fault. fault ≡ Fault.OutOfMemory) }
+{
     let both = Both { left, right };
     let whole = Range {
         left: 0,

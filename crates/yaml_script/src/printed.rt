@@ -1,5 +1,5 @@
 //! Edit scripts as they are printed.
-ghost use Rattle.std.specs.Prelude.{◌≡◌, ◌<◌, ◌++◌, ◌||◌, [], cond, take, codes, string_bytes, OnOk};
+ghost use Rattle.std.specs.Prelude.{◌≡◌, ◌<◌, ◌++◌, ◌||◌, [], cond, take, codes, string_bytes, OnOk, IfErr};
 ghost use Rattle.std.specs.List.{list_any};
 ghost use Rattle.std.specs.Str.{encode_utf8_all};
 ghost use Rattle.yaml_script.specs.Script.{is_change};
@@ -19,7 +19,8 @@ const NO_END: &str = "\n\t\\ no line feed at the end\n";
 /// Writes the escape of a byte (YAML 1.2.2, 5.7).
 fn put_byte(out: &mut String, byte: u32) -> Result<(), Fault>
     requires { byte < 256 }
-    ensures { OnOk result (string_bytes out.new ≡ string_bytes out.old ++ encode_utf8_all (byte_escape byte)) }
+    ensures ok { OnOk result (string_bytes out.new ≡ string_bytes out.old ++ encode_utf8_all (byte_escape byte)) }
+    ensures err { IfErr result (λ fault. fault ≡ Fault.OutOfMemory) }
 {
     out.push_str("\\x")?;
     out.push(char::from(hex_digit(byte / 16)))?;
@@ -36,7 +37,8 @@ fn is_control(c: char) -> bool
 
 /// Writes a character of a line.
 fn put_char(out: &mut String, c: char, at_end: bool) -> Result<(), Fault>
-    ensures { OnOk result (string_bytes out.new ≡ string_bytes out.old ++ encode_utf8_all (line_char at_end c)) }
+    ensures ok { OnOk result (string_bytes out.new ≡ string_bytes out.old ++ encode_utf8_all (line_char at_end c)) }
+    ensures err { IfErr result (λ fault. fault ≡ Fault.OutOfMemory) }
 {
     if c == '\\' {
         out.push_str("\\\\")?;
@@ -55,7 +57,8 @@ fn put_char(out: &mut String, c: char, at_end: bool) -> Result<(), Fault>
 
 /// Writes a part of a line.
 fn put_chars(out: &mut String, text: &str, at_end: bool) -> Result<(), Fault>
-    ensures { OnOk result (string_bytes out.new ≡ string_bytes out.old ++ line_text at_end text.now) }
+    ensures ok { OnOk result (string_bytes out.new ≡ string_bytes out.old ++ line_text at_end text.now) }
+    ensures err { IfErr result (λ fault. fault ≡ Fault.OutOfMemory) }
 {
     'chars: for c in text.chars() {
         put_char(out, c, at_end)?;
@@ -65,7 +68,8 @@ fn put_chars(out: &mut String, text: &str, at_end: bool) -> Result<(), Fault>
 
 /// Writes what turns a colour of a terminal off, if there is one.
 fn put_plain(out: &mut String, color: bool) -> Result<(), Fault>
-    ensures { OnOk result (string_bytes out.new ≡ string_bytes out.old ++ plain color) }
+    ensures ok { OnOk result (string_bytes out.new ≡ string_bytes out.old ++ plain color) }
+    ensures err { IfErr result (λ fault. fault ≡ Fault.OutOfMemory) }
 {
     if color {
         out.push_str("\u{1b}[0m")?;
@@ -75,7 +79,8 @@ fn put_plain(out: &mut String, color: bool) -> Result<(), Fault>
 
 /// Writes a line, and that no line feed ends it, where none does.
 fn put_piece(out: &mut String, piece: &Piece<'_>, color: bool) -> Result<(), Fault>
-    ensures { OnOk result (string_bytes out.new ≡ string_bytes out.old ++ piece_text color piece.now) }
+    ensures ok { OnOk result (string_bytes out.new ≡ string_bytes out.old ++ piece_text color piece.now) }
+    ensures err { IfErr result (λ fault. fault ≡ Fault.OutOfMemory) }
 {
     put_chars(out, piece.line, false)?;
     put_chars(out, piece.spaces, true)?;
@@ -115,7 +120,8 @@ fn piece_of<'e, 't>(edit: &'e Edit<'t>) -> &'e Piece<'t>
 
 /// Writes an edit behind a tab and its sign.
 fn put_edit(out: &mut String, edit: &Edit<'_>, color: bool) -> Result<(), Fault>
-    ensures { OnOk result (string_bytes out.new ≡ string_bytes out.old ++ edit_text color edit.now) }
+    ensures ok { OnOk result (string_bytes out.new ≡ string_bytes out.old ++ edit_text color edit.now) }
+    ensures err { IfErr result (λ fault. fault ≡ Fault.OutOfMemory) }
 {
     out.push_str(sign_of(edit, color))?;
     put_piece(out, piece_of(edit), color)
@@ -177,7 +183,8 @@ fn put_place(
 ) -> Result<(), Fault>
     requires few { look.context < 65536 }
     requires behind { is_behind ≡ list_any is_change (take place edits.now) }
-    ensures { OnOk result (string_bytes out.new ≡ string_bytes out.old ++ place_text look.context look.color edits.now place edit.now) }
+    ensures ok { OnOk result (string_bytes out.new ≡ string_bytes out.old ++ place_text look.context look.color edits.now place edit.now) }
+    ensures err { IfErr result (λ fault. fault ≡ Fault.OutOfMemory) }
 {
     if !is_near(edits, look.context, place) {
         return Ok(());
@@ -203,7 +210,8 @@ pub fn put_script(
     color: bool,
 ) -> Result<(), Fault>
     requires { context < 65536 }
-    ensures { OnOk result (string_bytes out.new ≡ string_bytes out.old ++ script_text context color edits.now) }
+    ensures ok { OnOk result (string_bytes out.new ≡ string_bytes out.old ++ script_text context color edits.now) }
+    ensures err { IfErr result (λ fault. fault ≡ Fault.OutOfMemory) }
 {
     let look = Look { context, color };
     let mut is_behind = false;

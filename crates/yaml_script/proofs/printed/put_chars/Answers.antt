@@ -9,8 +9,8 @@ chars-preserved c =
     let s = c.in-Some.ensures.steps.0 in
     record {
       utf8 = IsUtf8-past_char _ _ c.in-Some.c v.utf8 s;
-      put = line_next _ _ _ c.in-Some.c _ _ _ v.utf8 s v.put c.in_ok-put_char.ensures;
+      put = line_next _ _ _ c.in-Some.c _ _ _ v.utf8 s v.put c.in_ok-put_char.ensures.ok;
     }
 
-pub returns : goal.returns
-returns c = line_all _ _ _ _ (nil_from_length _ c.in-None.ensures.steps.0.0) c.chars.invariant.put
+pub returns-clause-ok : goal.returns-clause-ok
+returns-clause-ok c = line_all _ _ _ _ (nil_from_length _ c.in-None.ensures.steps.0.0) c.chars.invariant.put

@@ -6,9 +6,9 @@ pub loop-place-preserved : goal.loop-place-preserved
 loop-place-preserved c =
     let v = c.loop-place.invariant in
     record {
-      put = texts_next _ _ _ c.loop-place.place _ _ _ _ (omega arith) v.put c.in_ok-put_place.ensures;
+      put = texts_next _ _ _ c.loop-place.place _ _ _ _ (omega arith) v.put c.in_ok-put_place.ensures.ok;
       behind = change_next _ c.loop-place.place _ _ _ (omega arith) v.behind c.or_change-is_behind.ensures;
     }
 
-pub returns : goal.returns
-returns c = texts_all _ _ _ c.loop-place.place _ _ (omega arith) c.loop-place.invariant.put
+pub returns-clause-ok : goal.returns-clause-ok
+returns-clause-ok c = texts_all _ _ _ c.loop-place.place _ _ (omega arith) c.loop-place.invariant.put
