@@ -1,5 +1,5 @@
 -- The lines of the differences that were found.
-use Rattle.std.proofs.Common.{◌≡◌, ℕ, zero, suc, ◌+◌, ◌<◌, ◌≤◌, ◌==◌, ◌&&◌, Bool, true, false, cond, nat_le, List, [], ◌∷◌, ◌++◌, length, map, take, drop, get_or, refl, sym, ◌∙◌, ap, subst, arith, add-one, drop-cons}
+use Rattle.std.proofs.Common.{◌≡◌, ℕ, zero, suc, ◌+◌, ◌<◌, ◌≤◌, ◌==◌, ◌&&◌, Bool, true, false, cond, nat_le, List, [], ◌∷◌, ◌++◌, length, map, take, drop, get_or, refl, sym, ◌∙◌, ap, subst, arith, add-one, drop-cons, max}
 use Rattle.std.proofs.Math.ListN.{drop_of_length-le}
 use Rattle.std.proofs.lemmas.Bool.{eqb-true}
 use Rattle.std.proofs.lemmas.List.{append_assoc, append-nil, map-append}
@@ -183,13 +183,13 @@ keeps_none g ps room found kept e r h =
     ∙ ap (λ z. (found.whole && (length found.list.items == 0)) && (length z.items == 0)) h.moves
 
 -- there is room for one at least
-pub some_room : (ps : List Pattern) (lines room : ℕ) → search_room ps (room_for lines) ≤ room → 0 < room
-some_room ps lines room l = let s = some lines in omega (arith, l, s)
+pub some_room : (g : Graph) (ps : List Pattern) (lines room : ℕ) → search_room g ps (room_for lines) ≤ room → 0 < room
+some_room g ps lines room l = let s = some lines in omega (arith, l, s)
   where
-    by : (b : Bool) (n : ℕ) → 0 < n → 0 < cond b n 1000000
-    by true n p = p
-    by false n p = omega arith
+    by : (b : Bool) (n m : ℕ) → 0 < n → 0 < cond b n (max m n)
+    by true n m p = p
+    by false n m p = omega (arith, p)
 
-    some : (lines : ℕ) → 0 < search_room ps (room_for lines)
-    some zero = by _ 1 (omega arith)
-    some (suc lines) = by _ (suc lines) (omega arith)
+    some : (lines : ℕ) → 0 < search_room g ps (room_for lines)
+    some zero = by _ 1 _ (omega arith)
+    some (suc lines) = by _ (suc lines) _ (omega arith)

@@ -1,6 +1,10 @@
 -- Which differences and moves of two streams are looked for.
-use Rattle.std.specs.Prelude.{◌≡◌, ◌<◌, ◌≤◌, ◌==◌, ◌||◌, ℕ, zero, suc, Bool, true, false, cond, nat_lt, take, drop, length, List}
-use Rattle.yaml_graph.specs.GraphView.{roots_of}
+use Rattle.std.specs.Prelude.{◌≡◌, ◌<◌, ◌≤◌, ◌==◌, ℕ, zero, suc, Bool, true, false, cond, nat_lt, max, take, drop, length, List}
+use Rattle.std.specs.List.{list_any}
+use Rattle.yaml_definitions.specs.model.Tree.{height}
+use Rattle.yaml_graph.specs.GraphView.{roots_of, tree}
+use Rattle.yaml_graph.specs.declared.graph.Graph.{Graph}
+use Rattle.yaml_graph.specs.declared.node.NodeId.{NodeId}
 use Rattle.yaml_diff.specs.Found.{FindsItems}
 use Rattle.yaml_diff.specs.declared.difference.Found.{Found}
 use Rattle.review_patterns.specs.declared.pattern.Pattern.{Pattern}
@@ -11,14 +15,22 @@ abbrev pub room_for : ℕ → ℕ
 room_for zero = 1
 room_for (suc lines) = suc lines
 
--- The same, and at least a million where some are left out.
-abbrev pub search_room : List Pattern → ℕ → ℕ
-search_room ps room = cond ((length ps == 0) || nat_lt 1000000 room) room 1000000
+-- whether a node's tree is more than a hundred nodes high
+abbrev pub is_high : Graph → NodeId → Bool
+is_high g i = nat_lt 100 (height (tree g i.0))
 
--- The differences and moves of two streams are looked for, with room for as many as lines are asked for. Only where one line may tell several moves, there may be more room: if some of what is found are moves, it is all, or there is room for a hundred thousand.
+-- so many, but ten thousand where a document is high, since each path may then have many steps
+abbrev pub least_room : Graph → ℕ → ℕ
+least_room g many = cond (list_any (is_high g) (roots_of g)) 10000 many
+
+-- Room for so many and, where some are left out, for at least a million, or ten thousand of high documents.
+abbrev pub search_room : Graph → List Pattern → ℕ → ℕ
+search_room g ps room = cond (length ps == 0) room (max (least_room g 1000000) room)
+
+-- The differences and moves of two streams are looked for, with room for as many as lines are asked for. Only where one line may tell several moves, there may be more room: if some of what is found are moves, it is all, or there is room for a hundred thousand, or for ten thousand of high documents.
 pub record Searches (both : Both) (ignored : List Pattern) (lines : ℕ) (folds : Bool) (f : Found) : Type 0 where
   pub room : ℕ
   pub finds : FindsItems both.graph (take both.documents (roots_of both.graph)) (drop both.documents (roots_of both.graph)) room f
-  pub enough : search_room ignored (room_for lines) ≤ room
-  pub unfolded : folds ≡ false → room ≡ search_room ignored (room_for lines)
-  pub folded : folds ≡ true → f.whole ≡ false → 0 < length f.moves.items → 100000 ≤ room
+  pub enough : search_room both.graph ignored (room_for lines) ≤ room
+  pub unfolded : folds ≡ false → room ≡ search_room both.graph ignored (room_for lines)
+  pub folded : folds ≡ true → f.whole ≡ false → 0 < length f.moves.items → least_room both.graph 100000 ≤ room

@@ -1,15 +1,17 @@
 //! The differences and moves that lines tell.
 ghost use Rattle.std.specs.Prelude.{◌≡◌, ◌<◌, ◌≤◌, ◌&&◌, ◌==◌, true, false, take, drop, length, IfOk, IfErr};
+ghost use Rattle.std.specs.List.{list_any};
 ghost use Rattle.yaml_graph.specs.GraphView.{roots_of};
 ghost use Rattle.yaml_rank.specs.RanksView.{RanksAre};
 ghost use Rattle.yaml_diff.specs.Found.{FindsItems};
-ghost use Rattle.review_lines.specs.Searched.{room_for, search_room, Searches};
+ghost use Rattle.review_lines.specs.Searched.{room_for, is_high, least_room, search_room, Searches};
 
 use review_args::Diff;
 use review_patterns::Pattern;
 use review_text::both::Both;
 use std::alloc::Global;
 use yaml_diff::{Found, stream_differences};
+use yaml_graph::graph::Graph;
 use yaml_pair::Asked;
 use yaml_text::fault::Fault;
 
@@ -46,8 +48,33 @@ fn list_of(alloc: Global, both: &Both<'_>, asked: &Diff<'_>, room: usize) -> Res
 /// How many differences and moves are looked at where some are left out, at least.
 const SEARCHED: usize = 1_000_000;
 
-/// How many are looked at where one line may tell many moves, at least. Each has a path, which can have 1,024 steps.
+/// How many are looked at where one line may tell many moves, at least.
 const FOLDED: usize = 100_000;
+
+/// How many are looked at in either case, at least, where a document is high. Each has a path, whose steps take memory.
+const FEW: usize = 10_000;
+
+/// The greatest height of a document that is not high.
+const LOW: u32 = 100;
+
+/// Whether a document is high.
+fn is_deep(graph: &Graph<'_>) -> bool
+    ensures { result ≡ list_any (is_high graph.now) (roots_of graph.now) }
+{
+    for root in graph.roots() {
+        if graph.height(*root) > LOW {
+            return true;
+        }
+    }
+    false
+}
+
+/// So many, but few where a document is high.
+fn least_room(graph: &Graph<'_>, many: usize) -> usize
+    ensures { result ≡ least_room graph.now many }
+{
+    if is_deep(graph) { FEW } else { many }
+}
 
 /// Room for so many lines, and for one at least, without which no list would tell whether there is a difference.
 pub(crate) fn room_for(lines: usize) -> usize
@@ -58,25 +85,24 @@ pub(crate) fn room_for(lines: usize) -> usize
 }
 
 /// Room for so many lines or, where some differences are left out, for as many as are looked at.
-fn search_room(ignored: &[Pattern<'_>], room: usize) -> usize
+fn search_room(graph: &Graph<'_>, ignored: &[Pattern<'_>], room: usize) -> usize
     ensures enough { room ≤ result }
-    ensures asked { result ≡ search_room ignored.now room }
+    ensures asked { result ≡ search_room graph.now ignored.now room }
 {
-    if ignored.is_empty() || SEARCHED < room {
-        room
-    } else {
-        SEARCHED
+    if ignored.is_empty() {
+        return room;
     }
+    least_room(graph, SEARCHED).max(room)
 }
 
 /// Whether no more is to be looked for: one line tells one move, or all was found, or no move, or there was room for as many as are
 /// looked at.
-fn is_enough(found: &Found, folds: bool, room: usize) -> bool
-    ensures enough { result ≡ true → folds ≡ true → found.now.whole ≡ false → 0 < length found.now.moves.items → 100000 ≤ room }
+fn is_enough(found: &Found, folds: bool, room: usize, folded: usize) -> bool
+    ensures enough { result ≡ true → folds ≡ true → found.now.whole ≡ false → 0 < length found.now.moves.items → folded ≤ room }
     ensures folds { result ≡ false → folds ≡ true }
-    ensures room { result ≡ false → room ≤ 100000 }
+    ensures room { result ≡ false → room ≤ folded }
 {
-    !folds || found.whole || found.moves.is_empty() || FOLDED <= room
+    !folds || found.whole || found.moves.is_empty() || folded <= room
 }
 
 /// The differences and moves of two streams, as many as lines are asked for. More are looked for where some are left out, and where one
@@ -92,12 +118,13 @@ pub(crate) fn searched(
     ensures ok { IfOk result (Searches both.now ignored.now asked.now.lines folds) }
     ensures err { IfErr result (λ fault. fault ≡ Fault.OutOfMemory) }
 {
-    let room = search_room(ignored, room_for(asked.lines));
+    let room = search_room(&both.graph, ignored, room_for(asked.lines));
     let found = list_of(alloc, both, asked, room)?;
-    if is_enough(&found, folds, room) {
+    let folded = least_room(&both.graph, FOLDED);
+    if is_enough(&found, folds, room, folded) {
         return Ok(found);
     }
-    list_of(alloc, both, asked, FOLDED)
+    list_of(alloc, both, asked, folded)
 }
 
 /// Whether all differences and moves are listed, and there is none.

@@ -27,6 +27,6 @@ returns-clause-same c =
     if_ok c.lines_listed.result
     (λ x h e.
     alike_by_list g (take m (roots_of g)) (drop m (roots_of g)) s.room c.in_ok-found.found x.same c.requires.ranked.keyed
-    (left_within g m (take m (roots_of g)) c.args.both.now.middle refl) (right_within g m (drop m (roots_of g)) refl) (some_room c.args.ignored.now c.args.asked.now.lines s.room s.enough) s.finds
+    (left_within g m (take m (roots_of g)) c.args.both.now.middle refl) (right_within g m (drop m (roots_of g)) refl) (some_room g c.args.ignored.now c.args.asked.now.lines s.room s.enough) s.finds
     (h.is_none ∙ keeps_none g c.args.ignored.now c.room_for.result c.in_ok-found.found c.in_ok-kept.kept e c.room_for.ensures.some c.in_ok-kept.ensures.ok))
     c.lines_listed.ensures

@@ -1,29 +1,33 @@
 use Rattle.std.proofs.Common.{◌≡◌, true, false, sym, ◌∙◌, ap, arith}
-use Rattle.review_lines.specs.Searched.{room_for, search_room}
+use Rattle.review_lines.specs.Searched.{room_for, least_room, search_room}
 use Rattle.review_lines.proofs.ListLaws.{if_ok}
 use Rattle.review_lines.proofs.search.searched.Goals as goal
 
 pub returns-then-is_enough-clause-ok : goal.returns-then-is_enough-clause-ok
 returns-then-is_enough-clause-ok c =
-    let e : c.search_room-room.result ≡ search_room c.args.ignored.now (room_for c.args.asked.now.lines) = c.search_room-room.ensures.asked ∙ ap (search_room c.args.ignored.now) c.room_for.ensures.asked in
+    let g = c.args.both.now.graph in
+    let e : c.search_room-room.result ≡ search_room g c.args.ignored.now (room_for c.args.asked.now.lines) = c.search_room-room.ensures.asked ∙ ap (search_room g c.args.ignored.now) c.room_for.ensures.asked in
+    let n : c.least_room-folded.result ≡ least_room g 100000 = c.least_room-folded.ensures in
     record {
       room = c.search_room-room.result;
       finds = c.in_ok-found.ensures.ok;
       enough = omega (arith, e);
       unfolded = λ f. e;
-      folded = c.is_enough.ensures.enough c.if-is_enough.true;
+      folded = λ f w m. let k = c.is_enough.ensures.enough c.if-is_enough.true f w m in omega (arith, n, k);
     }
 
 pub returns-clause-ok : goal.returns-clause-ok
 returns-clause-ok c =
-    let e : c.search_room-room.result ≡ search_room c.args.ignored.now (room_for c.args.asked.now.lines) = c.search_room-room.ensures.asked ∙ ap (search_room c.args.ignored.now) c.room_for.ensures.asked in
+    let g = c.args.both.now.graph in
+    let e : c.search_room-room.result ≡ search_room g c.args.ignored.now (room_for c.args.asked.now.lines) = c.search_room-room.ensures.asked ∙ ap (search_room g c.args.ignored.now) c.room_for.ensures.asked in
+    let n : c.least_room-folded.result ≡ least_room g 100000 = c.least_room-folded.ensures in
     if_ok c.list_of-2.result
     (λ x h. record {
-      room = 100000;
+      room = c.least_room-folded.result;
       finds = h;
       enough = let l = c.is_enough.ensures.room c.if-is_enough.false in omega (arith, e, l);
       unfolded = λ f. absurd (true-false (sym (c.is_enough.ensures.folds c.if-is_enough.false) ∙ f));
-      folded = λ f w m. omega arith;
+      folded = λ f w m. omega (arith, n);
     })
     c.list_of-2.ensures.ok
   where
