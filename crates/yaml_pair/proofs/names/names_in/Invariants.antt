@@ -1,0 +1,8 @@
+use Rattle.std.proofs.Common.{◌≡◌, ℕ, ◌<◌, length}
+use Rattle.std.specs.Prelude.{Option, Some, None}
+use Rattle.std.specs.List.{slice_get}
+use Rattle.yaml_pair.specs.Named.{AreNamesTo, naming_of}
+use Rattle.yaml_pair.proofs.names.names_in.Given as goal
+
+abbrev pub invariant-loop-place : goal.invariant-loop-place
+invariant-loop-place l = AreNamesTo l.fn.view.graph.now l.fn.view.ranks.now (naming_of l.column) l.items l.places l.place l.names.items
