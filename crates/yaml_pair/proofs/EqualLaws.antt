@@ -1,6 +1,6 @@
 -- Equal items, by their ranks.
-use Rattle.std.proofs.Common.{◌≡◌, ◌≢◌, ℕ, zero, suc, ◌+◌, ◌<◌, ◌≤◌, Bool, true, false, cond, ◌&&◌, ◌==◌, ◌⊎◌, List, [], ◌∷◌, length, map, take, get_or, inl, inr, refl, sym, ◌∙◌, ap, subst, eq-eqb, arith}
-use Rattle.std.specs.Prelude.{Option, Some, None, count_by, sum_by, bytes_eq}
+use Rattle.std.proofs.Common.{◌≡◌, ℕ, zero, suc, ◌+◌, ◌<◌, ◌≤◌, Bool, true, false, cond, ◌&&◌, ◌==◌, List, [], ◌∷◌, length, map, take, inl, inr, refl, sym, ◌∙◌, ap, subst, eq-eqb, arith}
+use Rattle.std.specs.Prelude.{Option, Some, None, count_by, bytes_eq}
 use Rattle.std.specs.List.{slice_get}
 use Rattle.std.proofs.lemmas.Bool.{eqb-true}
 use Rattle.std.proofs.lemmas.Option.{slice_get_within, get_or_from_slice_get}
@@ -17,7 +17,7 @@ use Rattle.yaml_rank.specs.declared.ranks.Ranks.{Ranks}
 use Rattle.yaml_rank.proofs.GraphOf.{get-map, get-unmap}
 use Rattle.yaml_pair.specs.declared.partners.Partners.{Partners}
 use Rattle.yaml_pair.specs.Names.{EqualPair}
-use Rattle.yaml_pair.specs.Named.{AllWithin, Within, AreRanks, Name, is_one, IsCount, AreCounts, LoneNames, Partner, OnlyFree, JoinsTo, IsNone, HasPairs, EqualPairs}
+use Rattle.yaml_pair.specs.Named.{AllWithin, Within, AreRanks, Name, is_one, IsCount, AreCounts, LoneNames, OnlyFree, JoinsTo, IsNone, HasPairs, EqualPairs}
 use Rattle.yaml_pair.proofs.ColumnLaws.{below-or}
 use Rattle.yaml_pair.proofs.Parts.{some-is, free-not}
 use Rattle.yaml_pair.proofs.NameLaws.{equal_if_any, one-parts, ranks-same}

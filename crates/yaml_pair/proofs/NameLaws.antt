@@ -1,11 +1,9 @@
 -- Names as they are compared, and the trees that have them.
-use Rattle.std.proofs.Common.{◌≡◌, ◌≢◌, ℕ, ◌+◌, ◌<◌, Bool, true, false, ◌&&◌, ◌==◌, eqb, List, [], ◌∷◌, length, map, ◌⊎◌, inl, inr, refl, sym, ◌∙◌, ap, subst, eq-eqb, arith}
+use Rattle.std.proofs.Common.{◌≡◌, ℕ, ◌<◌, Bool, true, false, ◌&&◌, ◌==◌, List, [], length, inl, inr, refl, sym, ◌∙◌, ap, eq-eqb}
 use Rattle.std.specs.Prelude.{Option, Some, None, bytes_eq, codes}
-use Rattle.std.specs.List.{slice_get}
-use Rattle.std.specs.Borrow.{Bor}
 use Rattle.std.specs.declared.cmp.Ordering.{Ordering}
 use Rattle.std.specs.declared.cmp.Ordering.TheVariants.{Less, Equal, Greater}
-use Rattle.std.specs.Ordering.{ordering_then, nat_cmp, is_eq, eq_by_cmp}
+use Rattle.std.specs.Ordering.{ordering_then, nat_cmp, is_eq}
 use Rattle.std.specs.Cmp.{IsTotalOrder, IsEquivalence}
 use Rattle.std.specs.Cmp.Lexicographic.{slice_cmp, options_total}
 use Rattle.std.specs.Option.{option_cmp}
@@ -21,7 +19,7 @@ use Rattle.yaml_rank.specs.declared.ranks.Ranks.{Ranks}
 use Rattle.yaml_rank.proofs.Numbers.{equal-cmp}
 use Rattle.yaml_pair.specs.Names.{Naming, by_object, by_path, scalar_at, group_of, both_same, same_if_any, both_equal, same_object, same_name}
 use Rattle.yaml_pair.specs.Named.{Name, name_cmp, is_one, IsScalarRank, IsObjectName, IsPathName, IsName}
-use Rattle.yaml_pair.proofs.Parts.{some-is, same-test}
+use Rattle.yaml_pair.proofs.Parts.{same-test}
 
 -- ---- the order of names
 

@@ -1,12 +1,11 @@
 -- Pairs of names, and the pairs of items that have them.
-use Rattle.std.proofs.Common.{◌≡◌, ◌≢◌, ℕ, zero, suc, ◌+◌, ◌<◌, Bool, true, false, ◌⊎◌, List, [], ◌∷◌, ◌++◌, length, map, take, get_or, inl, inr, refl, sym, ◌∙◌, ap, subst, arith}
+use Rattle.std.proofs.Common.{◌≡◌, ℕ, ◌<◌, true, false, ◌⊎◌, List, [], ◌∷◌, ◌++◌, length, inl, inr, refl, sym, ◌∙◌, ap, subst, arith}
 use Rattle.std.specs.Prelude.{Option, Some, None}
 use Rattle.std.specs.List.{slice_get}
 use Rattle.std.proofs.lemmas.Option.{slice_get_within}
-use Rattle.std.proofs.lemmas.List.{take_more, take_all}
 use Rattle.yaml_definitions.specs.model.Tree.{Tree}
 use Rattle.yaml_graph.specs.GraphModel.{trees_at}
-use Rattle.yaml_graph.specs.GraphView.{nodes_of, graph_trees, tree}
+use Rattle.yaml_graph.specs.GraphView.{graph_trees, tree}
 use Rattle.yaml_graph.specs.declared.node.NodeId.{NodeId}
 use Rattle.yaml_graph.specs.declared.graph.Graph.{Graph}
 use Rattle.yaml_rank.specs.RanksView.{RanksAre}
@@ -14,7 +13,7 @@ use Rattle.yaml_rank.specs.declared.ranks.Ranks.{Ranks}
 use Rattle.yaml_rank.proofs.GraphOf.{get-map, get-unmap}
 use Rattle.yaml_pair.specs.declared.partners.Partners.{Partners}
 use Rattle.yaml_pair.specs.Names.{Naming, same_name, LeftFree, RightFree, LonePair, NamedPairs}
-use Rattle.yaml_pair.specs.Named.{AllWithin, Within, Name, is_one, IsName, AreNames, LoneNames, Partner, JoinsTo, HasPairs, EqualPairs, PairsBy}
+use Rattle.yaml_pair.specs.Named.{AllWithin, Within, Name, is_one, IsName, AreNames, LoneNames, JoinsTo, HasPairs}
 use Rattle.yaml_pair.proofs.Parts.{some-is, there, free-from, free-not}
 use Rattle.yaml_pair.proofs.NameLaws.{one_name, name-same}
 

@@ -1,10 +1,10 @@
 -- Places of names, one after the other.
-use Rattle.std.proofs.Common.{◌≡◌, ◌≢◌, ℕ, ◌+◌, ◌<◌, Bool, true, false, cond, List, length, ◌⊎◌, inl, inr, refl, sym, ◌∙◌, ap, subst, arith}
+use Rattle.std.proofs.Common.{◌≡◌, ℕ, ◌+◌, Bool, true, false, cond, List, length, ◌⊎◌, inl, inr, refl, sym, ◌∙◌, ap, subst, arith}
 use Rattle.std.specs.Prelude.{Option, Some, None, is_some}
 use Rattle.std.specs.List.{slice_get}
 use Rattle.std.specs.Cmp.{IsEquivalence}
 use Rattle.std.proofs.lemmas.Option.{slice_get_within}
-use Rattle.yaml_pair.specs.Named.{Several, Alone, StandsSome, Stands, LoneNames, flat, partner_in}
+use Rattle.yaml_pair.specs.Named.{Alone, Stands, LoneNames, flat, partner_in}
 use Rattle.yaml_pair.proofs.Parts.{some-is, less-or}
 
 module _ {N : Type 0} (one : N → N → Bool) (laws : IsEquivalence one) where

@@ -1,8 +1,8 @@
 -- Pairs among steps, one right place after the other.
-use Rattle.std.proofs.Common.{◌≡◌, ℕ, suc, ◌+◌, ◌-◌, ◌*◌, ◌^◌, ◌<◌, ◌≤◌, Bool, true, ◌⊎◌, List, [], ◌∷◌, ◌++◌, length, get_or, inl, inr, refl, sym, ◌∙◌, ap, subst, arith, append-nil, append_assoc, min, max}
-use Rattle.std.specs.Prelude.{Option, Some, None}
+use Rattle.std.proofs.Common.{◌≡◌, ℕ, ◌+◌, ◌-◌, ◌*◌, ◌^◌, ◌<◌, ◌≤◌, Bool, List, [], ◌∷◌, ◌++◌, length, inl, inr, sym, ◌∙◌, ap, subst, arith, append-nil, append_assoc, min, max}
+use Rattle.std.specs.Prelude.{Some, None}
 use Rattle.std.specs.List.{slice_get}
-use Rattle.std.proofs.lemmas.Option.{slice_get_within, get_or_from_slice_get}
+use Rattle.std.proofs.lemmas.Option.{slice_get_within}
 use Rattle.yaml_graph.proofs.GraphLaws.{get-more, get-end}
 use Rattle.yaml_graph.specs.GraphView.{nodes_of}
 use Rattle.yaml_graph.specs.declared.node.NodeId.{NodeId}
@@ -11,8 +11,8 @@ use Rattle.yaml_path.specs.declared.places.Places.{Places}
 use Rattle.yaml_path.specs.declared.places.Places.TheVariants.{Both}
 use Rattle.yaml_pair.specs.declared.partners.Partners.{Partners}
 use Rattle.yaml_pair.specs.Names.{Naming}
-use Rattle.yaml_pair.specs.Named.{Within, weight_of, IsWeighty, Partner, Keeps, HasPairs, PairsBy, HasPair, GoesOn, StepsTo, StepsOf, PairsNamed}
-use Rattle.yaml_pair.proofs.Parts.{some-is, none-some, less-or}
+use Rattle.yaml_pair.specs.Named.{weight_of, IsWeighty, Keeps, HasPairs, PairsBy, HasPair, GoesOn, StepsTo, StepsOf}
+use Rattle.yaml_pair.proofs.Parts.{some-is, less-or}
 
 abbrev Steps : Type 0
 Steps = List (Places × Bool)

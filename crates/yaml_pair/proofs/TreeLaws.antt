@@ -1,5 +1,5 @@
 -- Nodes of a graph, and what keys lead to from their trees.
-use Rattle.std.proofs.Common.{◌≡◌, ◌≢◌, ℕ, zero, suc, ◌+◌, ◌-◌, ◌^◌, ◌<◌, ◌≤◌, min, Bool, true, false, cond, ◌&&◌, List, [], ◌∷◌, length, map, take, drop, get_or, refl, sym, ◌∙◌, ap, subst, arith}
+use Rattle.std.proofs.Common.{◌≡◌, ℕ, suc, ◌+◌, ◌-◌, ◌^◌, ◌<◌, ◌≤◌, min, true, false, cond, ◌&&◌, List, [], ◌∷◌, length, map, take, drop, get_or, refl, sym, ◌∙◌, ap, subst, arith}
 use Rattle.std.specs.Prelude.{Option, Some, None, bytes_eq, sum_by, option_and_then, codes}
 use Rattle.std.proofs.lemmas.List.Sums.{sum_by_more}
 use Rattle.std.specs.List.{slice_get}
@@ -8,10 +8,10 @@ use Rattle.std.specs.Cow.{cow_str_bytes}
 use Rattle.std.proofs.lemmas.Option.{slice_get_within, slice_get-get_or, get_or_from_slice_get}
 use Rattle.std.proofs.lemmas.List.{at_drop_more, at_drop_all, length-map}
 use Rattle.yaml_definitions.specs.model.Tag.{str_tag}
-use Rattle.yaml_definitions.specs.model.Tree.{Tree, scalar, sequence, mapping}
+use Rattle.yaml_definitions.specs.model.Tree.{Tree, scalar}
 use Rattle.yaml_definitions.specs.model.Same.{same}
 use Rattle.yaml_graph.specs.TreeLists.{trees, pairs}
-use Rattle.yaml_graph.specs.GraphModel.{Entries, tree_at, trees_at, entries_at, kind_tree, node_tree, entries_of}
+use Rattle.yaml_graph.specs.GraphModel.{Entries, trees_at, entries_at, kind_tree, entries_of}
 use Rattle.yaml_graph.specs.GraphView.{nodes_of, graph_trees, tree}
 use Rattle.yaml_graph.proofs.GraphLaws.{node-tree}
 use Rattle.yaml_graph.specs.declared.node.NodeId.{NodeId}
@@ -21,8 +21,8 @@ use Rattle.yaml_graph.specs.declared.node.NodeKind.TheVariants as kinds
 use Rattle.yaml_graph.specs.declared.graph.Graph.{Graph}
 use Rattle.yaml_rank.specs.RanksView.{rank_of}
 use Rattle.yaml_rank.specs.declared.ranks.Ranks.{Ranks}
-use Rattle.yaml_path.specs.Path.{Path, Step, part, part_of, reach, value_in}
-use Rattle.yaml_pair.specs.Names.{to_key, way, scalar_of, content_of, found_at, scalar_at, before_slash, group_of}
+use Rattle.yaml_path.specs.Path.{Path, part, reach, value_in}
+use Rattle.yaml_pair.specs.Names.{to_key, scalar_of, content_of, found_at, scalar_at, before_slash, group_of}
 use Rattle.yaml_pair.specs.Named.{AllWithin, EntriesWithin, IsFound, IsScalarRank, width, how_many, how_many_pairs}
 
 -- the tree of a node of this kind

@@ -1,5 +1,5 @@
 -- What the passes that make pairs say of names, as they compare them, and of the pairs so far.
-use Rattle.std.specs.Prelude.{◌≡◌, ◌⊎◌, ◌↔◌, ℕ, zero, suc, ◌+◌, ◌*◌, ◌<◌, ◌^◌, Bool, true, cond, is_some, List, [], ◌∷◌, ◌++◌, map, length, take, sum_by, count_by, ◌==◌, slice_set, codes, Option, Some, None, IfSome}
+use Rattle.std.specs.Prelude.{◌≡◌, ◌⊎◌, ◌↔◌, ℕ, zero, suc, ◌+◌, ◌*◌, ◌<◌, ◌^◌, Bool, true, cond, is_some, List, [], ◌++◌, map, length, take, sum_by, count_by, ◌==◌, slice_set, codes, Option, Some, None, IfSome}
 use Rattle.std.specs.Borrow.{Bor}
 use Rattle.std.specs.declared.cmp.Ordering.{Ordering}
 use Rattle.std.specs.Ordering.{ordering_then, nat_cmp, eq_by_cmp}

@@ -1,9 +1,9 @@
 -- Which items of two lists are pairs because they are equal, and which because they have the same name.
-use Rattle.std.specs.Prelude.{◌≡◌, ◌⊎◌, ℕ, ◌<◌, Bool, true, false, cond, ◌&&◌, ◌==◌, bytes_eq, nat_lt, List, [], ◌∷◌, ◌++◌, map, length, take, count_by, Option, Some, None, option_and_then, codes}
+use Rattle.std.specs.Prelude.{◌≡◌, ◌⊎◌, ℕ, Bool, true, false, cond, ◌&&◌, ◌==◌, bytes_eq, nat_lt, List, [], ◌∷◌, ◌++◌, map, length, take, count_by, Option, Some, None, option_and_then, codes}
 use Rattle.std.specs.List.{slice_get, slice_split, position_or_len, before_first}
 use Rattle.std.specs.Option.{option_map}
 use Rattle.yaml_definitions.specs.model.Tag.{str_tag}
-use Rattle.yaml_definitions.specs.model.Tree.{Tree, scalar, sequence, mapping}
+use Rattle.yaml_definitions.specs.model.Tree.{Tree, scalar}
 use Rattle.yaml_definitions.specs.model.Same.{same}
 use Rattle.yaml_path.specs.Path.{Step, Path, at_key, reach}
 

@@ -39,8 +39,9 @@ fn weight(view: View<'_>, sides: (&[NodeId], &[NodeId])) -> usize
 
 /// The pairs of two lists that stand behind equal ends of this length, and their single items, in the order of the right list: steps,
 /// each with whether it is a pair that moved. Equal items that stand equally often are pairs, then those of a name that stands once on
-/// either side, one naming after the other, then those that have much in common, and then, between pairs that stay, those that stand in turn. There are no steps where aliases and equal parts
-/// repeat so much that the items have more than 1,048,576 entries, and more than twice as many as there are nodes.
+/// either side, one naming after the other, then those that have much in common, and then, between pairs that stay, those that stand in
+/// turn. There are no steps where aliases and equal parts repeat so much that the items have more than 1,048,576 entries, and more than
+/// twice as many as there are nodes.
 pub fn middle<'g>(
     alloc: Global,
     graph: &'g Graph<'g>,

@@ -1,6 +1,3 @@
-use Rattle.std.proofs.Common.{◌≡◌, ℕ, ◌<◌, length}
-use Rattle.std.specs.Prelude.{Option, Some, None}
-use Rattle.std.specs.List.{slice_get}
 use Rattle.yaml_pair.specs.Named.{AreNamesTo, naming_of}
 use Rattle.yaml_pair.proofs.names.names_in.Given as goal
 

@@ -1,9 +1,9 @@
-use Rattle.std.proofs.Common.{length, map, take, get_or, sym, ◌∙◌, subst}
+use Rattle.std.proofs.Common.{length, map, take, get_or, sym, subst}
 use Rattle.std.proofs.lemmas.List.{map_more}
 use Rattle.yaml_graph.specs.GraphModel.{trees_at}
 use Rattle.yaml_graph.specs.GraphView.{graph_trees}
-use Rattle.yaml_pair.specs.Names.{EqualPair, NamedPairs}
-use Rattle.yaml_pair.specs.Named.{HasPairs, EqualPairs, PairsBy, AreNames, JoinsTo, naming_of}
+use Rattle.yaml_pair.specs.Names.{EqualPair}
+use Rattle.yaml_pair.specs.Named.{HasPairs, PairsBy, AreNames, naming_of}
 use Rattle.yaml_pair.specs.declared.names.Column.TheVariants as columns
 use Rattle.yaml_pair.proofs.PairLaws.{has-named, named-push}
 use Rattle.yaml_pair.proofs.names.pair_named.Goals as goal

@@ -1,5 +1,5 @@
 use Rattle.std.proofs.Common.{length, ◌∙◌, ap}
-use Rattle.std.specs.Prelude.{Option, None}
+use Rattle.std.specs.Prelude.{None}
 use Rattle.std.proofs.lemmas.List.{length-replicate}
 use Rattle.yaml_pair.proofs.Parts.{none-only, blank-at}
 use Rattle.yaml_pair.proofs.partners.Partners.none.Goals as goal

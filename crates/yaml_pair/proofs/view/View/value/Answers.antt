@@ -1,4 +1,4 @@
-use Rattle.std.proofs.Common.{sym, ◌∙◌, subst}
+use Rattle.std.proofs.Common.{sym, subst}
 use Rattle.yaml_graph.specs.GraphModel.{entries_at}
 use Rattle.yaml_graph.specs.GraphView.{graph_trees}
 use Rattle.yaml_graph.specs.TreeLists.{pairs}
