@@ -1,1 +1,10 @@
 pub mod ColumnLaws
+pub mod EqualLaws
+pub mod JoinLaws
+pub mod ListLaws
+pub mod NameLaws
+pub mod PairLaws
+pub mod Parts
+pub mod PlaceLaws
+pub mod StepLaws
+pub mod TreeLaws

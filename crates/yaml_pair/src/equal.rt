@@ -1,35 +1,57 @@
 //! Equal items.
-ghost use Rattle.std.specs.Prelude.{◌≡◌, IfErr};
+ghost use Rattle.std.specs.Prelude.{◌≡◌, ℕ, ◌==◌, length, count_by, unwrap_or, IfOk, IfErr, OnOk};
+ghost use Rattle.std.specs.BTreeMap.{get};
+ghost use Rattle.std.specs.Ordering.{nat_cmp};
+ghost use Rattle.yaml_rank.specs.RanksView.{RanksAre};
+ghost use Rattle.yaml_pair.specs.Named.{Within, AreRanks, AreCounts, IsNone, HasPairs, EqualPairs};
 
 use crate::partners::{Name, Partners, join};
 use crate::view::View;
 use std::alloc::Global;
+use std::collections::BTreeMap;
 use yaml_graph::node::NodeId;
 use yaml_text::fault::Fault;
 
-/// The ranks of items in order, each with how many items have it, how many of these stand before this one, and the place of this one.
-fn counted(alloc: Global, view: View<'_>, items: &[NodeId]) -> Result<Vec<(Name, usize)>, Fault>
+/// The ranks of items.
+fn ranks_of(alloc: Global, view: View<'_>, items: &[NodeId]) -> Result<Vec<usize>, Fault>
+    ensures ok { IfOk result (λ ranks. AreRanks view.entry.graph.now view.entry.ranks.now items.now ranks.items) }
     ensures err { IfErr result (λ fault. fault ≡ Fault.OutOfMemory) }
 {
     let mut ranks = Vec::new(alloc);
-    for (place, item) in items.iter().enumerate() {
-        ranks.push((view.rank(*item), place))?;
+    for item in items {
+        ranks.push(view.rank(*item))?;
     }
-    ranks.sort_unstable();
-    let mut counted = Vec::new(alloc);
-    for (index, (rank, place)) in ranks.iter().enumerate() {
-        let start = ranks.partition_point(|it| it.0 < *rank);
-        let end = ranks.partition_point(|it| it.0 <= *rank);
-        let name = (
-            *rank,
-            end.saturating_sub(start),
-            index.saturating_sub(start),
-            0,
-            0,
-        );
-        counted.push((name, *place))?;
+    Ok(ranks)
+}
+
+/// How often each rank stands there.
+fn counts(alloc: Global, ranks: &[usize]) -> Result<BTreeMap<usize, usize>, Fault>
+    ensures ok { IfOk result (λ counts. (q : ℕ) → unwrap_or (get nat_cmp counts q) 0 ≡ count_by (λ x. x == q) ranks.now) }
+    ensures err { IfErr result (λ fault. fault ≡ Fault.OutOfMemory) }
+{
+    let mut counts = BTreeMap::new(alloc);
+    for rank in ranks {
+        let count: usize = counts.get(rank).copied().unwrap_or(0);
+        counts.insert(*rank, count + 1)?;
     }
-    Ok(counted)
+    Ok(counts)
+}
+
+/// Each rank with how many items have it, and how many of these stand before this one.
+fn counted<'g>(alloc: Global, ranks: &[usize]) -> Result<Vec<Option<Name<'g>>>, Fault>
+    ensures ok { IfOk result (λ names. AreCounts ranks.now names.items (length ranks.now)) }
+    ensures err { IfErr result (λ fault. fault ≡ Fault.OutOfMemory) }
+{
+    let all = counts(alloc, ranks)?;
+    let mut before = BTreeMap::new(alloc);
+    let mut names = Vec::new(alloc);
+    for rank in ranks {
+        let often = all.get(rank).copied().unwrap_or(0);
+        let count: usize = before.get(rank).copied().unwrap_or(0);
+        names.push(Some(("", *rank, Some(often), count)))?;
+        before.insert(*rank, count + 1)?;
+    }
+    Ok(names)
 }
 
 /// Pairs equal items that either list has equally often, in their order.
@@ -40,10 +62,12 @@ pub(crate) fn pair_equal(
     rights: &[NodeId],
     partners: &mut Partners,
 ) -> Result<(), Fault>
+    requires ranked { RanksAre view.graph.now view.ranks.now }
+    requires none { IsNone partners.old (length lefts.now) (length rights.now) }
+    ensures ok { OnOk result (Within view.entry.graph.now lefts.now rights.now → HasPairs partners.new (length lefts.now) (length rights.now) (EqualPairs view.entry.graph.now lefts.now rights.now)) }
     ensures err { IfErr result (λ fault. fault ≡ Fault.OutOfMemory) }
 {
-    let left = counted(alloc, view, lefts)?;
-    let right = counted(alloc, view, rights)?;
-    join(partners, &left, &right);
-    Ok(())
+    let left = counted(alloc, &ranks_of(alloc, view, lefts)?)?;
+    let right = counted(alloc, &ranks_of(alloc, view, rights)?)?;
+    join(alloc, partners, &left, &right)
 }

@@ -1,5 +1,6 @@
 //! Items that have much in common.
-ghost use Rattle.std.specs.Prelude.{◌≡◌, IfErr};
+ghost use Rattle.std.specs.Prelude.{◌≡◌, IfErr, OnOk};
+ghost use Rattle.yaml_pair.specs.Named.{Keeps};
 
 use crate::partners::{Partners, is_free};
 use crate::view::View;
@@ -161,6 +162,7 @@ pub(crate) fn pair_alike(
     rights: &[NodeId],
     partners: &mut Partners,
 ) -> Result<(), Fault>
+    ensures ok { OnOk result (Keeps partners.old partners.new) }
     ensures err { IfErr result (λ fault. fault ≡ Fault.OutOfMemory) }
 {
     let left = entries(alloc, view, lefts, &partners.lefts)?;

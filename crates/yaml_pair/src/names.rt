@@ -1,11 +1,15 @@
 //! Names of items.
-ghost use Rattle.std.specs.Prelude.{◌≡◌, IfErr};
+ghost use Rattle.std.specs.Prelude.{◌≡◌, ◌<◌, length, map, IfOk, IfErr, OnOk};
+ghost use Rattle.std.specs.Option.{option_map};
+ghost use Rattle.yaml_graph.specs.GraphView.{nodes_of, tree};
+ghost use Rattle.yaml_rank.specs.RanksView.{RanksAre};
+ghost use Rattle.yaml_pair.specs.Names.{before_slash, found_at, scalar_at, group_of, namings};
+ghost use Rattle.yaml_pair.specs.Named.{IsFound, IsScalarRank, IsObjectName, IsName, AreNames, naming_of, texts_of, Within, HasPairs, EqualPairs, PairsBy};
 
 use crate::asked::{Asked, TABLE};
 use crate::partners::{Name, Partners, is_free, join};
 use crate::view::View;
 use std::alloc::Global;
-use std::collections::BTreeMap;
 use yaml_graph::node::NodeId;
 use yaml_text::fault::Fault;
 
@@ -24,6 +28,7 @@ pub(crate) fn columns<'a>(
     asked: Asked<'a>,
     documents: bool,
 ) -> Result<Vec<Column<'a>>, Fault>
+    ensures ok { IfOk result (λ columns. map naming_of columns.items ≡ namings (texts_of asked.entry.by.now) documents) }
     ensures err { IfErr result (λ fault. fault ≡ Fault.OutOfMemory) }
 {
     let mut columns = Vec::new(alloc);
@@ -39,171 +44,121 @@ pub(crate) fn columns<'a>(
     Ok(columns)
 }
 
-/// Numbers of the groups of `apiVersion`.
-#[derive(Drop)]
-pub(crate) struct Groups<'g> {
-    numbers: BTreeMap<&'g str, usize>,
-}
-
-impl<'g> Groups<'g> {
-    ghost use Rattle.std.specs.Prelude.{◌≡◌, IfErr};
-
-    /// No groups yet.
-    pub(crate) fn none(alloc: Global) -> Groups<'g> {
-        Groups {
-            numbers: BTreeMap::new(alloc),
-        }
-    }
-
-    /// The number of a group, a new one where it has none.
-    fn number(&mut self, group: &'g str) -> Result<usize, Fault>
-        ensures err { IfErr result (λ fault. fault ≡ Fault.OutOfMemory) }
-    {
-        if let Some(number) = self.numbers.get(group) {
-            return Ok(*number);
-        }
-        let number = self.numbers.len();
-        self.numbers.insert(group, number)?;
-        Ok(number)
-    }
-}
-
 /// The group of an `apiVersion`: what stands before `/`.
-fn group_of(version: &str) -> &str {
+fn before_slash(version: &str) -> &str
+    ensures { result.now ≡ before_slash version.now }
+{
     match version.split_once('/') {
         Some((group, _)) => group,
         None => "",
     }
 }
 
-/// The scalar to which keys parted by `.` lead from an item, by its rank.
-fn scalar_at(view: View<'_>, item: NodeId, path: &str) -> Option<usize> {
+/// The node to which keys parted by `.` lead from an item.
+fn found_at(view: View<'_>, item: NodeId, path: &str) -> Option<NodeId>
+    ensures { item.0 < length (nodes_of view.entry.graph.now) → IsFound view.entry.graph.now (found_at (tree view.entry.graph.now item.0) path.now) result }
+{
     let mut node = item;
     for key in path.split('.') {
         node = view.value(node, key)?;
     }
-    view.scalar(node)
+    Some(node)
+}
+
+/// The scalar to which keys parted by `.` lead from an item, by its rank.
+fn scalar_at(view: View<'_>, item: NodeId, path: &str) -> Option<usize>
+    ensures { item.0 < length (nodes_of view.entry.graph.now) → IsScalarRank view.entry.graph.now view.entry.ranks.now (scalar_at (tree view.entry.graph.now item.0) path.now) result }
+{
+    view.scalar(found_at(view, item, path)?)
+}
+
+/// The group of an object.
+fn group_of<'g>(view: View<'g>, item: NodeId) -> Option<&'g str>
+    ensures { item.0 < length (nodes_of view.entry.graph.now) → option_map (λ group. group.now) result ≡ group_of (tree view.entry.graph.now item.0) }
+{
+    let version = view.text(found_at(view, item, "apiVersion")?)?;
+    Some(before_slash(version))
 }
 
 /// The name of an object with a kind: its group, its kind, its namespace and its own name.
-fn object_name<'g>(
-    view: View<'g>,
-    groups: &mut Groups<'g>,
-    item: NodeId,
-    column: usize,
-) -> Result<Option<Name>, Fault>
-    ensures err { IfErr result (λ fault. fault ≡ Fault.OutOfMemory) }
+fn object_name<'g>(view: View<'g>, item: NodeId) -> Option<Name<'g>>
+    ensures { item.0 < length (nodes_of view.entry.graph.now) → IsObjectName view.entry.graph.now view.entry.ranks.now (tree view.entry.graph.now item.0) result }
 {
-    let Some(version) = view
-        .value(item, "apiVersion")
-        .and_then(|node| view.text(node))
-    else {
-        return Ok(None);
-    };
-    let Some(kind) = scalar_at(view, item, "kind") else {
-        return Ok(None);
-    };
-    let Some(name) = scalar_at(view, item, "metadata.name") else {
-        return Ok(None);
-    };
-    let space = match scalar_at(view, item, "metadata.namespace") {
-        Some(rank) => rank.saturating_add(1),
-        None => 0,
-    };
-    let group = groups.number(group_of(version))?;
-    Ok(Some((column, group, kind, space, name)))
+    let group = group_of(view, item)?;
+    let kind = scalar_at(view, item, "kind")?;
+    let name = scalar_at(view, item, "metadata.name")?;
+    let space = scalar_at(view, item, "metadata.namespace");
+    Some((group, kind, space, name))
 }
 
 /// The name that an item has there.
-fn name_in<'g>(
-    view: View<'g>,
-    groups: &mut Groups<'g>,
-    item: NodeId,
-    number: usize,
-    column: Column<'_>,
-) -> Result<Option<Name>, Fault>
-    ensures err { IfErr result (λ fault. fault ≡ Fault.OutOfMemory) }
+fn name_in<'g>(view: View<'g>, item: NodeId, column: Column<'_>) -> Option<Name<'g>>
+    ensures { item.0 < length (nodes_of view.entry.graph.now) → IsName view.entry.graph.now view.entry.ranks.now (naming_of column.entry) (tree view.entry.graph.now item.0) result }
 {
     match column {
-        Column::Object => object_name(view, groups, item, number),
-        Column::Path(path) => Ok(scalar_at(view, item, path).map(|rank| (number, 0, 0, 0, rank))),
+        Column::Object => object_name(view, item),
+        Column::Path(path) => {
+            let rank = scalar_at(view, item, path)?;
+            Some(("", rank, None, 0))
+        }
     }
 }
 
-/// The first name that an item has.
+/// The first name that an item has, with the number of its column.
 pub(crate) fn own_name<'g>(
     view: View<'g>,
-    groups: &mut Groups<'g>,
     item: NodeId,
     columns: &[Column<'_>],
-) -> Result<Option<Name>, Fault>
-    ensures err { IfErr result (λ fault. fault ≡ Fault.OutOfMemory) }
-{
+) -> Option<(usize, Name<'g>)> {
     for (number, column) in columns.iter().enumerate() {
-        let name = name_in(view, groups, item, number, *column)?;
-        if name.is_some() {
-            return Ok(name);
+        if let Some(name) = name_in(view, item, *column) {
+            return Some((number, name));
         }
     }
-    Ok(None)
+    None
 }
 
-/// The names that stand once, of names in order.
-fn lone(alloc: Global, all: &[(Name, usize)]) -> Result<Vec<(Name, usize)>, Fault>
-    ensures err { IfErr result (λ fault. fault ≡ Fault.OutOfMemory) }
-{
-    let mut lone = Vec::new(alloc);
-    for index in 0..all.len() {
-        let (name, place) = all[index];
-        let is_first = index == 0 || all[index - 1].0 != name;
-        let is_last = index + 1 == all.len() || all[index + 1].0 != name;
-        if is_first && is_last {
-            lone.push((name, place))?;
-        }
-    }
-    Ok(lone)
-}
-
-/// The names there that stand once, of the items in no pair, in order.
-fn named<'g>(
+/// For each item that is in no pair the name that it has there.
+fn names_in<'g>(
     alloc: Global,
     view: View<'g>,
-    groups: &mut Groups<'g>,
     items: &[NodeId],
     places: &[Option<usize>],
-    column: (usize, Column<'_>),
-) -> Result<Vec<(Name, usize)>, Fault>
+    column: Column<'_>,
+) -> Result<Vec<Option<Name<'g>>>, Fault>
+    ensures ok { IfOk result (λ names. AreNames view.entry.graph.now view.entry.ranks.now (naming_of column.entry) items.now places.now names.items) }
     ensures err { IfErr result (λ fault. fault ≡ Fault.OutOfMemory) }
 {
-    let mut all = Vec::new(alloc);
+    let mut names = Vec::new(alloc);
     for (place, item) in items.iter().enumerate() {
-        if is_free(places, place)
-            && let Some(name) = name_in(view, groups, *item, column.0, column.1)?
-        {
-            all.push((name, place))?;
+        if is_free(places, place) {
+            names.push(name_in(view, *item, column))?;
+        } else {
+            names.push(None)?;
         }
     }
-    all.sort_unstable();
-    lone(alloc, &all)
+    Ok(names)
 }
 
-/// Pairs items by the names that stand once on either side.
-pub(crate) fn pair_named<'g>(
+/// Pairs items by the names that stand once on either side, of the items in no pair, one column after the other.
+pub(crate) fn pair_named(
     alloc: Global,
-    view: View<'g>,
-    groups: &mut Groups<'g>,
+    view: View<'_>,
     lefts: &[NodeId],
     rights: &[NodeId],
     columns: &[Column<'_>],
     partners: &mut Partners,
 ) -> Result<(), Fault>
+    requires ranked { RanksAre view.graph.now view.ranks.now }
+    ensures ok { OnOk result (Within view.entry.graph.now lefts.now rights.now
+        → HasPairs partners.old (length lefts.now) (length rights.now) (EqualPairs view.entry.graph.now lefts.now rights.now)
+        → HasPairs partners.new (length lefts.now) (length rights.now) (PairsBy view.entry.graph.now lefts.now rights.now (map naming_of columns.now))) }
     ensures err { IfErr result (λ fault. fault ≡ Fault.OutOfMemory) }
 {
-    for (number, column) in columns.iter().enumerate() {
-        let place = (number, *column);
-        let left = named(alloc, view, groups, lefts, &partners.lefts, place)?;
-        let right = named(alloc, view, groups, rights, &partners.rights, place)?;
-        join(partners, &left, &right);
+    for column in columns {
+        let left = names_in(alloc, view, lefts, &partners.lefts, *column)?;
+        let right = names_in(alloc, view, rights, &partners.rights, *column)?;
+        join(alloc, partners, &left, &right)?;
     }
     Ok(())
 }

@@ -1,11 +1,13 @@
 //! The items of two lists between their equal ends.
-ghost use Rattle.std.specs.Prelude.{◌≡◌, IfErr};
+ghost use Rattle.std.specs.Prelude.{◌≡◌, ◌≤◌, IfOk, IfErr};
 ghost use Rattle.yaml_rank.specs.RanksView.{RanksAre};
+ghost use Rattle.yaml_pair.specs.Names.{namings};
+ghost use Rattle.yaml_pair.specs.Named.{Within, weight_of, texts_of, PairsNamed};
 
 use crate::asked::Asked;
 use crate::equal::pair_equal;
 use crate::like::pair_alike;
-use crate::names::{Groups, columns, pair_named};
+use crate::names::{columns, pair_named};
 use crate::partners::Partners;
 use crate::stay::stayers;
 use crate::steps::steps_of;
@@ -22,7 +24,9 @@ use yaml_text::fault::Fault;
 const ENTRIES: usize = 1_048_576;
 
 /// How many entries the items of both lists have together.
-fn weight(view: View<'_>, sides: (&[NodeId], &[NodeId])) -> usize {
+fn weight(view: View<'_>, sides: (&[NodeId], &[NodeId])) -> usize
+    ensures { Within view.entry.graph.now sides.entry.0.now sides.entry.1.now → result ≤ weight_of view.entry.graph.now sides.entry.0.now sides.entry.1.now }
+{
     let mut sum: usize = 0;
     for item in sides.0 {
         sum = sum.saturating_add(view.count(*item));
@@ -34,9 +38,10 @@ fn weight(view: View<'_>, sides: (&[NodeId], &[NodeId])) -> usize {
 }
 
 /// The pairs of two lists that stand behind equal ends of this length, and their single items, in the order of the right list: steps,
-/// each with whether it is a pair that moved. Equal items that stand equally often are pairs, then those of one name, then those that have
-/// much in common, and then, between pairs that stay, those that stand in turn. There are no steps where aliases and equal parts
-/// repeat so much that the items have more than 1,048,576 entries, and more than twice as many as there are nodes.
+/// each with whether it is a pair that moved. Equal items that stand equally often are pairs, then those of a name that stands once on
+/// either side, one naming after the other, then those that have much in common, and then, between pairs that stay, those that stand in
+/// turn. There are no steps where aliases and equal parts repeat so much that the items have more than 1,048,576 entries, and more than
+/// twice as many as there are nodes.
 pub fn middle<'g>(
     alloc: Global,
     graph: &'g Graph<'g>,
@@ -47,6 +52,7 @@ pub fn middle<'g>(
     documents: bool,
 ) -> Result<Vec<(Places, bool)>, Fault>
     requires ranked { RanksAre graph.now ranks.now }
+    ensures named { IfOk result (λ steps. PairsNamed graph.now sides.entry.0.now sides.entry.1.now first (namings (texts_of asked.entry.by.now) documents) steps.items) }
     ensures err { IfErr result (λ fault. fault ≡ Fault.OutOfMemory) }
 {
     let view = View::new(graph, ranks);
@@ -54,31 +60,14 @@ pub fn middle<'g>(
     if weight(view, sides) > view.len().saturating_mul(2).max(ENTRIES) {
         return Ok(Vec::new(alloc));
     }
-    let mut groups = Groups::none(alloc);
     let columns = columns(alloc, asked, documents)?;
     let mut partners = Partners::none(alloc, lefts.len(), rights.len())?;
     pair_equal(alloc, view, lefts, rights, &mut partners)?;
-    pair_named(
-        alloc,
-        view,
-        &mut groups,
-        lefts,
-        rights,
-        &columns,
-        &mut partners,
-    )?;
+    pair_named(alloc, view, lefts, rights, &columns, &mut partners)?;
     pair_alike(alloc, view, lefts, rights, &mut partners)?;
     let pairs = partners.pairs(alloc)?;
     let stay = stayers(alloc, &pairs, rights.len())?;
-    pair_in_turn(
-        alloc,
-        view,
-        &mut groups,
-        &columns,
-        sides,
-        &stay,
-        &mut partners,
-    )?;
+    pair_in_turn(alloc, view, &columns, sides, &stay, &mut partners)?;
     let pairs = partners.pairs(alloc)?;
     let stay = stayers(alloc, &pairs, rights.len())?;
     steps_of(alloc, &partners, &stay, first)

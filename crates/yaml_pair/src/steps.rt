@@ -1,5 +1,6 @@
 //! Pairs and single items as steps, in the order of the right list.
-ghost use Rattle.std.specs.Prelude.{◌≡◌, IfErr};
+ghost use Rattle.std.specs.Prelude.{◌≡◌, IfOk, IfErr, OnOk};
+ghost use Rattle.yaml_pair.specs.Named.{StepsOf, GoesOn};
 
 use crate::partners::{Partners, is_free};
 use std::alloc::Global;
@@ -14,6 +15,7 @@ fn put_lefts(
     to: usize,
     first: usize,
 ) -> Result<(), Fault>
+    ensures ok { OnOk result (GoesOn steps.old.items steps.new.items) }
     ensures err { IfErr result (λ fault. fault ≡ Fault.OutOfMemory) }
 {
     for left in from..to {
@@ -32,6 +34,7 @@ pub(crate) fn steps_of(
     stay: &[(usize, usize)],
     first: usize,
 ) -> Result<Vec<(Places, bool)>, Fault>
+    ensures ok { IfOk result (λ steps. StepsOf first partners.now steps.items) }
     ensures err { IfErr result (λ fault. fault ≡ Fault.OutOfMemory) }
 {
     let mut steps = Vec::new(alloc);

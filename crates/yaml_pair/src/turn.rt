@@ -1,7 +1,8 @@
 //! Items in turn, between pairs that stay.
-ghost use Rattle.std.specs.Prelude.{◌≡◌, IfErr};
+ghost use Rattle.std.specs.Prelude.{◌≡◌, IfErr, OnOk};
+ghost use Rattle.yaml_pair.specs.Named.{Keeps};
 
-use crate::names::{Column, Groups, own_name};
+use crate::names::{Column, own_name};
 use crate::partners::{Name, Partners, is_free};
 use crate::view::View;
 use std::alloc::Global;
@@ -11,24 +12,26 @@ use yaml_text::fault::Fault;
 /// How many items of the right an item of the left looks at.
 const LOOKS: usize = 64;
 
+/// The number of a column, and the name that an item has there.
+type Named<'g> = (usize, Name<'g>);
+
 /// An item in no pair: its place, its node and its own name.
-type Single = (usize, NodeId, Option<Name>);
+type Single<'g> = (usize, NodeId, Option<Named<'g>>);
 
 /// The items in no pair, in order.
 fn singles<'g>(
     alloc: Global,
     view: View<'g>,
-    groups: &mut Groups<'g>,
     columns: &[Column<'_>],
     items: &[NodeId],
     places: &[Option<usize>],
-) -> Result<Vec<Single>, Fault>
+) -> Result<Vec<Single<'g>>, Fault>
     ensures err { IfErr result (λ fault. fault ≡ Fault.OutOfMemory) }
 {
     let mut list = Vec::new(alloc);
     for (place, item) in items.iter().enumerate() {
         if is_free(places, place) {
-            let name = own_name(view, groups, *item, columns)?;
+            let name = own_name(view, *item, columns);
             list.push((place, *item, name))?;
         }
     }
@@ -63,7 +66,7 @@ fn share_keys(view: View<'_>, left: NodeId, right: NodeId) -> bool {
 }
 
 /// Whether the names of two items differ.
-fn names_differ(left: Option<Name>, right: Option<Name>) -> bool {
+fn names_differ(left: Option<Named<'_>>, right: Option<Named<'_>>) -> bool {
     match (left, right) {
         (Some(left), Some(right)) => left != right,
         _ => false,
@@ -71,7 +74,7 @@ fn names_differ(left: Option<Name>, right: Option<Name>) -> bool {
 }
 
 /// The place in the list, from this one on, of the first item that a left item is paired with.
-fn fitting(view: View<'_>, left: Single, rights: &[Single], from: usize) -> Option<usize> {
+fn fitting(view: View<'_>, left: Single<'_>, rights: &[Single<'_>], from: usize) -> Option<usize> {
     for step in 0..=LOOKS {
         let at = from.saturating_add(step);
         let right = rights.get(at)?;
@@ -83,7 +86,9 @@ fn fitting(view: View<'_>, left: Single, rights: &[Single], from: usize) -> Opti
 }
 
 /// Pairs the items of one gap, of both of which the places rise.
-fn pair_gap(view: View<'_>, lefts: &[Single], rights: &[Single], partners: &mut Partners) {
+fn pair_gap(view: View<'_>, lefts: &[Single<'_>], rights: &[Single<'_>], partners: &mut Partners)
+    ensures { Keeps partners.old partners.new }
+{
     let mut from = 0;
     for left in lefts {
         if let Some(at) = fitting(view, *left, rights, from)
@@ -96,29 +101,26 @@ fn pair_gap(view: View<'_>, lefts: &[Single], rights: &[Single], partners: &mut 
 }
 
 /// The items of a list whose places stand behind the one and before the other.
-fn gap_of(list: &[Single], from: usize, to: usize) -> &[Single] {
+fn gap_of<'a, 'g>(list: &'a [Single<'g>], from: usize, to: usize) -> &'a [Single<'g>] {
     let start = list.partition_point(|it| it.0 < from);
-    let end = list.partition_point(|it| it.0 < to);
-    match list.get(start..end) {
-        Some(gap) => gap,
-        None => &[],
-    }
+    let rest = &list[start..];
+    &rest[..rest.partition_point(|it| it.0 < to)]
 }
 
 /// Pairs the items in no pair, between pairs that stay, in turn.
-pub(crate) fn pair_in_turn<'g>(
+pub(crate) fn pair_in_turn(
     alloc: Global,
-    view: View<'g>,
-    groups: &mut Groups<'g>,
+    view: View<'_>,
     columns: &[Column<'_>],
     sides: (&[NodeId], &[NodeId]),
     stay: &[(usize, usize)],
     partners: &mut Partners,
 ) -> Result<(), Fault>
+    ensures ok { OnOk result (Keeps partners.old partners.new) }
     ensures err { IfErr result (λ fault. fault ≡ Fault.OutOfMemory) }
 {
-    let lefts = singles(alloc, view, groups, columns, sides.0, &partners.lefts)?;
-    let rights = singles(alloc, view, groups, columns, sides.1, &partners.rights)?;
+    let lefts = singles(alloc, view, columns, sides.0, &partners.lefts)?;
+    let rights = singles(alloc, view, columns, sides.1, &partners.rights)?;
     let mut from = (0, 0);
     for pair in stay {
         let left = gap_of(&lefts, from.0, pair.0);
