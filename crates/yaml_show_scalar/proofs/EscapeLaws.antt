@@ -143,6 +143,21 @@ module _ (l : Language) where
             ∙ ap (λ z. out ++ (encode_utf8_all h.run ++ z)) (sym (next_shown rest after c h.utf8 e)) ∙ h.shows;
       }
 
+  -- what is written with the run, and what is left then
+  pub run_within : (text rest : List ℕ) (at start i : ℕ) (old out piece : List ℕ) → IsEscaping l text rest at start old out → i ≡ at → piece ≡ take (i - start) (drop start text)
+      → old ++ escaped l text ≡ (out ++ piece) ++ escaped l rest
+  run_within text rest at start i old out piece h e q =
+      sym h.shows ∙ sym (append_assoc out (encode_utf8_all h.run) (escaped l rest))
+      ∙ ap (λ z. (out ++ z) ++ escaped l rest) (sym (q ∙ ap (λ k. take (k - start) (drop start text)) e ∙ run_taken text rest at start old out h))
+
+  -- the same with the escape behind it
+  pub escape_within : (text rest after : List ℕ) (at next start c i : ℕ) (old out piece pushed : List ℕ) → IsEscaping l text rest at start old out
+      → (i ≡ at) × (rest ≡ encode_utf8 c ++ after) × (next ≡ at + length (encode_utf8 c)) → is_escaped l c ≡ true → piece ≡ take (i - start) (drop start text) → pushed ≡ out ++ piece
+      → old ++ escaped l text ≡ (pushed ++ escape_text l c) ++ escaped l after
+  escape_within text rest after at next start c i old out piece pushed h s v q p =
+      run_within text rest at start i old out piece h s.0 q ∙ ap (λ z. z ++ escaped l rest) (sym p)
+      ∙ ap (λ z. pushed ++ z) (next_shown rest after c h.utf8 s.1 ∙ ap (λ z. z ++ escaped l after) (escapes l c v)) ∙ sym (append_assoc pushed (escape_text l c) (escaped l after))
+
   -- the same of the code's own numbers
   pub after_escape : (text rest after : List ℕ) (at next start c i start' : ℕ) (old out piece pushed new : List ℕ) → IsEscaping l text rest at start old out
       → (i ≡ at) × (rest ≡ encode_utf8 c ++ after) × (next ≡ at + length (encode_utf8 c)) → is_escaped l c ≡ true → start' ≡ i + length (encode_utf8 c) → piece ≡ take (i - start) (drop start text)

@@ -3,3 +3,4 @@ pub mod NumberLaws
 pub mod ScalarLaws
 pub mod TagLaws
 pub mod TextLaws
+pub mod StopLaws

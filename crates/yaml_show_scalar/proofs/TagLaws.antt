@@ -33,6 +33,11 @@ encoded_next tag at b whole out new h e w =
     ap (λ z. z ++ encode_utf8_all (encoded (drop (at + 1) tag) [])) w ∙ append_assoc out (encode_utf8_all (spell_byte b)) (encode_utf8_all (encoded (drop (at + 1) tag) []))
     ∙ ap (λ z. out ++ z) (sym (ap (λ z. encode_utf8_all (encoded z [])) (dropped tag at b h) ∙ encodes-append (spell_byte b) (encoded (drop (at + 1) tag) []))) ∙ e
 
+-- what is written with this byte, and what is left then
+pub encoded_within : (tag : List ℕ) (at b : ℕ) (whole out : List ℕ) → (at < length tag) × (b ≡ get_or tag at 0) → out ++ encode_utf8_all (encoded (drop at tag) []) ≡ whole
+    → whole ≡ (out ++ encode_utf8_all (spell_byte b)) ++ encode_utf8_all (encoded (drop (at + 1) tag) [])
+encoded_within tag at b whole out h e = sym (encoded_next tag at b whole out (out ++ encode_utf8_all (spell_byte b)) h e refl)
+
 -- ---- shorthands
 
 pub primary : (g s : List ℕ) → suffix_behind tag_prefix g ≡ Some s → codes "!!" ++ s ≡ tag_text g

@@ -47,6 +47,20 @@ times_next n piece old out new e w =
     let k : suc n ≡ n + 1 = omega arith in
     w ∙ ap (λ z. z ++ piece) e ∙ append_assoc old (times n piece) piece ∙ ap (λ z. old ++ z) (times_end n piece ∙ ap (λ m. times m piece) k)
 
+times_add : (m n : ℕ) (piece : List ℕ) → times (m + n) piece ≡ times m piece ++ times n piece
+times_add zero n piece = let e : 0 + n ≡ n = omega arith in ap (λ k. times k piece) e
+times_add (suc m) n piece =
+    let e : suc m + n ≡ suc (m + n) = omega arith in
+    ap (λ k. times k piece) e ∙ ap (λ z. piece ++ z) (times_add m n piece) ∙ sym (append_assoc piece (times m piece) (times n piece))
+
+-- what is written with one piece more, and what is left then
+pub times_within : (done count : ℕ) (piece old out : List ℕ) → done < count → out ≡ old ++ times done piece → old ++ times count piece ≡ (out ++ piece) ++ times (count - (done + 1)) piece
+times_within done count piece old out l e =
+    let r = times (count - (done + 1)) piece in
+    let n : count ≡ (done + 1) + (count - (done + 1)) = omega (arith, l) in
+    ap (λ k. old ++ times k piece) n ∙ ap (λ z. old ++ z) (times_add (done + 1) (count - (done + 1)) piece) ∙ sym (append_assoc old (times (done + 1) piece) r)
+    ∙ ap (λ z. z ++ r) (sym (times_next done piece old out (out ++ piece) e refl))
+
 -- ---- the end
 
 not_empty : (x : List ℕ) (mark : ℕ) → is_empty (x ++ (mark ∷ [])) ≡ false
@@ -141,6 +155,11 @@ literal_next n x rest line after old out new h e a u w = record {
       ∙ ap (λ z. out ++ flat_map (literal_line n) z) (sym (split_line rest line after e a)) ∙ h.is;
 }
 
+pub literal_within : (n : ℕ) (x rest line after old out : List ℕ) → IsLiteral n x rest old out → rest ≡ line ++ (10 ∷ after) → All (λ b. is_feed b ≡ false) line
+    → old ++ flat_map (literal_line n) (slice_split is_feed x) ≡ (out ++ literal_line n line) ++ flat_map (literal_line n) (slice_split is_feed after)
+literal_within n x rest line after old out h e a =
+    sym h.is ∙ ap (λ z. out ++ flat_map (literal_line n) z) (split_line rest line after e a) ∙ sym (append_assoc out (literal_line n line) (flat_map (literal_line n) (slice_split is_feed after)))
+
 pub literal_last : (n : ℕ) (x rest old out new : List ℕ) → IsLiteral n x rest old out → All (λ b. is_feed b ≡ false) rest → new ≡ out ++ literal_line n rest → new ≡ old ++ flat_map (literal_line n) (slice_split is_feed x)
 literal_last n x rest old out new h a w =
     w ∙ ap (λ z. out ++ z) (sym (append-nil (literal_line n rest)) ∙ ap (flat_map (literal_line n)) (sym (slice_split_none is_feed rest a))) ∙ h.is
@@ -161,6 +180,19 @@ broken_next n x rest line after old out pushed new h e a u p w =
       is = ap (λ z. z ++ broken_lines n s) (w ∙ ap (λ z. z ++ (92 ∷ 110 ∷ 92 ∷ 10 ∷ [])) p) ∙ regroup out (broken_line n line) (92 ∷ 110 ∷ 92 ∷ 10 ∷ []) (broken_lines n s)
           ∙ ap (λ z. out ++ z) (sym (broken_more n line s (some_lines after)) ∙ ap (broken_lines n) (sym (split_line rest line after e a))) ∙ h.is;
     }
+
+pub broken_within : (n : ℕ) (x rest line after old out : List ℕ) → IsBroken n x rest old out → rest ≡ line ++ (10 ∷ after) → All (λ b. is_feed b ≡ false) line
+    → old ++ broken_lines n (slice_split is_feed x) ≡ (out ++ broken_line n line) ++ ((92 ∷ 110 ∷ 92 ∷ 10 ∷ []) ++ broken_lines n (slice_split is_feed after))
+broken_within n x rest line after old out h e a =
+    let s = slice_split is_feed after in
+    sym h.is ∙ ap (λ z. out ++ z) (ap (broken_lines n) (split_line rest line after e a) ∙ broken_more n line s (some_lines after))
+    ∙ sym (append_assoc out (broken_line n line) ((92 ∷ 110 ∷ 92 ∷ 10 ∷ []) ++ broken_lines n s))
+
+pub break_within : (n : ℕ) (x rest line after old out pushed : List ℕ) → IsBroken n x rest old out → rest ≡ line ++ (10 ∷ after) → All (λ b. is_feed b ≡ false) line → pushed ≡ out ++ broken_line n line
+    → old ++ broken_lines n (slice_split is_feed x) ≡ (pushed ++ (92 ∷ 110 ∷ 92 ∷ 10 ∷ [])) ++ broken_lines n (slice_split is_feed after)
+break_within n x rest line after old out pushed h e a p =
+    let s = broken_lines n (slice_split is_feed after) in
+    broken_within n x rest line after old out h e a ∙ ap (λ z. z ++ ((92 ∷ 110 ∷ 92 ∷ 10 ∷ []) ++ s)) (sym p) ∙ sym (append_assoc pushed (92 ∷ 110 ∷ 92 ∷ 10 ∷ []) s)
 
 pub broken_last : (n : ℕ) (x rest old out new : List ℕ) → IsBroken n x rest old out → All (λ b. is_feed b ≡ false) rest → new ≡ out ++ broken_line n rest → new ≡ old ++ broken_lines n (slice_split is_feed x)
 broken_last n x rest old out new h a w = w ∙ ap (λ z. out ++ broken_lines n z) (sym (slice_split_none is_feed rest a)) ∙ h.is

@@ -4,3 +4,4 @@ pub mod Plain
 pub mod Numbers
 pub mod Tags
 pub mod Scalars
+pub mod Stops

@@ -1,7 +1,8 @@
 //! Texts between double quotes, in YAML (YAML 1.2.2, 5.7) and in JSON (RFC 8259, 7).
-ghost use Rattle.std.specs.Prelude.{◌≡◌, ◌++◌, OnOk};
+ghost use Rattle.std.specs.Prelude.{◌≡◌, ◌++◌, OnOk, IfErr};
 ghost use Rattle.yaml_show_scalar.specs.Escapes.{is_escaped, code_escape, json_escape, escape_text, escaped, quoted};
 ghost use Rattle.yaml_show_scalar.specs.declared.escapes.Language.TheVariants.{Yaml, Json};
+ghost use Rattle.yaml_show_scalar.specs.Stops.{limit_of, Stops};
 ghost use Rattle.yaml_show_scalar.specs.Texts.{written};
 
 use crate::chars::is_unseen;
@@ -31,7 +32,9 @@ fn is_escaped(c: char, language: Language) -> bool
 
 /// Writes the code of a character as `\x`, `\u` or `\U` with two, four or eight digits. JSON has `\u` alone.
 fn put_code(out: &mut Out, code: u32, language: Language) -> Result<(), Stop>
-    ensures { OnOk result (written out.new ≡ written out.old ++ code_escape language code) }
+    ensures ok { OnOk result (written out.new ≡ written out.old ++ code_escape language code) }
+    ensures limit { limit_of out.new ≡ limit_of out.old }
+    ensures err { IfErr result (Stops (limit_of out.old) (written out.old ++ code_escape language code)) }
 {
     if language == Language::Json {
         out.put("\\u")?;
@@ -54,7 +57,9 @@ fn put_code(out: &mut Out, code: u32, language: Language) -> Result<(), Stop>
 /// The escape of a character: of two characters if the language has one, else by its code.
 #[tactic(auto, unfolding(crate::specs::Escapes::escape_text))]
 fn put_escape(out: &mut Out, c: char, language: Language) -> Result<(), Stop>
-    ensures { OnOk result (written out.new ≡ written out.old ++ escape_text language c) }
+    ensures ok { OnOk result (written out.new ≡ written out.old ++ escape_text language c) }
+    ensures limit { limit_of out.new ≡ limit_of out.old }
+    ensures err { IfErr result (Stops (limit_of out.old) (written out.old ++ escape_text language c)) }
 {
     match c {
         '"' => out.put("\\\""),
@@ -71,7 +76,9 @@ fn put_escape(out: &mut Out, c: char, language: Language) -> Result<(), Stop>
 /// The further escapes of two characters that JSON has, and those by a code.
 #[tactic(auto, unfolding(crate::specs::Escapes::json_escape))]
 fn put_json_escape(out: &mut Out, c: char) -> Result<(), Stop>
-    ensures { OnOk result (written out.new ≡ written out.old ++ json_escape c) }
+    ensures ok { OnOk result (written out.new ≡ written out.old ++ json_escape c) }
+    ensures limit { limit_of out.new ≡ limit_of out.old }
+    ensures err { IfErr result (Stops (limit_of out.old) (written out.old ++ json_escape c)) }
 {
     match c {
         '\r' => out.put("\\r"),
@@ -83,7 +90,9 @@ fn put_json_escape(out: &mut Out, c: char) -> Result<(), Stop>
 
 /// Writes a text with its escapes. What needs none is written in runs.
 fn put_runs(out: &mut Out, text: &str, language: Language) -> Result<(), Stop>
-    ensures { OnOk result (written out.new ≡ written out.old ++ escaped language text.now) }
+    ensures ok { OnOk result (written out.new ≡ written out.old ++ escaped language text.now) }
+    ensures limit { limit_of out.new ≡ limit_of out.old }
+    ensures err { IfErr result (Stops (limit_of out.old) (written out.old ++ escaped language text.now)) }
 {
     let mut run = 0;
     'spell: for (at, c) in text.char_indices() {
@@ -98,14 +107,18 @@ fn put_runs(out: &mut Out, text: &str, language: Language) -> Result<(), Stop>
 
 /// Writes what stands for a text between double quotes.
 pub fn put_escaped(out: &mut Out, text: &str) -> Result<(), Stop>
-    ensures { OnOk result (written out.new ≡ written out.old ++ escaped Yaml text.now) }
+    ensures ok { OnOk result (written out.new ≡ written out.old ++ escaped Yaml text.now) }
+    ensures limit { limit_of out.new ≡ limit_of out.old }
+    ensures err { IfErr result (Stops (limit_of out.old) (written out.old ++ escaped Yaml text.now)) }
 {
     put_runs(out, text, Language::Yaml)
 }
 
 /// Writes a double-quoted scalar on one line.
 pub fn put_quoted(out: &mut Out, text: &str) -> Result<(), Stop>
-    ensures { OnOk result (written out.new ≡ written out.old ++ quoted Yaml text.now) }
+    ensures ok { OnOk result (written out.new ≡ written out.old ++ quoted Yaml text.now) }
+    ensures limit { limit_of out.new ≡ limit_of out.old }
+    ensures err { IfErr result (Stops (limit_of out.old) (written out.old ++ quoted Yaml text.now)) }
 {
     out.put("\"")?;
     put_escaped(out, text)?;
@@ -114,7 +127,9 @@ pub fn put_quoted(out: &mut Out, text: &str) -> Result<(), Stop>
 
 /// Writes a string of JSON.
 pub fn put_json_string(out: &mut Out, text: &str) -> Result<(), Stop>
-    ensures { OnOk result (written out.new ≡ written out.old ++ quoted Json text.now) }
+    ensures ok { OnOk result (written out.new ≡ written out.old ++ quoted Json text.now) }
+    ensures limit { limit_of out.new ≡ limit_of out.old }
+    ensures err { IfErr result (Stops (limit_of out.old) (written out.old ++ quoted Json text.now)) }
 {
     out.put("\"")?;
     put_runs(out, text, Language::Json)?;

@@ -1,7 +1,8 @@
 //! Strings on several lines.
-ghost use Rattle.std.specs.Prelude.{◌≡◌, ◌++◌, OnOk, flat_map};
+ghost use Rattle.std.specs.Prelude.{◌≡◌, ◌++◌, OnOk, IfErr, flat_map};
 ghost use Rattle.std.specs.List.{slice_split};
 ghost use Rattle.yaml_show_scalar.specs.Scalars.{is_feed, body, literal_header, literal_line, literal_text, broken_line, broken_lines, broken_text};
+ghost use Rattle.yaml_show_scalar.specs.Stops.{limit_of, Stops};
 ghost use Rattle.yaml_show_scalar.specs.Texts.{written};
 
 use crate::escapes::put_escaped;
@@ -23,7 +24,9 @@ pub(crate) fn body_of(content: &str) -> &str
 /// Writes the line on which a literal scalar begins.
 #[tactic(auto, unfolding(crate::specs::Scalars::literal_header))]
 fn put_header(out: &mut Out, content: &str) -> Result<(), Stop>
-    ensures { OnOk result (written out.new ≡ written out.old ++ literal_header content.now) }
+    ensures ok { OnOk result (written out.new ≡ written out.old ++ literal_header content.now) }
+    ensures limit { limit_of out.new ≡ limit_of out.old }
+    ensures err { IfErr result (Stops (limit_of out.old) (written out.old ++ literal_header content.now)) }
 {
     out.put(if leads_blank(content) { "|2" } else { "|" })?;
     if !ends_in(content, '\n') {
@@ -38,7 +41,9 @@ fn put_header(out: &mut Out, content: &str) -> Result<(), Stop>
 
 /// Writes a line of a literal scalar.
 fn put_literal_line(out: &mut Out, line: &str, level: usize) -> Result<(), Stop>
-    ensures { OnOk result (written out.new ≡ written out.old ++ literal_line level line.now) }
+    ensures ok { OnOk result (written out.new ≡ written out.old ++ literal_line level line.now) }
+    ensures limit { limit_of out.new ≡ limit_of out.old }
+    ensures err { IfErr result (Stops (limit_of out.old) (written out.old ++ literal_line level line.now)) }
 {
     if line.is_empty() {
         return out.put("\n");
@@ -50,7 +55,9 @@ fn put_literal_line(out: &mut Out, line: &str, level: usize) -> Result<(), Stop>
 
 /// Writes the lines of a literal scalar.
 fn put_literal_lines(out: &mut Out, body: &str, level: usize) -> Result<(), Stop>
-    ensures { OnOk result (written out.new ≡ written out.old ++ flat_map (literal_line level) (slice_split is_feed body.now)) }
+    ensures ok { OnOk result (written out.new ≡ written out.old ++ flat_map (literal_line level) (slice_split is_feed body.now)) }
+    ensures limit { limit_of out.new ≡ limit_of out.old }
+    ensures err { IfErr result (Stops (limit_of out.old) (written out.old ++ flat_map (literal_line level) (slice_split is_feed body.now))) }
 {
     let mut rest = body;
     'lines: loop {
@@ -65,7 +72,9 @@ fn put_literal_lines(out: &mut Out, body: &str, level: usize) -> Result<(), Stop
 /// Writes a literal scalar (YAML 1.2.2, 8.1.2). Its lines are at this level.
 #[tactic(auto, unfolding(crate::specs::Scalars::literal_text))]
 pub(crate) fn put_literal(out: &mut Out, content: &str, level: usize) -> Result<(), Stop>
-    ensures { OnOk result (written out.new ≡ written out.old ++ literal_text level content.now) }
+    ensures ok { OnOk result (written out.new ≡ written out.old ++ literal_text level content.now) }
+    ensures limit { limit_of out.new ≡ limit_of out.old }
+    ensures err { IfErr result (Stops (limit_of out.old) (written out.old ++ literal_text level content.now)) }
 {
     put_header(out, content)?;
     put_literal_lines(out, body_of(content), level)
@@ -73,7 +82,9 @@ pub(crate) fn put_literal(out: &mut Out, content: &str, level: usize) -> Result<
 
 /// Writes a line between double quotes.
 fn put_broken_line(out: &mut Out, line: &str, level: usize) -> Result<(), Stop>
-    ensures { OnOk result (written out.new ≡ written out.old ++ broken_line level line.now) }
+    ensures ok { OnOk result (written out.new ≡ written out.old ++ broken_line level line.now) }
+    ensures limit { limit_of out.new ≡ limit_of out.old }
+    ensures err { IfErr result (Stops (limit_of out.old) (written out.old ++ broken_line level line.now)) }
 {
     out.put_times(level, "  ")?;
     if byte_at(line, 0) == b' ' {
@@ -84,7 +95,9 @@ fn put_broken_line(out: &mut Out, line: &str, level: usize) -> Result<(), Stop>
 
 /// Writes lines between double quotes. Each break between them is escaped.
 fn put_broken_lines(out: &mut Out, body: &str, level: usize) -> Result<(), Stop>
-    ensures { OnOk result (written out.new ≡ written out.old ++ broken_lines level (slice_split is_feed body.now)) }
+    ensures ok { OnOk result (written out.new ≡ written out.old ++ broken_lines level (slice_split is_feed body.now)) }
+    ensures limit { limit_of out.new ≡ limit_of out.old }
+    ensures err { IfErr result (Stops (limit_of out.old) (written out.old ++ broken_lines level (slice_split is_feed body.now))) }
 {
     let mut rest = body;
     'lines: loop {
@@ -101,7 +114,9 @@ fn put_broken_lines(out: &mut Out, body: &str, level: usize) -> Result<(), Stop>
 /// lines.
 #[tactic(auto, unfolding(crate::specs::Scalars::broken_text))]
 pub(crate) fn put_broken(out: &mut Out, content: &str, level: usize) -> Result<(), Stop>
-    ensures { OnOk result (written out.new ≡ written out.old ++ broken_text level content.now) }
+    ensures ok { OnOk result (written out.new ≡ written out.old ++ broken_text level content.now) }
+    ensures limit { limit_of out.new ≡ limit_of out.old }
+    ensures err { IfErr result (Stops (limit_of out.old) (written out.old ++ broken_text level content.now)) }
 {
     out.put("\"\\\n")?;
     put_broken_lines(out, body_of(content), level)?;

@@ -1,7 +1,8 @@
 //! Floats as people write them.
-ghost use Rattle.std.specs.Prelude.{◌≡◌, ◌++◌, true, OnOk};
+ghost use Rattle.std.specs.Prelude.{◌≡◌, ◌++◌, true, OnOk, IfErr};
 ghost use Rattle.std.specs.List.{list_all};
 ghost use Rattle.yaml_show_scalar.specs.Numbers.{is_in_words, zeros_before, digits_before, is_digit, pointed, with_exponent, great_or, small_text, digits_text, float_text};
+ghost use Rattle.yaml_show_scalar.specs.Stops.{limit_of, Stops};
 ghost use Rattle.yaml_show_scalar.specs.Texts.{written};
 
 use crate::output::Out;
@@ -74,7 +75,9 @@ fn are_digits(text: &str) -> bool
 #[tactic(auto, unfolding(crate::specs::Numbers::pointed))]
 fn put_pointed(out: &mut Out, rest: &str, before: usize) -> Result<(), Stop>
     requires { list_all is_digit rest.now ≡ true }
-    ensures { OnOk result (written out.new ≡ written out.old ++ pointed rest.now before) }
+    ensures ok { OnOk result (written out.new ≡ written out.old ++ pointed rest.now before) }
+    ensures limit { limit_of out.new ≡ limit_of out.old }
+    ensures err { IfErr result (Stops (limit_of out.old) (written out.old ++ pointed rest.now before)) }
 {
     if rest.len() <= before {
         out.put(rest)?;
@@ -88,7 +91,9 @@ fn put_pointed(out: &mut Out, rest: &str, before: usize) -> Result<(), Stop>
 
 /// Writes a float with its exponent.
 fn put_with_exponent(out: &mut Out, first: &str, rest: &str, exponent: &str) -> Result<(), Stop>
-    ensures { OnOk result (written out.new ≡ written out.old ++ with_exponent first.now rest.now exponent.now) }
+    ensures ok { OnOk result (written out.new ≡ written out.old ++ with_exponent first.now rest.now exponent.now) }
+    ensures limit { limit_of out.new ≡ limit_of out.old }
+    ensures err { IfErr result (Stops (limit_of out.old) (written out.old ++ with_exponent first.now rest.now exponent.now)) }
 {
     out.put(first)?;
     out.put(".")?;
@@ -99,7 +104,9 @@ fn put_with_exponent(out: &mut Out, first: &str, rest: &str, exponent: &str) -> 
 
 /// Writes a float of at least 1, or one below 0.0001, by its first digit, its further digits and its exponent.
 fn put_great(out: &mut Out, first: &str, rest: &str, exponent: &str) -> Result<(), Stop>
-    ensures { OnOk result (written out.new ≡ written out.old ++ great_or (digits_before exponent.now) first.now rest.now exponent.now) }
+    ensures ok { OnOk result (written out.new ≡ written out.old ++ great_or (digits_before exponent.now) first.now rest.now exponent.now) }
+    ensures limit { limit_of out.new ≡ limit_of out.old }
+    ensures err { IfErr result (Stops (limit_of out.old) (written out.old ++ great_or (digits_before exponent.now) first.now rest.now exponent.now)) }
 {
     match digits_before(exponent) {
         Some(before) if are_digits(rest) => {
@@ -112,7 +119,9 @@ fn put_great(out: &mut Out, first: &str, rest: &str, exponent: &str) -> Result<(
 
 /// Writes a float below 1 with so many zeros behind the point.
 fn put_small(out: &mut Out, zeros: usize, first: &str, rest: &str) -> Result<(), Stop>
-    ensures { OnOk result (written out.new ≡ written out.old ++ small_text zeros first.now rest.now) }
+    ensures ok { OnOk result (written out.new ≡ written out.old ++ small_text zeros first.now rest.now) }
+    ensures limit { limit_of out.new ≡ limit_of out.old }
+    ensures err { IfErr result (Stops (limit_of out.old) (written out.old ++ small_text zeros first.now rest.now)) }
 {
     out.put("0.")?;
     out.put_times(zeros, "0")?;
@@ -123,7 +132,9 @@ fn put_small(out: &mut Out, zeros: usize, first: &str, rest: &str) -> Result<(),
 /// Writes a float without its sign.
 #[tactic(auto, unfolding(crate::specs::Numbers::digits_text))]
 fn put_digits(out: &mut Out, digits: &str) -> Result<(), Stop>
-    ensures { OnOk result (written out.new ≡ written out.old ++ digits_text digits.now) }
+    ensures ok { OnOk result (written out.new ≡ written out.old ++ digits_text digits.now) }
+    ensures limit { limit_of out.new ≡ limit_of out.old }
+    ensures err { IfErr result (Stops (limit_of out.old) (written out.old ++ digits_text digits.now)) }
 {
     let (front, exponent) = cut(digits, 'e');
     let (first, rest) = cut(front, '.');
@@ -136,7 +147,9 @@ fn put_digits(out: &mut Out, digits: &str) -> Result<(), Stop>
 /// Writes a float from its canonical content: with a point, and without an exponent if that is from -4 to 15.
 #[tactic(auto, unfolding(crate::specs::Numbers::float_text))]
 pub fn put_float(out: &mut Out, content: &str) -> Result<(), Stop>
-    ensures { OnOk result (written out.new ≡ written out.old ++ float_text content.now) }
+    ensures ok { OnOk result (written out.new ≡ written out.old ++ float_text content.now) }
+    ensures limit { limit_of out.new ≡ limit_of out.old }
+    ensures err { IfErr result (Stops (limit_of out.old) (written out.old ++ float_text content.now)) }
 {
     if is_in_words(content) {
         return out.put(content);

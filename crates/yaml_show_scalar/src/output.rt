@@ -1,7 +1,8 @@
 //! A text that grows up to a limit.
-ghost use Rattle.std.specs.Prelude.{◌≡◌, ◌<◌, ◌++◌, ◌/◌, ◌%◌, [], ◌∷◌, OnOk};
+ghost use Rattle.std.specs.Prelude.{◌≡◌, ◌<◌, ◌++◌, ◌-◌, ◌/◌, ◌%◌, [], ◌∷◌, length, OnOk, IfErr};
 ghost use Rattle.yaml_definitions.specs.canonical.CharText.{hex_digit};
 ghost use Rattle.yaml_show_scalar.specs.Escapes.{four_digits};
+ghost use Rattle.yaml_show_scalar.specs.Stops.{limit_of, Stops};
 ghost use Rattle.yaml_show_scalar.specs.Texts.{times, written};
 
 use crate::stop::Stop;
@@ -17,7 +18,8 @@ pub struct Out {
 impl Out {
     /// An empty text that may grow to so many bytes.
     pub fn new(alloc: Global, limit: usize) -> Out
-        ensures { written result ≡ [] }
+        ensures empty { written result ≡ [] }
+        ensures limit { limit_of result ≡ limit }
     {
         Out {
             text: String::new(alloc),
@@ -26,13 +28,17 @@ impl Out {
     }
 
     /// How many bytes may still be written.
-    pub fn left(&self) -> usize {
-        self.limit.saturating_sub(self.text.len())
+    pub fn left(&self) -> usize
+        ensures { result ≡ limit_of self.now - length (written self.now) }
+    {
+        self.limit.saturating_sub(self.text.as_str().len())
     }
 
     /// Writes a piece.
     pub fn put(&mut self, piece: &str) -> Result<(), Stop>
-        ensures { OnOk result (written self.new ≡ written self.old ++ piece.now) }
+        ensures ok { OnOk result (written self.new ≡ written self.old ++ piece.now) }
+        ensures limit { limit_of self.new ≡ limit_of self.old }
+        ensures err { IfErr result (Stops (limit_of self.old) (written self.old ++ piece.now)) }
     {
         if piece.len() > self.left() {
             return Err(Stop::TooLong);
@@ -43,7 +49,9 @@ impl Out {
 
     /// Writes a piece so many times.
     pub fn put_times(&mut self, count: usize, piece: &str) -> Result<(), Stop>
-        ensures { OnOk result (written self.new ≡ written self.old ++ times count piece.now) }
+        ensures ok { OnOk result (written self.new ≡ written self.old ++ times count piece.now) }
+        ensures limit { limit_of self.new ≡ limit_of self.old }
+        ensures err { IfErr result (Stops (limit_of self.old) (written self.old ++ times count piece.now)) }
     {
         for _ in 0..count {
             self.put(piece)?;
@@ -53,7 +61,9 @@ impl Out {
 
     /// Writes the last hexadecimal digit of a number.
     pub(crate) fn put_digit(&mut self, number: u32) -> Result<(), Stop>
-        ensures { OnOk result (written self.new ≡ written self.old ++ (hex_digit (number % 16) ∷ [])) }
+        ensures ok { OnOk result (written self.new ≡ written self.old ++ (hex_digit (number % 16) ∷ [])) }
+        ensures limit { limit_of self.new ≡ limit_of self.old }
+        ensures err { IfErr result (Stops (limit_of self.old) (written self.old ++ (hex_digit (number % 16) ∷ []))) }
     {
         if self.left() == 0 {
             return Err(Stop::TooLong);
@@ -64,7 +74,9 @@ impl Out {
 
     /// Writes the last four hexadecimal digits of a number.
     pub(crate) fn put_four(&mut self, number: u32) -> Result<(), Stop>
-        ensures { OnOk result (written self.new ≡ written self.old ++ four_digits number) }
+        ensures ok { OnOk result (written self.new ≡ written self.old ++ four_digits number) }
+        ensures limit { limit_of self.new ≡ limit_of self.old }
+        ensures err { IfErr result (Stops (limit_of self.old) (written self.old ++ four_digits number)) }
     {
         self.put_digit(number / 4096)?;
         self.put_digit(number / 256)?;

@@ -1,9 +1,10 @@
 //! Scalars.
-ghost use Rattle.std.specs.Prelude.{◌≡◌, ◌==◌, ◌||◌, ◌++◌, [], ◌∷◌, OnOk};
+ghost use Rattle.std.specs.Prelude.{◌≡◌, ◌==◌, ◌||◌, ◌++◌, [], ◌∷◌, OnOk, IfErr};
 ghost use Rattle.std.specs.List.{list_any};
 ghost use Rattle.yaml_show_scalar.specs.Scalars.{stands_plain, string_text, scalar_text, is_feed, is_long, is_seen, is_blank, leads_blank, literal_text, broken_text, is_literal, long_text, scalar_lines};
 ghost use Rattle.yaml_show_scalar.specs.Tags.{tag_before};
 ghost use Rattle.yaml_definitions.specs.model.Tag.{str_tag};
+ghost use Rattle.yaml_show_scalar.specs.Stops.{limit_of, Stops};
 ghost use Rattle.yaml_show_scalar.specs.Texts.{written};
 
 use crate::chars::is_unseen;
@@ -38,7 +39,9 @@ fn stands_plain(content: &str, quotes: Quotes) -> bool
 /// Writes a string on one line, behind its tag.
 #[tactic(auto, unfolding(crate::specs::Scalars::string_text, yaml_definitions::specs::model::Tag::core_tag))]
 fn put_string(out: &mut Out, tag: &str, content: &str, quotes: Quotes) -> Result<(), Stop>
-    ensures { OnOk result (written out.new ≡ written out.old ++ string_text quotes tag.now content.now) }
+    ensures ok { OnOk result (written out.new ≡ written out.old ++ string_text quotes tag.now content.now) }
+    ensures limit { limit_of out.new ≡ limit_of out.old }
+    ensures err { IfErr result (Stops (limit_of out.old) (written out.old ++ string_text quotes tag.now content.now)) }
 {
     put_tag_before(out, tag, core_tag::STR)?;
     if stands_plain(content, quotes) {
@@ -50,7 +53,9 @@ fn put_string(out: &mut Out, tag: &str, content: &str, quotes: Quotes) -> Result
 /// Writes a scalar on one line.
 #[tactic(auto, unfolding(crate::specs::Scalars::scalar_text, yaml_definitions::specs::model::Tag::core_tag))]
 pub fn put_scalar(out: &mut Out, tag: &str, content: &str, quotes: Quotes) -> Result<(), Stop>
-    ensures { OnOk result (written out.new ≡ written out.old ++ scalar_text quotes tag.now content.now) }
+    ensures ok { OnOk result (written out.new ≡ written out.old ++ scalar_text quotes tag.now content.now) }
+    ensures limit { limit_of out.new ≡ limit_of out.old }
+    ensures err { IfErr result (Stops (limit_of out.old) (written out.old ++ scalar_text quotes tag.now content.now)) }
 {
     if tag == core_tag::FLOAT {
         return put_float(out, content);
@@ -126,7 +131,9 @@ fn is_literal(content: &str, is_root: bool) -> bool
 /// Writes a literal scalar behind its tag.
 #[tactic(auto, unfolding(yaml_definitions::specs::model::Tag::core_tag))]
 fn put_literal_string(out: &mut Out, tag: &str, content: &str, level: usize) -> Result<(), Stop>
-    ensures { OnOk result (written out.new ≡ written out.old ++ (tag_before tag.now str_tag ++ literal_text level content.now)) }
+    ensures ok { OnOk result (written out.new ≡ written out.old ++ (tag_before tag.now str_tag ++ literal_text level content.now)) }
+    ensures limit { limit_of out.new ≡ limit_of out.old }
+    ensures err { IfErr result (Stops (limit_of out.old) (written out.old ++ (tag_before tag.now str_tag ++ literal_text level content.now))) }
 {
     put_tag_before(out, tag, core_tag::STR)?;
     put_literal(out, content, level)
@@ -135,7 +142,9 @@ fn put_literal_string(out: &mut Out, tag: &str, content: &str, level: usize) -> 
 /// Writes a double-quoted scalar on several lines behind its tag.
 #[tactic(auto, unfolding(yaml_definitions::specs::model::Tag::core_tag))]
 fn put_broken_string(out: &mut Out, tag: &str, content: &str, level: usize) -> Result<(), Stop>
-    ensures { OnOk result (written out.new ≡ written out.old ++ (tag_before tag.now str_tag ++ broken_text level content.now)) }
+    ensures ok { OnOk result (written out.new ≡ written out.old ++ (tag_before tag.now str_tag ++ broken_text level content.now)) }
+    ensures limit { limit_of out.new ≡ limit_of out.old }
+    ensures err { IfErr result (Stops (limit_of out.old) (written out.old ++ (tag_before tag.now str_tag ++ broken_text level content.now))) }
 {
     put_tag_before(out, tag, core_tag::STR)?;
     put_broken(out, content, level)
@@ -143,7 +152,9 @@ fn put_broken_string(out: &mut Out, tag: &str, content: &str, level: usize) -> R
 
 /// Writes a scalar on one line, and its end.
 fn put_line(out: &mut Out, tag: &str, content: &str, quotes: Quotes) -> Result<(), Stop>
-    ensures { OnOk result (written out.new ≡ written out.old ++ (scalar_text quotes tag.now content.now ++ (10 ∷ []))) }
+    ensures ok { OnOk result (written out.new ≡ written out.old ++ (scalar_text quotes tag.now content.now ++ (10 ∷ []))) }
+    ensures limit { limit_of out.new ≡ limit_of out.old }
+    ensures err { IfErr result (Stops (limit_of out.old) (written out.old ++ (scalar_text quotes tag.now content.now ++ (10 ∷ [])))) }
 {
     put_scalar(out, tag, content, quotes)?;
     out.put("\n")
@@ -158,7 +169,9 @@ fn put_long(
     level: usize,
     is_root: bool,
 ) -> Result<(), Stop>
-    ensures { OnOk result (written out.new ≡ written out.old ++ long_text level is_root tag.now content.now) }
+    ensures ok { OnOk result (written out.new ≡ written out.old ++ long_text level is_root tag.now content.now) }
+    ensures limit { limit_of out.new ≡ limit_of out.old }
+    ensures err { IfErr result (Stops (limit_of out.old) (written out.old ++ long_text level is_root tag.now content.now)) }
 {
     if is_literal(content, is_root) {
         return put_literal_string(out, tag, content, level);
@@ -179,7 +192,9 @@ pub fn put_scalar_lines(
     level: usize,
     is_root: bool,
 ) -> Result<(), Stop>
-    ensures { OnOk result (written out.new ≡ written out.old ++ scalar_lines level is_root tag.now content.now) }
+    ensures ok { OnOk result (written out.new ≡ written out.old ++ scalar_lines level is_root tag.now content.now) }
+    ensures limit { limit_of out.new ≡ limit_of out.old }
+    ensures err { IfErr result (Stops (limit_of out.old) (written out.old ++ scalar_lines level is_root tag.now content.now)) }
 {
     if is_resolved(tag) || !is_long(content) {
         return put_line(out, tag, content, Quotes::WhereNeeded);

@@ -1,4 +1,6 @@
 //! Why a text is not finished.
+ghost use Rattle.std.specs.Prelude.{◌≡◌};
+
 use std::alloc::AllocError;
 
 /// Why a text is not finished.
@@ -11,6 +13,10 @@ pub enum Stop {
 }
 
 impl From<AllocError> for Stop {
+    ghost use Rattle.yaml_show_scalar.specs.declared.stop.Stop.TheVariants.{OutOfMemory};
+
+    ghost from_gives = { λ _ stop. stop ≡ OutOfMemory };
+
     fn from(_error: AllocError) -> Stop {
         Stop::OutOfMemory
     }

@@ -1,10 +1,11 @@
 //! Tags as they are written.
-ghost use Rattle.std.specs.Prelude.{◌≡◌, ◌++◌, ◌/◌, ◌%◌, [], ◌∷◌, OnOk, encode_utf8_all};
+ghost use Rattle.std.specs.Prelude.{◌≡◌, ◌++◌, ◌/◌, ◌%◌, [], ◌∷◌, OnOk, IfErr, encode_utf8_all};
 ghost use Rattle.std.specs.List.{list_all};
 ghost use Rattle.std.specs.Option.{option_map};
 ghost use Rattle.yaml_definitions.specs.canonical.CharText.{hex_digit};
 ghost use Rattle.yaml_definitions.specs.canonical.TagText.{spell_byte, encoded};
 ghost use Rattle.yaml_show_scalar.specs.Tags.{is_suffix_byte, is_suffix, suffix_behind, verbatim, other_text, tag_text, is_resolved, is_left_out, tag_before};
+ghost use Rattle.yaml_show_scalar.specs.Stops.{limit_of, Stops};
 ghost use Rattle.yaml_show_scalar.specs.Texts.{written};
 
 use crate::output::Out;
@@ -53,7 +54,9 @@ pub fn is_left_out(tag: &str, own: &str) -> bool
 
 /// Writes a byte percent-encoded.
 fn put_percent(out: &mut Out, byte: u8) -> Result<(), Stop>
-    ensures { OnOk result (written out.new ≡ written out.old ++ (37 ∷ hex_digit (byte / 16 % 16) ∷ hex_digit (byte % 16) ∷ [])) }
+    ensures ok { OnOk result (written out.new ≡ written out.old ++ (37 ∷ hex_digit (byte / 16 % 16) ∷ hex_digit (byte % 16) ∷ [])) }
+    ensures limit { limit_of out.new ≡ limit_of out.old }
+    ensures err { IfErr result (Stops (limit_of out.old) (written out.old ++ (37 ∷ hex_digit (byte / 16 % 16) ∷ hex_digit (byte % 16) ∷ []))) }
 {
     out.put("%")?;
     out.put_digit(u32::from(byte) / 16)?;
@@ -62,7 +65,9 @@ fn put_percent(out: &mut Out, byte: u8) -> Result<(), Stop>
 
 /// Writes a byte of a verbatim tag: as it is if it is a URI character, else percent-encoded.
 fn put_byte(out: &mut Out, byte: u8) -> Result<(), Stop>
-    ensures { OnOk result (written out.new ≡ written out.old ++ encode_utf8_all (spell_byte byte)) }
+    ensures ok { OnOk result (written out.new ≡ written out.old ++ encode_utf8_all (spell_byte byte)) }
+    ensures limit { limit_of out.new ≡ limit_of out.old }
+    ensures err { IfErr result (Stops (limit_of out.old) (written out.old ++ encode_utf8_all (spell_byte byte))) }
 {
     let c = char::from(byte);
     if is_uri(c) {
@@ -74,7 +79,9 @@ fn put_byte(out: &mut Out, byte: u8) -> Result<(), Stop>
 
 /// Writes the bytes of a verbatim tag.
 fn put_encoded(out: &mut Out, tag: &str) -> Result<(), Stop>
-    ensures { OnOk result (written out.new ≡ written out.old ++ encode_utf8_all (encoded tag.now [])) }
+    ensures ok { OnOk result (written out.new ≡ written out.old ++ encode_utf8_all (encoded tag.now [])) }
+    ensures limit { limit_of out.new ≡ limit_of out.old }
+    ensures err { IfErr result (Stops (limit_of out.old) (written out.old ++ encode_utf8_all (encoded tag.now []))) }
 {
     for byte in tag.as_bytes() {
         put_byte(out, *byte)?;
@@ -84,7 +91,9 @@ fn put_encoded(out: &mut Out, tag: &str) -> Result<(), Stop>
 
 /// Writes a verbatim tag (YAML 1.2.2, 6.9.1).
 fn put_verbatim(out: &mut Out, tag: &str) -> Result<(), Stop>
-    ensures { OnOk result (written out.new ≡ written out.old ++ verbatim tag.now) }
+    ensures ok { OnOk result (written out.new ≡ written out.old ++ verbatim tag.now) }
+    ensures limit { limit_of out.new ≡ limit_of out.old }
+    ensures err { IfErr result (Stops (limit_of out.old) (written out.old ++ verbatim tag.now)) }
 {
     out.put("!<")?;
     put_encoded(out, tag)?;
@@ -106,7 +115,9 @@ fn suffix_behind<'t>(tag: &'t str, front: &str) -> Option<&'t str>
 
 /// Writes a shorthand of a tag.
 fn put_shorthand(out: &mut Out, handle: &str, suffix: &str) -> Result<(), Stop>
-    ensures { OnOk result (written out.new ≡ written out.old ++ (handle.now ++ suffix.now)) }
+    ensures ok { OnOk result (written out.new ≡ written out.old ++ (handle.now ++ suffix.now)) }
+    ensures limit { limit_of out.new ≡ limit_of out.old }
+    ensures err { IfErr result (Stops (limit_of out.old) (written out.old ++ (handle.now ++ suffix.now))) }
 {
     out.put(handle)?;
     out.put(suffix)
@@ -114,7 +125,9 @@ fn put_shorthand(out: &mut Out, handle: &str, suffix: &str) -> Result<(), Stop>
 
 /// Writes a tag that has no shorthand with `!!`.
 fn put_other(out: &mut Out, tag: &str) -> Result<(), Stop>
-    ensures { OnOk result (written out.new ≡ written out.old ++ other_text tag.now) }
+    ensures ok { OnOk result (written out.new ≡ written out.old ++ other_text tag.now) }
+    ensures limit { limit_of out.new ≡ limit_of out.old }
+    ensures err { IfErr result (Stops (limit_of out.old) (written out.old ++ other_text tag.now)) }
 {
     match suffix_behind(tag, "!") {
         Some(suffix) => put_shorthand(out, "!", suffix),
@@ -124,7 +137,9 @@ fn put_other(out: &mut Out, tag: &str) -> Result<(), Stop>
 
 /// Writes a tag.
 pub fn put_tag(out: &mut Out, tag: &str) -> Result<(), Stop>
-    ensures { OnOk result (written out.new ≡ written out.old ++ tag_text tag.now) }
+    ensures ok { OnOk result (written out.new ≡ written out.old ++ tag_text tag.now) }
+    ensures limit { limit_of out.new ≡ limit_of out.old }
+    ensures err { IfErr result (Stops (limit_of out.old) (written out.old ++ tag_text tag.now)) }
 {
     match suffix_behind(tag, core_tag::PREFIX) {
         Some(suffix) => put_shorthand(out, "!!", suffix),
@@ -135,7 +150,9 @@ pub fn put_tag(out: &mut Out, tag: &str) -> Result<(), Stop>
 /// Writes a tag that is not left out, and a space.
 #[tactic(auto, unfolding(crate::specs::Tags::tag_before))]
 pub fn put_tag_before(out: &mut Out, tag: &str, own: &str) -> Result<(), Stop>
-    ensures { OnOk result (written out.new ≡ written out.old ++ tag_before tag.now own.now) }
+    ensures ok { OnOk result (written out.new ≡ written out.old ++ tag_before tag.now own.now) }
+    ensures limit { limit_of out.new ≡ limit_of out.old }
+    ensures err { IfErr result (Stops (limit_of out.old) (written out.old ++ tag_before tag.now own.now)) }
 {
     if is_left_out(tag, own) {
         return Ok(());

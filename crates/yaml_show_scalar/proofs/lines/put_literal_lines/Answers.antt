@@ -1,25 +1,46 @@
-use Rattle.std.proofs.Common.{ℕ, List, refl, sym, subst, arith}
+use Rattle.std.proofs.Common.{ℕ, List, refl, sym, subst, ◌∙◌, arith}
 use Rattle.std.specs.Prelude.{Some, None}
 use Rattle.std.specs.Str.{IsUtf8, IsCharBoundary}
 use Rattle.std.proofs.lemmas.Result.{on_ok_weaker}
 use Rattle.std.proofs.lemmas.Str.{IsUtf8-drop}
 use Rattle.std.proofs.lemmas.Str.Pattern.{split_parts}
-use Rattle.yaml_show_scalar.proofs.TextLaws.{no_feed, literal_next, literal_last}
+use Rattle.std.proofs.lemmas.Result.{err_from_is_err_and}
+use Rattle.yaml_show_scalar.proofs.StopLaws.{stops_longer, if_same}
+use Rattle.yaml_show_scalar.proofs.TextLaws.{no_feed, literal_next, literal_within, literal_last}
 use Rattle.yaml_show_scalar.proofs.lines.put_literal_lines.Goals as goal
 
 pub lines-init : goal.lines-init
-lines-init c = record { utf8 = c.utf8.body; is = refl }
+lines-init c = (refl, record { utf8 = c.utf8.body; is = refl })
 
 pub lines-preserved : goal.lines-preserved
 lines-preserved c =
     let rest : List ℕ = c.lines.rest.now in
     let f = split_parts 10 rest (Some (c.in-Some.line, c.in-Some.after)) c.in-Some.ensures.cases (omega arith) in
     let s = c.in-Some.ensures.cases in
-    let u : IsUtf8 c.in-Some.after.now = subst IsUtf8 (sym s.4) (IsUtf8-drop rest s.1 c.lines.invariant.utf8 (subst (IsCharBoundary rest) (sym s.2.1.ends) s.2.1.after)) in
-    literal_next c.args.level c.args.body.now rest c.in-Some.line.now c.in-Some.after.now _ _ _ c.lines.invariant f.0 (no_feed c.in-Some.line.now f.1) u c.in_ok-put_literal_line.ensures
+    let u : IsUtf8 c.in-Some.after.now = subst IsUtf8 (sym s.4) (IsUtf8-drop rest s.1 c.lines.invariant.1.utf8 (subst (IsCharBoundary rest) (sym s.2.1.ends) s.2.1.after)) in
+    (c.in_ok-put_literal_line.ensures.limit ∙ c.lines.invariant.0, literal_next c.args.level c.args.body.now rest c.in-Some.line.now c.in-Some.after.now _ _ _ c.lines.invariant.1 f.0 (no_feed c.in-Some.line.now f.1) u c.in_ok-put_literal_line.ensures.ok)
 
-pub returns-in_default : goal.returns-in_default
-returns-in_default c =
+pub returns-in_default-clause-ok : goal.returns-in_default-clause-ok
+returns-in_default-clause-ok c =
     let rest : List ℕ = c.lines.rest.now in
     let f = split_parts 10 rest None c.in_default.ensures.cases (omega arith) in
-    on_ok_weaker c.put_literal_line.result (literal_last c.args.level c.args.body.now rest _ _ _ c.lines.invariant (no_feed rest f)) c.put_literal_line.ensures
+    on_ok_weaker c.put_literal_line.result (literal_last c.args.level c.args.body.now rest _ _ _ c.lines.invariant.1 (no_feed rest f)) c.put_literal_line.ensures.ok
+
+pub returns-in_default-clause-limit : goal.returns-in_default-clause-limit
+returns-in_default-clause-limit c = c.put_literal_line.ensures.limit ∙ c.lines.invariant.0
+
+pub returns-in_default-clause-err : goal.returns-in_default-clause-err
+returns-in_default-clause-err c =
+    let rest : List ℕ = c.lines.rest.now in
+    let f = split_parts 10 rest None c.in_default.ensures.cases (omega arith) in
+    if_same c.put_literal_line.result _ _ _ _ c.lines.invariant.0 (sym (literal_last c.args.level c.args.body.now rest _ _ _ c.lines.invariant.1 (no_feed rest f) refl)) c.put_literal_line.ensures.err
+
+pub returns-in_err-put_literal_line-clause-limit : goal.returns-in_err-put_literal_line-clause-limit
+returns-in_err-put_literal_line-clause-limit c = c.in_err-put_literal_line.ensures.limit ∙ c.lines.invariant.0
+
+pub returns-in_err-put_literal_line-clause-err : goal.returns-in_err-put_literal_line-clause-err
+returns-in_err-put_literal_line-clause-err c =
+    let p = err_from_is_err_and c.from_residual.result c.from_residual.ensures.1 in
+    let rest : List ℕ = c.lines.rest.now in
+    let f = split_parts 10 rest (Some (c.in-Some.line, c.in-Some.after)) c.in-Some.ensures.cases (omega arith) in
+    rw (p.1, p.2) (stops_longer _ _ _ _ _ _ c.lines.invariant.0 (literal_within c.args.level c.args.body.now rest c.in-Some.line.now c.in-Some.after.now _ _ c.lines.invariant.1 f.0 (no_feed c.in-Some.line.now f.1)) c.in_err-put_literal_line.ensures.err)
