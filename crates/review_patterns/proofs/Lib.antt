@@ -1,1 +1,4 @@
+pub mod BracketLaws
+pub mod ByteLaws
+pub mod FrontLaws
 pub mod PatternLaws

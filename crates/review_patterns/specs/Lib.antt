@@ -1,1 +1,4 @@
+pub mod Brackets
+pub mod Classes
+pub mod Grammar
 pub mod Patterns

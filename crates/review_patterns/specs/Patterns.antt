@@ -1,6 +1,7 @@
 -- Patterns of paths. A path is the list of its steps' texts, of which the first one is the document's.
-use Rattle.std.specs.Prelude.{◌≡◌, ℕ, ◌<◌, Bool, true, false, cond, ◌&&◌, ◌||◌, bytes_eq, List, [], ◌∷◌, map, length, codes}
+use Rattle.std.specs.Prelude.{◌≡◌, ◌⊎◌, ℕ, ◌<◌, Bool, true, false, ◌&&◌, ◌||◌, bytes_eq, List, [], ◌∷◌, ◌++◌, map, length, codes}
 use Rattle.std.specs.List.{list_any, flat_map}
+use Rattle.review_patterns.specs.Grammar.{is_document, AreSteps}
 use Rattle.review_patterns.specs.declared.pattern.Pattern.{Pattern}
 
 abbrev pub steps_of : Pattern → List (List ℕ)
@@ -24,6 +25,12 @@ covers (step ∷ steps) (text ∷ texts) = fits step text && covers steps texts
 abbrev pub is_covered : List Pattern → List (List ℕ) → Bool
 is_covered patterns texts = list_any (λ pattern. covers (steps_of pattern) texts) patterns
 
--- The text of a pattern is that of its steps, one behind another. `.` is any document.
+-- the step for the document, and the steps of a text behind it
+abbrev pub Begins : List ℕ → List ℕ → List (List ℕ) → Type 0
+Begins document text steps = (more : List (List ℕ)) × AreSteps more × (steps ≡ document ∷ more) × (text ≡ flat_map (λ step. step) more)
+
+-- A pattern has the step for the document and then one step after another. `.` is any document.
 abbrev pub IsPattern : List ℕ → List (List ℕ) → Type 0
-IsPattern text steps = (0 < length steps) × (flat_map (λ step. step) steps ≡ cond (bytes_eq text (codes ".")) [] text)
+IsPattern text steps =
+    ((text ≡ codes ".") × (steps ≡ [] ∷ []))
+    ⊎ ((0 < length text) × (document : List ℕ) × (rest : List ℕ) × (is_document document ≡ true) × Begins document rest steps × (text ≡ document ++ rest))

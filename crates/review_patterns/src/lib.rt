@@ -2,6 +2,7 @@
 #![tactic(auto)]
 
 mod bracket;
+mod name;
 pub mod pattern;
 pub mod read;
 

@@ -1,54 +1,79 @@
 //! Patterns from their texts.
-ghost use Rattle.std.specs.Prelude.{◌≡◌, ◌<◌, ◌++◌, length, flat_map, IfOk, IfSome};
+ghost use Rattle.std.specs.Prelude.{◌≡◌, ◌<◌, ◌≤◌, ◌++◌, ◌∷◌, [], ℕ, true, List, length, map, take, Some, IfOk, IfSome, IfNone, IsSome};
+ghost use Rattle.std.specs.List.{flat_map};
 ghost use Rattle.std.specs.Str.{IsUtf8};
-ghost use Rattle.review_patterns.specs.Patterns.{steps_of, IsPattern};
+ghost use Rattle.review_patterns.specs.Grammar.{IsNamed, IsBracketed, IsStep, AreSteps, is_document, begins_with, at_step};
+ghost use Rattle.review_patterns.specs.Patterns.{steps_of, Begins, IsPattern};
 
-use crate::bracket::{bracket_len, is_bracketed, is_place, name_len};
+use crate::bracket::{bracket_len, is_bracketed};
+use crate::name::{Class, front_len, is_place, name_len};
 use crate::pattern::Pattern;
 use std::alloc::{AllocError, Global};
 
 /// The text of a stream's one document.
 const DOCUMENT: &str = ".";
 
-/// How many bytes the step for the document has: all before the next step.
-fn document_len(text: &[u8]) -> usize {
-    for (place, byte) in text.iter().enumerate() {
-        if *byte == b'.' || *byte == b'[' {
-            return place;
-        }
-    }
-    text.len()
-}
-
 /// Whether this is the step for a document.
-fn is_document(text: &str) -> bool {
-    text == "" || text == "*" || is_place(text)
+fn is_document(text: &[u8]) -> bool
+    ensures { result ≡ is_document text.now }
+{
+    text.is_empty() || text == b"*".as_slice() || is_place(text)
 }
 
-/// Whether a step may have this text between its brackets.
-fn is_step(text: &str) -> bool {
-    let Some(rest) = text.strip_prefix('[') else {
-        return true;
-    };
-    match rest.strip_suffix(']') {
-        Some(inner) => is_bracketed(inner),
+/// Whether a text begins with this byte.
+fn begins_with(byte: u8, text: &[u8]) -> bool
+    ensures { result ≡ begins_with byte text.now }
+{
+    match text.split_first() {
+        Some((first, _)) => *first == byte,
         None => false,
     }
 }
 
-/// How many bytes the first of a text's steps has; 0 where the text begins with none.
-fn step_len(text: &[u8]) -> usize {
-    match text.split_first() {
-        Some((b'.', rest)) => match rest.first() {
-            Some(b'*') => 2,
-            _ => match name_len(rest) {
-                0 => 0,
-                len => len.saturating_add(1),
-            },
-        },
-        Some((b'[', _)) => bracket_len(text).unwrap_or(0),
-        _ => 0,
+/// Behind a `[`, how many bytes the rest of the step has.
+fn bracketed_len(text: &[u8]) -> Option<usize>
+    ensures step { IfSome result (λ n. (n ≤ length text.now) × IsBracketed (take n text.now)) }
+    ensures whole { (rest more : List ℕ) → IsBracketed rest → text.now ≡ rest ++ more → result ≡ Some (length rest) }
+{
+    let len = bracket_len(text)?;
+    if is_bracketed(&text[..len]) {
+        Some(len)
+    } else {
+        None
     }
+}
+
+/// Behind a `.`, how many bytes the rest of the step has.
+fn named_len(text: &[u8]) -> Option<usize>
+    ensures step { IfSome result (λ n. (n ≤ length text.now) × IsNamed (take n text.now)) }
+    ensures whole { (rest more : List ℕ) → IsNamed rest → at_step more ≡ true → text.now ≡ rest ++ more → result ≡ Some (length rest) }
+{
+    if begins_with(b'*', text) {
+        return Some(1);
+    }
+    let len = name_len(text);
+    if 0 < len { Some(len) } else { None }
+}
+
+/// Behind the first byte of a step, how many bytes the rest of it has.
+fn rest_len(first: u8, text: &[u8]) -> Option<usize>
+    ensures step { IfSome result (λ n. (n ≤ length text.now) × IsStep (first ∷ take n text.now)) }
+    ensures whole { (rest more : List ℕ) → IsStep (first ∷ rest) → at_step more ≡ true → text.now ≡ rest ++ more → result ≡ Some (length rest) }
+{
+    match first {
+        b'.' => named_len(text),
+        b'[' => bracketed_len(text),
+        _ => None,
+    }
+}
+
+/// How many bytes the first of a text's steps has, if it begins with one.
+fn step_len(text: &[u8]) -> Option<usize>
+    ensures step { IfSome result (λ n. (0 < n) × (n ≤ length text.now) × IsStep (take n text.now)) }
+    ensures whole { (step more : List ℕ) → IsStep step → at_step more ≡ true → text.now ≡ step ++ more → result ≡ Some (length step) }
+{
+    let (first, rest) = text.split_first()?;
+    Some(rest_len(*first, rest)? + 1)
 }
 
 /// The first of a text's steps, and what is behind it.
@@ -56,15 +81,10 @@ fn split_step(text: &str) -> Option<(&str, &str)>
     ensures split { IfSome result (λ parts. text.now ≡ parts.0.now ++ parts.1.now) }
     ensures less { IfSome result (λ parts. length parts.1.now < length text.now) }
     ensures utf8 { IfSome result (λ parts. IsUtf8 parts.1.now) }
+    ensures step { IfSome result (λ parts. IsStep parts.0.now) }
+    ensures whole { (step more : List ℕ) → IsStep step → at_step more ≡ true → text.now ≡ step ++ more → IsSome result × IfSome result (λ parts. parts.1.now ≡ more) }
 {
-    let Some((step, rest)) = text.split_at_checked(step_len(text.as_bytes())) else {
-        return None;
-    };
-    if !step.is_empty() && is_step(step) {
-        Some((step, rest))
-    } else {
-        None
-    }
+    text.split_at_checked(step_len(text.as_bytes())?)
 }
 
 /// The steps behind that for the document.
@@ -73,8 +93,8 @@ fn read_steps<'a>(
     document: &'a str,
     text: &'a str,
 ) -> Result<Option<Pattern<'a>>, AllocError>
-    ensures all { IfOk result (λ read. IfSome read (λ pattern. flat_map (λ step. step.now) pattern.steps.items ≡ document.now ++ text.now)) }
-    ensures some { IfOk result (λ read. IfSome read (λ pattern. 0 < length pattern.steps.items)) }
+    ensures some { IfOk result (λ read. IfSome read (λ pattern. Begins document.now text.now (steps_of pattern))) }
+    ensures none { IfOk result (λ read. IfNone read ((steps : List (List ℕ)) → AreSteps steps → text.now ≡ flat_map (λ step. step) steps → ⊥)) }
 {
     let mut steps = Vec::new(alloc);
     steps.push(document)?;
@@ -91,13 +111,12 @@ fn read_steps<'a>(
 
 /// The step for the document, and what is behind it.
 fn split_document(text: &str) -> Option<(&str, &str)>
-    ensures { IfSome result (λ parts. text.now ≡ parts.0.now ++ parts.1.now) }
+    ensures some { IfSome result (λ parts. (is_document parts.0.now ≡ true) × (text.now ≡ parts.0.now ++ parts.1.now)) }
+    ensures whole { (document more : List ℕ) → is_document document ≡ true → at_step more ≡ true → text.now ≡ document ++ more → IsSome result × IfSome result (λ parts. parts.1.now ≡ more) }
 {
-    let Some((document, rest)) = text.split_at_checked(document_len(text.as_bytes())) else {
-        return None;
-    };
-    if !text.is_empty() && is_document(document) {
-        Some((document, rest))
+    let parts = text.split_at_checked(front_len(Class::Document, text.as_bytes()))?;
+    if is_document(parts.0.as_bytes()) {
+        Some(parts)
     } else {
         None
     }
@@ -108,8 +127,12 @@ fn split_document(text: &str) -> Option<(&str, &str)>
 /// A step is the text of one as `diff` prints it, or stands for any step: `.*` or `[*]`, and for the document `*`. `.` is each document
 /// itself. Of another text there is no pattern.
 pub fn read_pattern<'a>(alloc: Global, text: &'a str) -> Result<Option<Pattern<'a>>, AllocError>
-    ensures { IfOk result (λ read. IfSome read (λ pattern. IsPattern text.now (steps_of pattern))) }
+    ensures some { IfOk result (λ read. IfSome read (λ pattern. IsPattern text.now (steps_of pattern))) }
+    ensures none { IfOk result (λ read. IfNone read ((steps : List (List ℕ)) → IsPattern text.now steps → ⊥)) }
 {
+    if text.is_empty() {
+        return Ok(None);
+    }
     if text == DOCUMENT {
         return read_steps(alloc, "", "");
     }

@@ -16,7 +16,7 @@ loop-text-preserved c =
     let items = c.deref-text-items.result.now in
     let i = c.loop-text.text-index in
     subst₂ ArePatterns (sym (take_next (λ s. s.now) items i _ c.loop-text-test.true)) (sym c.in_ok-push-in-Some.ensures.items)
-    (are_more (texts (take i items)) c.loop-text.list.items _ c.in-Some.pattern c.loop-text.invariant (of_some _ c.in_ok-pattern.field-0 c.in-Some.pattern c.in-Some.is c.in_ok-pattern.ensures))
+    (are_more (texts (take i items)) c.loop-text.list.items _ c.in-Some.pattern c.loop-text.invariant (of_some _ c.in_ok-pattern.field-0 c.in-Some.pattern c.in-Some.is c.in_ok-pattern.ensures.some))
 
 pub returns-clause-ok : goal.returns-clause-ok
 returns-clause-ok c =
