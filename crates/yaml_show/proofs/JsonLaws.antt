@@ -1,18 +1,21 @@
 -- JSON, piece by piece.
-use Rattle.std.proofs.Common.{◌≡◌, ℕ, ◌+◌, ◌≤◌, Bool, true, false, ◌&&◌, List, [], ◌∷◌, ◌++◌, length, map, drop, sym, ◌∙◌, ap, ap₂, subst, add-one}
+use Rattle.std.proofs.Common.{◌≡◌, ℕ, ◌+◌, ◌≤◌, Bool, true, false, ◌&&◌, List, [], ◌∷◌, ◌++◌, length, map, drop, refl, sym, ◌∙◌, ap, ap₂, subst, add-one, ◌-◌, arith}
 use Rattle.std.specs.Prelude.{bytes_eq, codes}
 use Rattle.std.specs.List.{list_all}
 use Rattle.std.proofs.Math.ListN.{drop_of_length-le}
-use Rattle.std.proofs.lemmas.List.{append_assoc, append-nil, map-append}
+use Rattle.std.proofs.lemmas.List.{append_assoc, append-nil, map-append, length-append}
 use Rattle.yaml_definitions.specs.model.Tag.{str_tag, seq_tag, map_tag}
 use Rattle.yaml_definitions.specs.model.Tree.{Tree, Trees, Pairs, scalar, sequence, mapping}
 use Rattle.yaml_graph.specs.TreeLists.{trees, pairs}
 use Rattle.yaml_show_scalar.specs.Escapes.{quoted}
 use Rattle.yaml_show_scalar.specs.declared.escapes.Language.TheVariants.{Json}
+use Rattle.yaml_show_scalar.specs.Stops.{Stops}
 use Rattle.yaml_show_scalar.specs.declared.stop.Stop.{Stop}
+use Rattle.yaml_show_scalar.specs.declared.stop.Stop.TheVariants.{TooLong, OutOfMemory}
+use Rattle.yaml_show_scalar.proofs.StopLaws.{stops_longer}
 use Rattle.yaml_spell.specs.Walked.{separator}
-use Rattle.yaml_show.specs.JsonText.{json_scalar, json_key, json_text, json_items, json_entries}
-use Rattle.yaml_show.specs.JsonTrees.{scalar_has_json, key_has_json, has_json, items_have_json, entries_have_json, Says, Lacks}
+use Rattle.yaml_show.specs.JsonText.{json_scalar, json_key, json_text, json_items, json_entries, line_document, line_stream}
+use Rattle.yaml_show.specs.JsonTrees.{scalar_has_json, key_has_json, has_json, items_have_json, entries_have_json, Says, Lacks, Overruns}
 use Rattle.yaml_show.specs.declared.unwritten.Unwritten.{Unwritten}
 use Rattle.yaml_show.specs.declared.unwritten.Unwritten.TheVariants.{Stopped, NoJson}
 
@@ -25,7 +28,31 @@ lacks_more : (a b : Bool) (why : Unwritten) → (a ≡ false → b ≡ false) �
 lacks_more a b (Stopped stop) f h = tt
 lacks_more a b NoJson f h = f h
 
+pub stop_overruns : (limit : ℕ) (text : List ℕ) (stop : Stop) (why : Unwritten) → why ≡ Stopped stop → Stops limit text stop → Overruns limit text why
+stop_overruns limit text stop why e h = subst (Overruns limit text) (sym e) h
+
+pub overruns_longer : (limit limit' : ℕ) (text rest whole : List ℕ) (why : Unwritten) → limit' ≡ limit → whole ≡ text ++ rest → Overruns limit' text why → Overruns limit whole why
+overruns_longer limit limit' text rest whole (Stopped stop) l e h = stops_longer limit limit' text rest whole stop l e h
+overruns_longer limit limit' text rest whole NoJson l e h = tt
+
 -- ---- a tree by its kind
+
+module _ (t : Tree) (limit : ℕ) (old : List ℕ) (why : Unwritten) (g : List ℕ) where
+  pub key_overruns : (x : List ℕ) → t ≡ scalar g x → Overruns limit (old ++ (quoted Json x ++ codes ": ")) why → Overruns limit (old ++ json_key t) why
+  unfolding json_key
+  key_overruns x e h = subst (λ z. Overruns limit (old ++ json_key z) why) (sym e) h
+
+  pub scalar_overruns : (x : List ℕ) → t ≡ scalar g x → Overruns limit (old ++ json_scalar g x) why → Overruns limit (old ++ json_text t) why
+  unfolding json_text
+  scalar_overruns x e h = subst (λ z. Overruns limit (old ++ json_text z) why) (sym e) h
+
+  pub sequence_overruns : (ts : Trees) → t ≡ sequence g ts → Overruns limit (old ++ (91 ∷ json_items [] ts)) why → Overruns limit (old ++ json_text t) why
+  unfolding json_text
+  sequence_overruns ts e h = subst (λ z. Overruns limit (old ++ json_text z) why) (sym e) h
+
+  pub mapping_overruns : (ps : Pairs) → t ≡ mapping g ps → Overruns limit (old ++ (123 ∷ json_entries [] ps)) why → Overruns limit (old ++ json_text t) why
+  unfolding json_text
+  mapping_overruns ps e h = subst (λ z. Overruns limit (old ++ json_text z) why) (sym e) h
 
 pub key_says : (t : Tree) (g x old new : List ℕ) → t ≡ scalar g x → Says (bytes_eq g str_tag) (quoted Json x ++ codes ": ") old new → Says (key_has_json t) (json_key t) old new
 unfolding json_key
@@ -97,6 +124,13 @@ module _ {X : Type 0} (f : X → Tree) (xs : List X) where
           sym (ap (λ z. z && more) k.1) ∙ ap (λ z. items_have_json (trees (map f z))) (sym l) ∙ h.1,
         )
 
+    -- what is written with this item, and what is left then
+    pub item_within : (s : List ℕ) → s ≡ w ++ separator i → old ++ (91 ∷ json_items [] (trees (map f xs))) ≡ (s ++ json_text (f d)) ++ json_items (44 ∷ 32 ∷ []) (trees (map f (drop (i + 1) xs)))
+    unfolding json_text
+    item_within s e =
+        let r : List ℕ = json_items (44 ∷ 32 ∷ []) (trees (map f (drop (i + 1) xs))) in
+        sym h.0 ∙ ap (λ z. w ++ json_items (separator i) (trees (map f z))) l ∙ sym (two w (separator i) (json_text (f d)) r) ∙ ap (λ z. (z ++ json_text (f d)) ++ r) (sym e)
+
     pub item_lacks : (why : Unwritten) → Lacks (has_json (f d)) why → Lacks (items_have_json (trees (map f xs))) why
     item_lacks why k =
         let more : Bool = items_have_json (trees (map f (drop (i + 1) xs))) in
@@ -128,6 +162,21 @@ module _ {X : Type 0} (f : X → Tree × Tree) (xs : List X) where
               ∙ ap (λ z. w ++ json_entries (separator i) (pairs (map f z))) (sym l) ∙ h.0,
           sym (ap₂ (λ a b. a && (b && more)) j.1 q.1) ∙ ap (λ z. entries_have_json (pairs (map f z))) (sym l) ∙ h.1,
         )
+
+    -- what is written with this entry, and what is left then
+    pub entry_within : (s k : List ℕ) → s ≡ w ++ separator i → k ≡ s ++ json_key (f d).0
+        → old ++ (123 ∷ json_entries [] (pairs (map f xs))) ≡ (k ++ json_text (f d).1) ++ json_entries (44 ∷ 32 ∷ []) (pairs (map f (drop (i + 1) xs)))
+    unfolding json_text
+    entry_within s k e j =
+        let r : List ℕ = json_entries (44 ∷ 32 ∷ []) (pairs (map f (drop (i + 1) xs))) in
+        sym h.0 ∙ ap (λ z. w ++ json_entries (separator i) (pairs (map f z))) l ∙ sym (three w (separator i) (json_key (f d).0) (json_text (f d).1) r)
+        ∙ ap (λ z. (z ++ json_text (f d).1) ++ r) (sym (j ∙ ap (λ z. z ++ json_key (f d).0) e))
+
+    -- the same with its key
+    pub key_within : (s : List ℕ) → s ≡ w ++ separator i
+        → old ++ (123 ∷ json_entries [] (pairs (map f xs))) ≡ (s ++ json_key (f d).0) ++ (json_text (f d).1 ++ json_entries (44 ∷ 32 ∷ []) (pairs (map f (drop (i + 1) xs))))
+    key_within s e =
+        entry_within s (s ++ json_key (f d).0) e refl ∙ append_assoc (s ++ json_key (f d).0) (json_text (f d).1) (json_entries (44 ∷ 32 ∷ []) (pairs (map f (drop (i + 1) xs))))
 
     pub key_of_entry_lacks : (why : Unwritten) → Lacks (key_has_json (f d).0) why → Lacks (entries_have_json (pairs (map f xs))) why
     key_of_entry_lacks why k =
@@ -173,3 +222,23 @@ module _ {S X : Type 0} (h : S → List ℕ) (f : X → Tree) (xs : List X) wher
     sym (append-nil (map h old)) ∙ ap (λ z. map h old ++ map json_text (map f z)) (sym (drop_of_length-le xs l)) ∙ e.0,
     sym e.1 ∙ ap (λ z. list_all has_json (map f z)) (drop_of_length-le xs l),
   )
+
+-- ---- the length of the lines
+
+module _ {X : Type 0} (f : X → Tree) (xs : List X) (i : ℕ) (d : X) (l : drop i xs ≡ d ∷ drop (i + 1) xs) where
+  line_more : length (line_stream (map f (drop i xs))) ≡ 5 + length (json_text (f d)) + length (line_stream (map f (drop (i + 1) xs)))
+  line_more =
+      let r : List ℕ = line_stream (map f (drop (i + 1) xs)) in
+      let whole : length (line_stream (map f (drop i xs))) ≡ length (line_document (f d) ++ r) = ap (λ z. length (line_stream (map f z))) l in
+      omega (arith, whole, length-append (line_document (f d)) r, length-append (json_text (f d)) (10 ∷ []))
+
+  -- From a place on: no more of the limit is left than the documents before it leave.
+  pub room_next : (limit left after : ℕ) (text : List ℕ) → limit + length (line_stream (map f (drop i xs))) ≤ left + length (line_stream (map f xs)) → after ≡ (left - length text) - 5 → text ≡ json_text (f d)
+      → limit + length (line_stream (map f (drop (i + 1) xs))) ≤ after + length (line_stream (map f xs))
+  room_next limit left after text h a e = omega (arith, h, a, line_more, ap length e)
+
+  pub line_overruns : (limit left left' : ℕ) (w : List ℕ) (why : Unwritten) → limit + length (line_stream (map f (drop i xs))) ≤ left + length (line_stream (map f xs)) → left' ≡ left → w ≡ []
+      → Overruns left' (w ++ json_text (f d)) why → Overruns limit (line_stream (map f xs)) why
+  line_overruns limit left left' w (Stopped TooLong) h k e o = omega (arith, h, k, o, line_more, ap (λ z. length (z ++ json_text (f d))) e)
+  line_overruns limit left left' w (Stopped OutOfMemory) h k e o = tt
+  line_overruns limit left left' w NoJson h k e o = tt

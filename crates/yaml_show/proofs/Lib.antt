@@ -1,3 +1,4 @@
 pub mod FlowLaws
 pub mod JsonLaws
 pub mod LayoutLaws
+pub mod StopLaws

@@ -1,5 +1,5 @@
 -- Trees as JSON on one line (RFC 8259). The entries of each mapping stand in order: these are trees that are arranged. Which trees JSON can express is not said here.
-use Rattle.std.specs.Prelude.{ℕ, cond, List, [], ◌∷◌, ◌++◌, codes, bytes_eq}
+use Rattle.std.specs.Prelude.{ℕ, cond, List, [], ◌∷◌, ◌++◌, codes, bytes_eq, flat_map}
 use Rattle.yaml_definitions.specs.model.Tag.{str_tag, float_tag}
 use Rattle.yaml_definitions.specs.model.Tree.{Tree, Trees, Pairs, scalar, sequence, mapping, end, item, done, entry}
 use Rattle.yaml_show_scalar.specs.Escapes.{quoted}
@@ -31,3 +31,11 @@ unfoldable mutual
   pub json_entries : List ℕ → Pairs → List ℕ
   json_entries before done = 125 ∷ []
   json_entries before (entry k v ps) = before ++ (json_key k ++ (json_text v ++ json_entries (44 ∷ 32 ∷ []) ps))
+
+-- a line as a document of a stream, behind `--- `
+abbrev pub line_document : Tree → List ℕ
+line_document t = codes "--- " ++ (json_text t ++ (10 ∷ []))
+
+-- the stream of the lines
+abbrev pub line_stream : List Tree → List ℕ
+line_stream f = flat_map line_document f

@@ -3,6 +3,7 @@ use Rattle.std.specs.Prelude.{◌≡◌, Bool, true, false, not, ◌&&◌, ◌||
 use Rattle.yaml_definitions.specs.model.Tag.{str_tag, float_tag, seq_tag, map_tag}
 use Rattle.yaml_definitions.specs.model.Tree.{Tree, Trees, Pairs, scalar, sequence, mapping, end, item, done, entry}
 use Rattle.yaml_show_scalar.specs.Numbers.{is_in_words}
+use Rattle.yaml_show_scalar.specs.Stops.{Stops}
 use Rattle.yaml_show_scalar.specs.Tags.{is_resolved}
 use Rattle.yaml_show.specs.declared.unwritten.Unwritten.{Unwritten}
 use Rattle.yaml_show.specs.declared.unwritten.Unwritten.TheVariants.{Stopped, NoJson}
@@ -42,3 +43,8 @@ Says has text old new = (new ≡ old ++ text) × (has ≡ true)
 abbrev pub Lacks : Bool → Unwritten → Type 0
 Lacks has (Stopped stop) = Unit {0}
 Lacks has NoJson = has ≡ false
+
+-- What an error says where a text is to be this one: `Stopped`, why it is not finished.
+abbrev pub Overruns : ℕ → List ℕ → Unwritten → Type 0
+Overruns limit text (Stopped stop) = Stops limit text stop
+Overruns limit text NoJson = Unit {0}

@@ -1,10 +1,12 @@
 //! Documents in block style.
-ghost use Rattle.std.specs.Prelude.{◌≡◌, ◌<◌, ◌++◌, ◌∷◌, [], map, string_bytes, OnOk, IfOk};
+ghost use Rattle.std.specs.Prelude.{◌≡◌, ◌<◌, ◌++◌, ◌∷◌, [], map, string_bytes, OnOk, IfOk, IfErr};
 ghost use Rattle.std.specs.List.{All};
+ghost use Rattle.yaml_definitions.specs.model.Limits.{text_limit};
 ghost use Rattle.yaml_definitions.specs.model.Order.{arranged};
 ghost use Rattle.yaml_graph.specs.GraphView.{forest};
 ghost use Rattle.yaml_rank.specs.RanksView.{RanksAre};
 ghost use Rattle.yaml_spell.specs.RankedNodes.{Rooted, tree_of, trees_of, pairs_of};
+ghost use Rattle.yaml_show_scalar.specs.Stops.{limit_of, Stops};
 ghost use Rattle.yaml_show_scalar.specs.Texts.{written};
 ghost use Rattle.yaml_show.specs.Layout.{node_lines, item_lines, entry_lines, document_lines, shown_text};
 
@@ -35,7 +37,9 @@ fn put_node<I: Copy, V: RankedNodes<I>>(
 ) -> Result<(), Stop>
     requires stands { V.stands view.now }
     requires within { V.number id < V.count view.now }
-    ensures { OnOk result (written out.new ≡ written out.old ++ node_lines place level (V.tree view.now (V.number id))) }
+    ensures ok { OnOk result (written out.new ≡ written out.old ++ node_lines place level (V.tree view.now (V.number id))) }
+    ensures limit { limit_of out.new ≡ limit_of out.old }
+    ensures err { IfErr result (Stops (limit_of out.old) (written out.old ++ node_lines place level (V.tree view.now (V.number id)))) }
 {
     let node = view.node(id);
     match node.inside {
@@ -81,7 +85,9 @@ fn put_items<I: Copy, V: RankedNodes<I>>(
     requires stands { V.stands view.now }
     requires within { All (λ i. V.number i < V.count view.now) items.now }
     requires low { level < 64 }
-    ensures { OnOk result (written out.new ≡ written out.old ++ item_lines begun level (trees_of V.tree V.number view.now items.now)) }
+    ensures ok { OnOk result (written out.new ≡ written out.old ++ item_lines begun level (trees_of V.tree V.number view.now items.now)) }
+    ensures limit { limit_of out.new ≡ limit_of out.old }
+    ensures err { IfErr result (Stops (limit_of out.old) (written out.old ++ item_lines begun level (trees_of V.tree V.number view.now items.now))) }
 {
     let mut is_begun = begun;
     for item in items {
@@ -106,7 +112,9 @@ fn put_entries<I: Copy, V: RankedNodes<I>>(
     requires stands { V.stands view.now }
     requires within { All (λ p. (V.number p.0 < V.count view.now) × (V.number p.1 < V.count view.now)) entries.now }
     requires low { level < 64 }
-    ensures { OnOk result (written out.new ≡ written out.old ++ entry_lines begun level (pairs_of V.tree V.number view.now entries.now)) }
+    ensures ok { OnOk result (written out.new ≡ written out.old ++ entry_lines begun level (pairs_of V.tree V.number view.now entries.now)) }
+    ensures limit { limit_of out.new ≡ limit_of out.old }
+    ensures err { IfErr result (Stops (limit_of out.old) (written out.old ++ entry_lines begun level (pairs_of V.tree V.number view.now entries.now))) }
 {
     let mut is_begun = begun;
     for entry in entries {
@@ -128,7 +136,9 @@ fn put_document<I: Copy, V: RankedNodes<I>>(
 ) -> Result<(), Stop>
     requires stands { V.stands view.now }
     requires within { V.number root < V.count view.now }
-    ensures { OnOk result (written out.new ≡ written out.old ++ document_lines (V.tree view.now (V.number root))) }
+    ensures ok { OnOk result (written out.new ≡ written out.old ++ document_lines (V.tree view.now (V.number root))) }
+    ensures limit { limit_of out.new ≡ limit_of out.old }
+    ensures err { IfErr result (Stops (limit_of out.old) (written out.old ++ document_lines (V.tree view.now (V.number root)))) }
 {
     out.put("---")?;
     put_node(alloc, view, root, Place::Root, 0, out)
@@ -142,7 +152,9 @@ fn put_documents<I: Copy, V: RankedNodes<I>>(
     out: &mut Out,
 ) -> Result<(), Stop>
     requires rooted { Rooted V.stands V.count V.number view.now roots.now }
-    ensures { OnOk result (written out.new ≡ written out.old ++ shown_text (map (tree_of V.tree V.number view.now) roots.now)) }
+    ensures ok { OnOk result (written out.new ≡ written out.old ++ shown_text (map (tree_of V.tree V.number view.now) roots.now)) }
+    ensures limit { limit_of out.new ≡ limit_of out.old }
+    ensures err { IfErr result (Stops (limit_of out.old) (written out.old ++ shown_text (map (tree_of V.tree V.number view.now) roots.now))) }
 {
     for root in roots {
         put_document(alloc, view, *root, out)?;
@@ -157,7 +169,8 @@ fn put_documents<I: Copy, V: RankedNodes<I>>(
 /// `TooLong`: the text would have more than 67,108,864 bytes. `OutOfMemory`.
 pub fn block_text(alloc: Global, nodes: &Nodes<'_>) -> Result<String, Stop>
     requires { RanksAre nodes.now.graph nodes.now.ranks }
-    ensures { IfOk result (λ text. string_bytes text ≡ shown_text (map arranged (forest nodes.now.graph))) }
+    ensures ok { IfOk result (λ text. string_bytes text ≡ shown_text (map arranged (forest nodes.now.graph))) }
+    ensures err { IfErr result (Stops text_limit (shown_text (map arranged (forest nodes.now.graph)))) }
 {
     let view = RankedGraph {
         graph: &nodes.graph,

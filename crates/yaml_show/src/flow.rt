@@ -1,8 +1,9 @@
 //! Nodes on one line.
-ghost use Rattle.std.specs.Prelude.{◌≡◌, ◌<◌, ◌&&◌, nat_le, length, ◌++◌, ◌∷◌, [], OnOk};
+ghost use Rattle.std.specs.Prelude.{◌≡◌, ◌<◌, ◌&&◌, nat_le, length, ◌++◌, ◌∷◌, [], OnOk, IfErr};
 ghost use Rattle.std.specs.List.{All};
 ghost use Rattle.yaml_spell.specs.RankedNodes.{trees_of, pairs_of};
 ghost use Rattle.yaml_spell.specs.Walked.{separator};
+ghost use Rattle.yaml_show_scalar.specs.Stops.{limit_of, Stops};
 ghost use Rattle.yaml_show_scalar.specs.Texts.{written};
 ghost use Rattle.yaml_show.specs.Flow.{is_short, mark, colon, flow_text, flow_items, flow_entries};
 
@@ -36,7 +37,9 @@ pub(crate) fn is_short<I: Copy, V: RankedNodes<I>>(view: &V, id: I) -> bool
 
 /// Writes what is before the part at this place.
 pub(crate) fn put_separator(out: &mut Out, place: usize) -> Result<(), Stop>
-    ensures { OnOk result (written out.new ≡ written out.old ++ separator place) }
+    ensures ok { OnOk result (written out.new ≡ written out.old ++ separator place) }
+    ensures limit { limit_of out.new ≡ limit_of out.old }
+    ensures err { IfErr result (Stops (limit_of out.old) (written out.old ++ separator place)) }
 {
     if place == 0 {
         return Ok(());
@@ -46,7 +49,9 @@ pub(crate) fn put_separator(out: &mut Out, place: usize) -> Result<(), Stop>
 
 /// Writes what is before a key.
 fn put_mark(out: &mut Out, is_simple: bool) -> Result<(), Stop>
-    ensures { OnOk result (written out.new ≡ written out.old ++ mark is_simple) }
+    ensures ok { OnOk result (written out.new ≡ written out.old ++ mark is_simple) }
+    ensures limit { limit_of out.new ≡ limit_of out.old }
+    ensures err { IfErr result (Stops (limit_of out.old) (written out.old ++ mark is_simple)) }
 {
     if is_simple {
         return Ok(());
@@ -56,7 +61,9 @@ fn put_mark(out: &mut Out, is_simple: bool) -> Result<(), Stop>
 
 /// Writes what is between a key and its value.
 fn put_colon(out: &mut Out, is_simple: bool) -> Result<(), Stop>
-    ensures { OnOk result (written out.new ≡ written out.old ++ colon is_simple) }
+    ensures ok { OnOk result (written out.new ≡ written out.old ++ colon is_simple) }
+    ensures limit { limit_of out.new ≡ limit_of out.old }
+    ensures err { IfErr result (Stops (limit_of out.old) (written out.old ++ colon is_simple)) }
 {
     out.put(if is_simple { ": " } else { " : " })
 }
@@ -70,7 +77,9 @@ pub(crate) fn put_flow<I: Copy, V: RankedNodes<I>>(
 ) -> Result<(), Stop>
     requires stands { V.stands view.now }
     requires within { V.number id < V.count view.now }
-    ensures { OnOk result (written out.new ≡ written out.old ++ flow_text (V.tree view.now (V.number id))) }
+    ensures ok { OnOk result (written out.new ≡ written out.old ++ flow_text (V.tree view.now (V.number id))) }
+    ensures limit { limit_of out.new ≡ limit_of out.old }
+    ensures err { IfErr result (Stops (limit_of out.old) (written out.old ++ flow_text (V.tree view.now (V.number id)))) }
 {
     let node = view.node(id);
     match node.inside {
@@ -95,7 +104,9 @@ fn put_flow_items<I: Copy, V: RankedNodes<I>>(
 ) -> Result<(), Stop>
     requires stands { V.stands view.now }
     requires within { All (λ i. V.number i < V.count view.now) items.now }
-    ensures { OnOk result (written out.new ≡ written out.old ++ (91 ∷ flow_items [] (trees_of V.tree V.number view.now items.now))) }
+    ensures ok { OnOk result (written out.new ≡ written out.old ++ (91 ∷ flow_items [] (trees_of V.tree V.number view.now items.now))) }
+    ensures limit { limit_of out.new ≡ limit_of out.old }
+    ensures err { IfErr result (Stops (limit_of out.old) (written out.old ++ (91 ∷ flow_items [] (trees_of V.tree V.number view.now items.now)))) }
 {
     out.put("[")?;
     for (place, item) in items.iter().enumerate() {
@@ -114,7 +125,9 @@ fn put_flow_entries<I: Copy, V: RankedNodes<I>>(
 ) -> Result<(), Stop>
     requires stands { V.stands view.now }
     requires within { All (λ p. (V.number p.0 < V.count view.now) × (V.number p.1 < V.count view.now)) entries.now }
-    ensures { OnOk result (written out.new ≡ written out.old ++ (123 ∷ flow_entries [] (pairs_of V.tree V.number view.now entries.now))) }
+    ensures ok { OnOk result (written out.new ≡ written out.old ++ (123 ∷ flow_entries [] (pairs_of V.tree V.number view.now entries.now))) }
+    ensures limit { limit_of out.new ≡ limit_of out.old }
+    ensures err { IfErr result (Stops (limit_of out.old) (written out.old ++ (123 ∷ flow_entries [] (pairs_of V.tree V.number view.now entries.now)))) }
 {
     out.put("{")?;
     for (place, entry) in entries.iter().enumerate() {
@@ -137,7 +150,9 @@ fn put_flow_entry<I: Copy, V: RankedNodes<I>>(
     requires stands { V.stands view.now }
     requires key_within { V.number key < V.count view.now }
     requires value_within { V.number value < V.count view.now }
-    ensures { OnOk result (written out.new ≡ written out.old ++ (mark (is_short (V.tree view.now (V.number key))) ++ (flow_text (V.tree view.now (V.number key)) ++ (colon (is_short (V.tree view.now (V.number key))) ++ flow_text (V.tree view.now (V.number value)))))) }
+    ensures ok { OnOk result (written out.new ≡ written out.old ++ (mark (is_short (V.tree view.now (V.number key))) ++ (flow_text (V.tree view.now (V.number key)) ++ (colon (is_short (V.tree view.now (V.number key))) ++ flow_text (V.tree view.now (V.number value)))))) }
+    ensures limit { limit_of out.new ≡ limit_of out.old }
+    ensures err { IfErr result (Stops (limit_of out.old) (written out.old ++ (mark (is_short (V.tree view.now (V.number key))) ++ (flow_text (V.tree view.now (V.number key)) ++ (colon (is_short (V.tree view.now (V.number key))) ++ flow_text (V.tree view.now (V.number value))))))) }
 {
     let is_simple = is_short(view, key);
     put_mark(out, is_simple)?;

@@ -1,16 +1,18 @@
 //! Documents as lines of JSON (RFC 8259).
-ghost use Rattle.std.specs.Prelude.{◌≡◌, ◌<◌, ◌++◌, ◌∷◌, [], Bool, true, bytes_eq, codes, map, string_bytes, OnOk, IfOk, IfErr};
+ghost use Rattle.std.specs.Prelude.{◌≡◌, ℕ, List, ◌<◌, ◌++◌, ◌∷◌, [], Bool, true, bytes_eq, codes, map, string_bytes, OnOk, IfOk, IfErr};
 ghost use Rattle.std.specs.List.{All, list_all};
 ghost use Rattle.yaml_definitions.specs.model.Tag.{str_tag, seq_tag, map_tag};
+ghost use Rattle.yaml_definitions.specs.model.Limits.{text_limit};
 ghost use Rattle.yaml_definitions.specs.model.Order.{arranged};
 ghost use Rattle.yaml_graph.specs.GraphView.{forest};
 ghost use Rattle.yaml_rank.specs.RanksView.{RanksAre};
 ghost use Rattle.yaml_spell.specs.RankedNodes.{Rooted, tree_of, trees_of, pairs_of};
 ghost use Rattle.yaml_show_scalar.specs.Escapes.{quoted};
 ghost use Rattle.yaml_show_scalar.specs.declared.escapes.Language.TheVariants.{Json};
+ghost use Rattle.yaml_show_scalar.specs.Stops.{limit_of, Stops};
 ghost use Rattle.yaml_show_scalar.specs.Texts.{written};
-ghost use Rattle.yaml_show.specs.JsonText.{json_scalar, json_key, json_text, json_items, json_entries};
-ghost use Rattle.yaml_show.specs.JsonTrees.{scalar_has_json, key_has_json, has_json, items_have_json, entries_have_json, Says, Lacks};
+ghost use Rattle.yaml_show.specs.JsonText.{json_scalar, json_key, json_text, json_items, json_entries, line_stream};
+ghost use Rattle.yaml_show.specs.JsonTrees.{scalar_has_json, key_has_json, has_json, items_have_json, entries_have_json, Says, Lacks, Overruns};
 
 use crate::flow::put_separator;
 use crate::nodes::Nodes;
@@ -37,7 +39,9 @@ fn has_scalar(tag: &str, content: &str) -> bool
 /// Writes a scalar that JSON has.
 #[tactic(auto, unfolding(crate::specs::JsonText::json_scalar, yaml_definitions::specs::model::Tag::core_tag))]
 fn put_text(out: &mut Out, tag: &str, content: &str) -> Result<(), Stop>
-    ensures { OnOk result (written out.new ≡ written out.old ++ json_scalar tag.now content.now) }
+    ensures ok { OnOk result (written out.new ≡ written out.old ++ json_scalar tag.now content.now) }
+    ensures limit { limit_of out.new ≡ limit_of out.old }
+    ensures err { IfErr result (Stops (limit_of out.old) (written out.old ++ json_scalar tag.now content.now)) }
 {
     if tag == core_tag::STR {
         return put_json_string(out, content);
@@ -53,6 +57,8 @@ fn put_text(out: &mut Out, tag: &str, content: &str) -> Result<(), Stop>
 fn put_json_scalar(out: &mut Out, tag: &str, content: &str) -> Result<(), Unwritten>
     ensures ok { OnOk result (Says (scalar_has_json tag.now content.now) (json_scalar tag.now content.now) (written out.old) (written out.new)) }
     ensures err { IfErr result (Lacks (scalar_has_json tag.now content.now)) }
+    ensures limit { limit_of out.new ≡ limit_of out.old }
+    ensures stops { IfErr result (Overruns (limit_of out.old) (written out.old ++ (json_scalar tag.now content.now))) }
 {
     if !has_scalar(tag, content) {
         return Err(Unwritten::NoJson);
@@ -90,6 +96,8 @@ fn is_mapping(tag: &str) -> bool
 fn put_string_key(out: &mut Out, tag: &str, content: &str) -> Result<(), Unwritten>
     ensures ok { OnOk result (Says (bytes_eq tag.now str_tag) (quoted Json content.now ++ codes ": ") (written out.old) (written out.new)) }
     ensures err { IfErr result (Lacks (bytes_eq tag.now str_tag)) }
+    ensures limit { limit_of out.new ≡ limit_of out.old }
+    ensures stops { IfErr result (Overruns (limit_of out.old) (written out.old ++ (quoted Json content.now ++ codes ": "))) }
 {
     if !is_string(tag) {
         return Err(Unwritten::NoJson);
@@ -105,6 +113,8 @@ fn put_json_key<I: Copy, V: RankedNodes<I>>(view: &V, id: I, out: &mut Out) -> R
     requires within { V.number id < V.count view.now }
     ensures ok { OnOk result (Says (key_has_json (V.tree view.now (V.number id))) (json_key (V.tree view.now (V.number id))) (written out.old) (written out.new)) }
     ensures err { IfErr result (Lacks (key_has_json (V.tree view.now (V.number id)))) }
+    ensures limit { limit_of out.new ≡ limit_of out.old }
+    ensures stops { IfErr result (Overruns (limit_of out.old) (written out.old ++ (json_key (V.tree view.now (V.number id))))) }
 {
     let node = view.node(id);
     match node.inside {
@@ -121,6 +131,8 @@ fn put_json<I: Copy, V: RankedNodes<I>>(view: &V, id: I, out: &mut Out) -> Resul
     requires within { V.number id < V.count view.now }
     ensures ok { OnOk result (Says (has_json (V.tree view.now (V.number id))) (json_text (V.tree view.now (V.number id))) (written out.old) (written out.new)) }
     ensures err { IfErr result (Lacks (has_json (V.tree view.now (V.number id)))) }
+    ensures limit { limit_of out.new ≡ limit_of out.old }
+    ensures stops { IfErr result (Overruns (limit_of out.old) (written out.old ++ (json_text (V.tree view.now (V.number id))))) }
 {
     let node = view.node(id);
     match node.inside {
@@ -153,6 +165,8 @@ fn put_json_items<I: Copy, V: RankedNodes<I>>(
     requires within { All (λ i. V.number i < V.count view.now) items.now }
     ensures ok { OnOk result (Says (items_have_json (trees_of V.tree V.number view.now items.now)) (91 ∷ json_items [] (trees_of V.tree V.number view.now items.now)) (written out.old) (written out.new)) }
     ensures err { IfErr result (Lacks (items_have_json (trees_of V.tree V.number view.now items.now))) }
+    ensures limit { limit_of out.new ≡ limit_of out.old }
+    ensures stops { IfErr result (Overruns (limit_of out.old) (written out.old ++ (91 ∷ json_items [] (trees_of V.tree V.number view.now items.now)))) }
 {
     out.put("[")?;
     for (place, item) in items.iter().enumerate() {
@@ -174,6 +188,8 @@ fn put_json_entries<I: Copy, V: RankedNodes<I>>(
     requires within { All (λ p. (V.number p.0 < V.count view.now) × (V.number p.1 < V.count view.now)) entries.now }
     ensures ok { OnOk result (Says (entries_have_json (pairs_of V.tree V.number view.now entries.now)) (123 ∷ json_entries [] (pairs_of V.tree V.number view.now entries.now)) (written out.old) (written out.new)) }
     ensures err { IfErr result (Lacks (entries_have_json (pairs_of V.tree V.number view.now entries.now))) }
+    ensures limit { limit_of out.new ≡ limit_of out.old }
+    ensures stops { IfErr result (Overruns (limit_of out.old) (written out.old ++ (123 ∷ json_entries [] (pairs_of V.tree V.number view.now entries.now)))) }
 {
     out.put("{")?;
     for (place, entry) in entries.iter().enumerate() {
@@ -189,6 +205,7 @@ fn put_json_entries<I: Copy, V: RankedNodes<I>>(
 fn add_line(lines: &mut Vec<String>, line: String) -> Result<(), Unwritten>
     ensures ok { OnOk result (lines.new.items ≡ lines.old.items ++ (line ∷ [])) }
     ensures err { (has : Bool) → IfErr result (Lacks has) }
+    ensures stops { (limit : ℕ) (text : List ℕ) → IfErr result (Overruns limit text) }
 {
     match lines.push(line) {
         Ok(()) => Ok(()),
@@ -205,6 +222,7 @@ fn root_lines<I: Copy, V: RankedNodes<I>>(
     requires rooted { Rooted V.stands V.count V.number view.now roots.now }
     ensures ok { IfOk result (λ lines. (map string_bytes lines.items ≡ map json_text (map (tree_of V.tree V.number view.now) roots.now)) × (list_all has_json (map (tree_of V.tree V.number view.now) roots.now) ≡ true)) }
     ensures err { IfErr result (Lacks (list_all has_json (map (tree_of V.tree V.number view.now) roots.now))) }
+    ensures stops { IfErr result (Overruns text_limit (line_stream (map (tree_of V.tree V.number view.now) roots.now))) }
 {
     let mut lines = Vec::new(alloc);
     let mut left = text_limit();
@@ -227,6 +245,7 @@ pub fn json_lines(alloc: Global, nodes: &Nodes<'_>) -> Result<Vec<String>, Unwri
     requires { RanksAre nodes.now.graph nodes.now.ranks }
     ensures ok { IfOk result (λ lines. (map string_bytes lines.items ≡ map json_text (map arranged (forest nodes.now.graph))) × (list_all has_json (map arranged (forest nodes.now.graph)) ≡ true)) }
     ensures err { IfErr result (Lacks (list_all has_json (map arranged (forest nodes.now.graph)))) }
+    ensures stops { IfErr result (Overruns text_limit (line_stream (map arranged (forest nodes.now.graph)))) }
 {
     let view = RankedGraph {
         graph: &nodes.graph,

@@ -1,8 +1,10 @@
 //! Keys of block mappings.
-ghost use Rattle.std.specs.Prelude.{◌≡◌, ◌<◌, ◌++◌, ◌∷◌, [], nat_le, length, OnOk, IfOk};
+ghost use Rattle.std.specs.Prelude.{◌≡◌, ◌<◌, ◌++◌, ◌∷◌, [], nat_le, length, OnOk, IfOk, IfErr};
 ghost use Rattle.std.specs.List.{All};
 ghost use Rattle.std.specs.Str.{chars};
 ghost use Rattle.yaml_spell.specs.RankedNodes.{pairs_of};
+ghost use Rattle.yaml_show_scalar.specs.Stops.{limit_of, Stops};
+ghost use Rattle.yaml_show_scalar.specs.declared.stop.Stop.TheVariants.{OutOfMemory};
 ghost use Rattle.yaml_show_scalar.specs.Texts.{written};
 ghost use Rattle.yaml_show.specs.Flow.{flow_text, key_text, fits, all_fit};
 
@@ -12,16 +14,20 @@ use yaml_show_scalar::scalar::put_scalar;
 use yaml_show_scalar::{Out, Quotes, Stop};
 use yaml_spell::ranked::RankedNodes;
 use yaml_spell::shown::Inside;
-use yaml_text::limits::text_limit;
 
 /// The greatest number of characters of a key in a block mapping.
 const KEY_LIMIT: usize = 1_023;
+
+/// A text of more bytes has more characters than that.
+const KEY_BYTES: usize = 4_096;
 
 /// Writes a collection as a key of a block mapping, without its `:`.
 fn put_flow_key<I: Copy, V: RankedNodes<I>>(view: &V, id: I, out: &mut Out) -> Result<(), Stop>
     requires stands { V.stands view.now }
     requires within { V.number id < V.count view.now }
-    ensures { OnOk result (written out.new ≡ written out.old ++ (flow_text (V.tree view.now (V.number id)) ++ (32 ∷ []))) }
+    ensures ok { OnOk result (written out.new ≡ written out.old ++ (flow_text (V.tree view.now (V.number id)) ++ (32 ∷ []))) }
+    ensures limit { limit_of out.new ≡ limit_of out.old }
+    ensures err { IfErr result (Stops (limit_of out.old) (written out.old ++ (flow_text (V.tree view.now (V.number id)) ++ (32 ∷ [])))) }
 {
     put_flow(view, id, out)?;
     out.put(" ")
@@ -35,7 +41,9 @@ pub(crate) fn put_key<I: Copy, V: RankedNodes<I>>(
 ) -> Result<(), Stop>
     requires stands { V.stands view.now }
     requires within { V.number id < V.count view.now }
-    ensures { OnOk result (written out.new ≡ written out.old ++ key_text (V.tree view.now (V.number id))) }
+    ensures ok { OnOk result (written out.new ≡ written out.old ++ key_text (V.tree view.now (V.number id))) }
+    ensures limit { limit_of out.new ≡ limit_of out.old }
+    ensures err { IfErr result (Stops (limit_of out.old) (written out.old ++ key_text (V.tree view.now (V.number id)))) }
 {
     let node = view.node(id);
     match node.inside {
@@ -63,14 +71,18 @@ fn is_key_len(text: &str) -> bool
 fn fits<I: Copy, V: RankedNodes<I>>(alloc: Global, view: &V, id: I) -> Result<bool, Stop>
     requires stands { V.stands view.now }
     requires within { V.number id < V.count view.now }
-    ensures { IfOk result (λ answer. answer ≡ fits (V.tree view.now (V.number id))) }
+    ensures ok { IfOk result (λ answer. answer ≡ fits (V.tree view.now (V.number id))) }
+    ensures err { IfErr result (λ stop. stop ≡ OutOfMemory) }
 {
     if is_short(view, id) {
         return Ok(true);
     }
-    let mut key = Out::new(alloc, text_limit());
-    put_key(view, id, &mut key)?;
-    Ok(is_key_len(key.text.as_str()))
+    let mut key = Out::new(alloc, KEY_BYTES);
+    match put_key(view, id, &mut key) {
+        Ok(()) => Ok(is_key_len(key.text.as_str())),
+        Err(Stop::TooLong) => Ok(false),
+        Err(Stop::OutOfMemory) => Err(Stop::OutOfMemory),
+    }
 }
 
 /// Whether the text of each key is short enough for a block mapping.
@@ -81,7 +93,8 @@ pub(crate) fn all_fit<I: Copy, V: RankedNodes<I>>(
 ) -> Result<bool, Stop>
     requires stands { V.stands view.now }
     requires within { All (λ p. (V.number p.0 < V.count view.now) × (V.number p.1 < V.count view.now)) entries.now }
-    ensures { IfOk result (λ answer. answer ≡ all_fit (pairs_of V.tree V.number view.now entries.now)) }
+    ensures ok { IfOk result (λ answer. answer ≡ all_fit (pairs_of V.tree V.number view.now entries.now)) }
+    ensures err { IfErr result (λ stop. stop ≡ OutOfMemory) }
 {
     for entry in entries {
         if !fits(alloc, view, entry.0)? {

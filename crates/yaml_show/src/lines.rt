@@ -1,7 +1,8 @@
 //! What of a node is on one line in block style.
-ghost use Rattle.std.specs.Prelude.{◌≡◌, ◌<◌, ◌++◌, ◌∷◌, [], OnOk};
+ghost use Rattle.std.specs.Prelude.{◌≡◌, ◌<◌, ◌++◌, ◌∷◌, [], OnOk, IfErr};
 ghost use Rattle.yaml_show_scalar.specs.Scalars.{scalar_lines};
 ghost use Rattle.yaml_show_scalar.specs.Tags.{tag_text};
+ghost use Rattle.yaml_show_scalar.specs.Stops.{limit_of, Stops};
 ghost use Rattle.yaml_show_scalar.specs.Texts.{written};
 ghost use Rattle.yaml_show.specs.Layout.{space, is_root, lines_at, goes_on, head, empty_text, one_line, before_part};
 
@@ -14,7 +15,9 @@ use yaml_spell::ranked::RankedNodes;
 
 /// Writes the space between a node and what is before it.
 pub(crate) fn put_space(out: &mut Out, place: Place) -> Result<(), Stop>
-    ensures { OnOk result (written out.new ≡ written out.old ++ space place) }
+    ensures ok { OnOk result (written out.new ≡ written out.old ++ space place) }
+    ensures limit { limit_of out.new ≡ limit_of out.old }
+    ensures err { IfErr result (Stops (limit_of out.old) (written out.old ++ space place)) }
 {
     match place {
         Place::Item => Ok(()),
@@ -53,7 +56,9 @@ pub(crate) fn put_scalar_node(
     place: Place,
     level: usize,
 ) -> Result<(), Stop>
-    ensures { OnOk result (written out.new ≡ written out.old ++ (space place ++ scalar_lines (lines_at place level) (is_root place) tag.now content.now)) }
+    ensures ok { OnOk result (written out.new ≡ written out.old ++ (space place ++ scalar_lines (lines_at place level) (is_root place) tag.now content.now)) }
+    ensures limit { limit_of out.new ≡ limit_of out.old }
+    ensures err { IfErr result (Stops (limit_of out.old) (written out.old ++ (space place ++ scalar_lines (lines_at place level) (is_root place) tag.now content.now))) }
 {
     put_space(out, place)?;
     put_scalar_lines(out, tag, content, lines_at(place, level), is_root(place))
@@ -68,7 +73,9 @@ pub(crate) fn put_empty(
     own: &str,
     brackets: &str,
 ) -> Result<(), Stop>
-    ensures { OnOk result (written out.new ≡ written out.old ++ empty_text place tag.now own.now brackets.now) }
+    ensures ok { OnOk result (written out.new ≡ written out.old ++ empty_text place tag.now own.now brackets.now) }
+    ensures limit { limit_of out.new ≡ limit_of out.old }
+    ensures err { IfErr result (Stops (limit_of out.old) (written out.old ++ empty_text place tag.now own.now brackets.now)) }
 {
     put_space(out, place)?;
     put_tag_before(out, tag, own)?;
@@ -88,7 +95,9 @@ pub(crate) fn goes_on(place: Place, tag: &str, own: &str) -> bool
 
 /// Writes a tag behind its space.
 fn put_tag_behind(out: &mut Out, place: Place, tag: &str) -> Result<(), Stop>
-    ensures { OnOk result (written out.new ≡ written out.old ++ (space place ++ tag_text tag.now)) }
+    ensures ok { OnOk result (written out.new ≡ written out.old ++ (space place ++ tag_text tag.now)) }
+    ensures limit { limit_of out.new ≡ limit_of out.old }
+    ensures err { IfErr result (Stops (limit_of out.old) (written out.old ++ (space place ++ tag_text tag.now))) }
 {
     put_space(out, place)?;
     put_tag(out, tag)
@@ -97,7 +106,9 @@ fn put_tag_behind(out: &mut Out, place: Place, tag: &str) -> Result<(), Stop>
 /// Writes what of a block collection is on the line that is begun.
 #[tactic(auto, unfolding(crate::specs::Layout::head))]
 pub(crate) fn put_head(out: &mut Out, place: Place, tag: &str, own: &str) -> Result<(), Stop>
-    ensures { OnOk result (written out.new ≡ written out.old ++ head place tag.now own.now) }
+    ensures ok { OnOk result (written out.new ≡ written out.old ++ head place tag.now own.now) }
+    ensures limit { limit_of out.new ≡ limit_of out.old }
+    ensures err { IfErr result (Stops (limit_of out.old) (written out.old ++ head place tag.now own.now)) }
 {
     if goes_on(place, tag, own) {
         return Ok(());
@@ -118,7 +129,9 @@ pub(crate) fn put_line<I: Copy, V: RankedNodes<I>>(
 ) -> Result<(), Stop>
     requires stands { V.stands view.now }
     requires within { V.number id < V.count view.now }
-    ensures { OnOk result (written out.new ≡ written out.old ++ one_line place (V.tree view.now (V.number id))) }
+    ensures ok { OnOk result (written out.new ≡ written out.old ++ one_line place (V.tree view.now (V.number id))) }
+    ensures limit { limit_of out.new ≡ limit_of out.old }
+    ensures err { IfErr result (Stops (limit_of out.old) (written out.old ++ one_line place (V.tree view.now (V.number id)))) }
 {
     put_space(out, place)?;
     put_flow(view, id, out)?;
@@ -127,7 +140,9 @@ pub(crate) fn put_line<I: Copy, V: RankedNodes<I>>(
 
 /// Writes what is before a part: nothing if its line is begun, else the indentation.
 pub(crate) fn put_before(out: &mut Out, begun: bool, level: usize) -> Result<(), Stop>
-    ensures { OnOk result (written out.new ≡ written out.old ++ before_part begun level) }
+    ensures ok { OnOk result (written out.new ≡ written out.old ++ before_part begun level) }
+    ensures limit { limit_of out.new ≡ limit_of out.old }
+    ensures err { IfErr result (Stops (limit_of out.old) (written out.old ++ before_part begun level)) }
 {
     if begun {
         return Ok(());

@@ -9,24 +9,24 @@ use Rattle.review_values.proofs.ValueLaws.{items_first, items_step, items_end, e
 use Rattle.review_values.proofs.value.+value.Goals as goal
 
 pub put_items-loop-place-init : goal.put_items-loop-place-init
-put_items-loop-place-init t c = items_first (λ (i : NodeId). arranged (tree c.args.both.now.graph i.0)) c.args.items.now _ _ c.in_ok-put.ensures
+put_items-loop-place-init t c = items_first (λ (i : NodeId). arranged (tree c.args.both.now.graph i.0)) c.args.items.now _ _ c.in_ok-put.ensures.ok
 
 pub put_items-loop-place-preserved : goal.put_items-loop-place-preserved
 put_items-loop-place-preserved t c =
     items_step (λ (i : NodeId). arranged (tree c.args.both.now.graph i.0)) c.args.items.now c.loop-place.place _ _ _ _ _ (omega arith) c.loop-place.invariant c.in_ok-put_comma.ensures c.in_ok-put_value.ensures
 
 pub put_items-returns : goal.put_items-returns
-put_items-returns t c = items_end (λ (i : NodeId). arranged (tree c.args.both.now.graph i.0)) c.args.items.now c.loop-place.place _ _ _ (omega arith) c.loop-place.invariant c.in_ok-put-2.ensures
+put_items-returns t c = items_end (λ (i : NodeId). arranged (tree c.args.both.now.graph i.0)) c.args.items.now c.loop-place.place _ _ _ (omega arith) c.loop-place.invariant c.in_ok-put-2.ensures.ok
 
 pub put_entries-loop-place-init : goal.put_entries-loop-place-init
-put_entries-loop-place-init t c = entries_first (key_pair c.args.both.now.graph) c.args.entries.now _ _ c.in_ok-put.ensures
+put_entries-loop-place-init t c = entries_first (key_pair c.args.both.now.graph) c.args.entries.now _ _ c.in_ok-put.ensures.ok
 
 pub put_entries-loop-place-preserved : goal.put_entries-loop-place-preserved
 put_entries-loop-place-preserved t c =
     entries_step (key_pair c.args.both.now.graph) c.args.entries.now c.loop-place.place _ _ _ _ _ _ (omega arith) c.loop-place.invariant c.in_ok-put_comma.ensures c.in_ok-put_key.ensures c.in_ok-put_value.ensures
 
 pub put_entries-returns : goal.put_entries-returns
-put_entries-returns t c = entries_end (key_pair c.args.both.now.graph) c.args.entries.now c.loop-place.place _ _ _ (omega arith) c.loop-place.invariant c.in_ok-put-2.ensures
+put_entries-returns t c = entries_end (key_pair c.args.both.now.graph) c.args.entries.now c.loop-place.place _ _ _ (omega arith) c.loop-place.invariant c.in_ok-put-2.ensures.ok
 
 pub put_value-returns-in-Scalar : goal.put_value-returns-in-Scalar
 put_value-returns-in-Scalar t c =

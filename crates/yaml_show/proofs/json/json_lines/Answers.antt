@@ -1,9 +1,10 @@
 use Rattle.std.proofs.Common.{map, ap, ◌∙◌, sym, subst}
 use Rattle.std.specs.List.{list_all}
 use Rattle.std.proofs.lemmas.Result.{IfErr-weaker}
+use Rattle.yaml_definitions.specs.model.Limits.{text_limit}
 use Rattle.yaml_spell.proofs.PieceLaws.{if_one}
-use Rattle.yaml_show.specs.JsonText.{json_text}
-use Rattle.yaml_show.specs.JsonTrees.{has_json, Lacks}
+use Rattle.yaml_show.specs.JsonText.{json_text, line_stream}
+use Rattle.yaml_show.specs.JsonTrees.{has_json, Lacks, Overruns}
 use Rattle.yaml_show.proofs.LayoutLaws.{roots_arranged}
 use Rattle.yaml_show.proofs.json.json_lines.Goals as goal
 
@@ -16,3 +17,8 @@ pub returns-clause-err : goal.returns-clause-err
 returns-clause-err c =
     let e = roots_arranged c.args.nodes.now.graph c.roots.result.now c.roots.ensures in
     IfErr-weaker c.root_lines.result _ _ (λ why. subst (λ z. Lacks (list_all has_json z) why) e) c.root_lines.ensures.err
+
+pub returns-clause-stops : goal.returns-clause-stops
+returns-clause-stops c =
+    let e = roots_arranged c.args.nodes.now.graph c.roots.result.now c.roots.ensures in
+    IfErr-weaker c.root_lines.result _ _ (λ why. subst (λ z. Overruns text_limit (line_stream z) why) e) c.root_lines.ensures.stops

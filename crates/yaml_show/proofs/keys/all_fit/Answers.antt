@@ -14,13 +14,13 @@ pub loop-entry-preserved : goal.loop-entry-preserved
 loop-entry-preserved g c =
     let xs = c.args.entries.now in
     let i = c.loop-entry.entry-index in
-    fit_next (pair_of g.V.RankedNodes.tree g.V.RankedNodes.number c.args.view.now) xs i c.entry-item.result _ (drop_item xs i c.entry-item.result (omega arith) c.entry-item.is) c.loop-entry.invariant (sym c.in_ok-fits.ensures ∙ c.if-not-branch.false)
+    fit_next (pair_of g.V.RankedNodes.tree g.V.RankedNodes.number c.args.view.now) xs i c.entry-item.result _ (drop_item xs i c.entry-item.result (omega arith) c.entry-item.is) c.loop-entry.invariant (sym c.in_ok-fits.ensures.ok ∙ c.if-not-branch.false)
 
-pub returns-then-not-branch : goal.returns-then-not-branch
-returns-then-not-branch g c =
+pub returns-then-not-branch-clause-ok : goal.returns-then-not-branch-clause-ok
+returns-then-not-branch-clause-ok g c =
     let xs = c.args.entries.now in
     let i = c.loop-entry.entry-index in
-    fit_stops (pair_of g.V.RankedNodes.tree g.V.RankedNodes.number c.args.view.now) xs i c.entry-item.result _ (drop_item xs i c.entry-item.result (omega arith) c.entry-item.is) c.loop-entry.invariant (sym c.in_ok-fits.ensures ∙ c.if-not-branch.true)
+    fit_stops (pair_of g.V.RankedNodes.tree g.V.RankedNodes.number c.args.view.now) xs i c.entry-item.result _ (drop_item xs i c.entry-item.result (omega arith) c.entry-item.is) c.loop-entry.invariant (sym c.in_ok-fits.ensures.ok ∙ c.if-not-branch.true)
 
-pub returns : goal.returns
-returns g c = fit_end (pair_of g.V.RankedNodes.tree g.V.RankedNodes.number c.args.view.now) c.args.entries.now c.loop-entry.entry-index _ (omega arith) c.loop-entry.invariant
+pub returns-clause-ok : goal.returns-clause-ok
+returns-clause-ok g c = fit_end (pair_of g.V.RankedNodes.tree g.V.RankedNodes.number c.args.view.now) c.args.entries.now c.loop-entry.entry-index _ (omega arith) c.loop-entry.invariant

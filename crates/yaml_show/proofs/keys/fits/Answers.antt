@@ -1,12 +1,20 @@
-use Rattle.std.proofs.Common.{sym, ◌∙◌, ap, ◌++◌}
+use Rattle.std.proofs.Common.{◌≡◌, sym, ◌∙◌, ap, ◌++◌, rules}
+use Rattle.yaml_show_scalar.specs.declared.stop.Stop.TheVariants.{TooLong}
 use Rattle.yaml_show.specs.Flow.{key_text}
 use Rattle.yaml_show.proofs.LayoutLaws.{short_fits, measured}
+use Rattle.yaml_show.proofs.StopLaws.{too_long_key}
 use Rattle.yaml_show.proofs.keys.fits.Goals as goal
 
-pub returns-then-is_short : goal.returns-then-is_short
-returns-then-is_short g c = short_fits (g.V.RankedNodes.tree c.args.view.now (g.V.RankedNodes.number c.args.id)) (sym c.if-is_short.ensures)
+pub returns-then-is_short-clause-ok : goal.returns-then-is_short-clause-ok
+returns-then-is_short-clause-ok g c = short_fits (g.V.RankedNodes.tree c.args.view.now (g.V.RankedNodes.number c.args.id)) (sym c.if-is_short.ensures)
 
-pub returns : goal.returns
-returns g c =
+pub returns-in-Ok-clause-ok : goal.returns-in-Ok-clause-ok
+returns-in-Ok-clause-ok g c =
     let t = g.V.RankedNodes.tree c.args.view.now (g.V.RankedNodes.number c.args.id) in
-    c.is_key_len.ensures ∙ measured t _ (sym c.if-is_short.ensures) (c.as_str.ensures.value ∙ c.in_ok-put_key.ensures ∙ ap (λ z. z ++ key_text t) c.new-key.ensures)
+    c.is_key_len.ensures ∙ measured t _ (sym c.if-is_short.ensures) (c.as_str.ensures.value ∙ c.in-Ok.ensures.ok ∙ ap (λ z. z ++ key_text t) c.new-key.ensures.empty)
+
+pub returns-in-Err-TooLong-clause-ok : goal.returns-in-Err-TooLong-clause-ok
+returns-in-Err-TooLong-clause-ok g c =
+    let t = g.V.RankedNodes.tree c.args.view.now (g.V.RankedNodes.number c.args.id) in
+    let h = λ (e : c.in-Err-TooLong.field-0 ≡ TooLong). too_long_key t _ _ c.new-key.ensures.limit c.new-key.ensures.empty (sym c.if-is_short.ensures) _ e c.in-Err-TooLong.ensures.err in
+    search (rules, h)
