@@ -1,4 +1,7 @@
 //! What a syntax fault commonly is, by the text around its place.
+ghost use Rattle.std.specs.Prelude.{◌≡◌, ◌≤◌, length, IfErr};
+ghost use Rattle.yaml_place.specs.LineModel.{IsPlace};
+
 use crate::line_hints::line_hint;
 use crate::node_hints::node_hint;
 use crate::open_hints::open_hint;
@@ -30,7 +33,9 @@ fn name_of(mark: u8) -> &'static str {
 }
 
 /// The place of an offset of a text.
-fn place_in(text: &str, at: usize) -> Place {
+fn place_in(text: &str, at: usize) -> Place
+    ensures { at ≤ length text.now → IsPlace text.now at result.line result.column }
+{
     let bytes = text.as_bytes();
     if at <= bytes.len() {
         place_at(bytes, at)
@@ -41,7 +46,9 @@ fn place_in(text: &str, at: usize) -> Place {
 
 impl Hint {
     /// The hint as a text.
-    fn words(self, alloc: Global, text: &str) -> Result<String, Fault> {
+    fn words(self, alloc: Global, text: &str) -> Result<String, Fault>
+        ensures { IfErr result (λ fault. fault ≡ Fault.OutOfMemory) }
+    {
         match self {
             Hint::Text(words) => Ok(words.to_string(alloc)?),
             Hint::Line(at, words) => {
@@ -67,7 +74,9 @@ impl Hint {
 ///
 /// # Errors
 /// `OutOfMemory`
-pub fn syntax_words(alloc: Global, text: &str, at: usize) -> Result<String, Fault> {
+pub fn syntax_words(alloc: Global, text: &str, at: usize) -> Result<String, Fault>
+    ensures { IfErr result (λ fault. fault ≡ Fault.OutOfMemory) }
+{
     let spot = Spot::new(alloc, text, at)?;
     let hint = match line_hint(&spot) {
         Some(hint) => hint,

@@ -1,5 +1,7 @@
 //! What is open before an offset of a text that breaks off there: quotes, brackets and braces. The text is read only roughly, by
 //! its indicators, since it is no YAML as a whole.
+ghost use Rattle.std.specs.Prelude.{◌≡◌, IfErr};
+
 use std::alloc::Global;
 use yaml_text::fault::Fault;
 
@@ -58,7 +60,9 @@ impl Scan {
     ///
     /// # Errors
     /// `OutOfMemory`
-    pub fn of(alloc: Global, before: &str) -> Result<Scan, Fault> {
+    pub fn of(alloc: Global, before: &str) -> Result<Scan, Fault>
+        ensures { IfErr result (λ fault. fault ≡ Fault.OutOfMemory) }
+    {
         let mut scan = Scan {
             mode: Mode::Start,
             flow: Vec::new(alloc),
@@ -144,7 +148,9 @@ impl Scan {
         }
     }
 
-    fn take(&mut self, at: usize, byte: u8) -> Result<(), Fault> {
+    fn take(&mut self, at: usize, byte: u8) -> Result<(), Fault>
+        ensures { IfErr result (λ fault. fault ≡ Fault.OutOfMemory) }
+    {
         if is_blank(byte) {
             self.end_word(at);
         }
@@ -171,7 +177,9 @@ impl Scan {
     }
 
     /// Where a node may start.
-    fn start(&mut self, at: usize, byte: u8) -> Result<(), Fault> {
+    fn start(&mut self, at: usize, byte: u8) -> Result<(), Fault>
+        ensures { IfErr result (λ fault. fault ≡ Fault.OutOfMemory) }
+    {
         if is_blank(byte) {
             return Ok(());
         }
@@ -195,7 +203,9 @@ impl Scan {
         Ok(())
     }
 
-    fn plain(&mut self, at: usize, byte: u8) -> Result<(), Fault> {
+    fn plain(&mut self, at: usize, byte: u8) -> Result<(), Fault>
+        ensures { IfErr result (λ fault. fault ≡ Fault.OutOfMemory) }
+    {
         match byte {
             b'#' if is_blank(self.last) => self.mode = Mode::Comment,
             b'[' | b'{' if !self.flow.is_empty() => {
@@ -210,7 +220,9 @@ impl Scan {
     }
 
     /// After a node that a character of its own has ended.
-    fn behind(&mut self, byte: u8) -> Result<(), Fault> {
+    fn behind(&mut self, byte: u8) -> Result<(), Fault>
+        ensures { IfErr result (λ fault. fault ≡ Fault.OutOfMemory) }
+    {
         match byte {
             b']' | b'}' => {
                 self.flow.pop();
@@ -225,7 +237,9 @@ impl Scan {
     }
 
     /// At the start of a line after a block scalar's header.
-    fn block(&mut self, at: usize, byte: u8) -> Result<(), Fault> {
+    fn block(&mut self, at: usize, byte: u8) -> Result<(), Fault>
+        ensures { IfErr result (λ fault. fault ≡ Fault.OutOfMemory) }
+    {
         if byte == b' ' || byte == b'\r' {
             return Ok(());
         }

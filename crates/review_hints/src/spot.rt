@@ -1,4 +1,6 @@
 //! What is around the offset at which a text breaks off, for a hint.
+ghost use Rattle.std.specs.Prelude.{◌≡◌, IfErr};
+
 use crate::scan::Scan;
 use std::alloc::Global;
 use yaml_text::fault::Fault;
@@ -22,7 +24,9 @@ pub struct Spot<'a> {
 impl<'a> Spot<'a> {
     /// # Errors
     /// `OutOfMemory`
-    pub fn new(alloc: Global, text: &'a str, at: usize) -> Result<Spot<'a>, Fault> {
+    pub fn new(alloc: Global, text: &'a str, at: usize) -> Result<Spot<'a>, Fault>
+        ensures { IfErr result (λ fault. fault ≡ Fault.OutOfMemory) }
+    {
         let before = text.get(..at).unwrap_or("");
         let behind = text.get(at..).unwrap_or("");
         let line = before.rsplit('\n').next().unwrap_or("");

@@ -1,4 +1,6 @@
 //! What is said of each fault.
+ghost use Rattle.std.specs.Prelude.{◌≡◌, IfErr};
+
 use crate::byte_hints::{
     alias_words, directive_words, escape_words, printable_words, tag_words, utf8_words,
 };
@@ -11,7 +13,9 @@ use yaml_text::fault::Fault;
 ///
 /// # Errors
 /// `OutOfMemory`
-pub fn words_of(alloc: Global, fault: Fault, text: &[u8], at: usize) -> Result<String, Fault> {
+pub fn words_of(alloc: Global, fault: Fault, text: &[u8], at: usize) -> Result<String, Fault>
+    ensures { IfErr result (λ fault. fault ≡ Fault.OutOfMemory) }
+{
     let source = str::from_utf8(text).unwrap_or("");
     if let Fault::Syntax(_) = fault {
         return syntax_words(alloc, source, at);
