@@ -1,12 +1,14 @@
 -- What the getters of `clap` answer, by the rows that it found.
-use Rattle.std.proofs.Common.{◌≡◌, ◌∙◌, ◌&&◌, ℕ, ◌^◌, Bool, true, false, List, [], ◌∷◌, ◌++◌, Option, Some, None, is_some, option_map, option_and_then, unwrap_or, refl, sym, ap, Result, Ok, Err, length, subst}
-use Rattle.std.specs.Option.{IfSome}
+use Rattle.std.proofs.Common.{◌≡◌, ◌∙◌, ◌&&◌, ℕ, ◌^◌, Bool, true, false, List, [], ◌∷◌, ◌++◌, Option, Some, None, is_some, option_map, option_and_then, unwrap_or, refl, sym, ap, Result, Ok, Err, length, subst, zero, suc, ◌<◌, get_or, slice_index_or, arith}
+use Rattle.std.specs.Option.{IfSome, IfNone}
 use Rattle.std.specs.Prelude.{nat_lt}
 use Rattle.std.specs.Borrow.{Bor}
-use Rattle.std.specs.List.{list_all}
+use Rattle.std.specs.List.{list_all, Any}
+use Rattle.std.proofs.lemmas.List.{length-map}
 use Rattle.std.specs.Char.{digit_value}
 use Rattle.std.specs.Str.Parse.{AllDigits, ParsesUnsigned, digits_value, without_leading_plus}
 use Rattle.std.proofs.lemmas.Bool.{ltb-true, lt-ltb}
+use Rattle.clap.specs.Walk.{texts}
 use Rattle.clap.specs.Words.{ReadsOne, Text, first_of, one_text, rows_of}
 use Rattle.clap.specs.Matches.{first_value}
 use Rattle.clap.specs.ValueTests.{is_numeral}
@@ -86,3 +88,17 @@ of_some P None x e h = absurd (cc)
 of_some P (Some y) x e h =
     let same : y ≡ x = cc in
     subst P same h
+
+-- what is said of a pattern that was not read
+pub of_none : {X : Type 0} (P : Type 0) (o : Option X) → o ≡ None → IfNone o P → P
+of_none P None e h = h
+of_none P (Some x) e h = absurd (cc)
+
+-- a text at a place is one of all
+pub any_text : (P : Text → Type 0) (items : List (Bor Text)) (i : ℕ) (d : Bor Text) → i < length items → P (get_or items i d).now → Any P (texts items)
+any_text P items i d l h = (i, (get_or items i d).now, subst (λ n. i < n) (sym (length-map items (λ s. s.now))) l, there items i d (get_or items i d).now l, h)
+  where
+    there : (items : List (Bor Text)) (i : ℕ) (d : Bor Text) (e : Text) → i < length items → slice_index_or (texts items) i e ≡ (get_or items i d).now
+    there [] i d e l = absurd (omega (arith, l))
+    there (x ∷ xs) zero d e l = refl
+    there (x ∷ xs) (suc i) d e l = there xs i d e (omega (arith, l))

@@ -1,6 +1,6 @@
 -- What words ask for, from what `clap` finds in them: for each argument of a command a row with the values that it has.
 use Rattle.std.specs.Prelude.{◌≡◌, ◌⊎◌, ℕ, ◌^◌, nat_lt, min, ◌&&◌, ◌||◌, not, Bool, true, false, codes, List, [], ◌∷◌, Option, Some, None, is_some, option_map, option_and_then, unwrap_or, if◌then◌else◌}
-use Rattle.std.specs.List.{list_any}
+use Rattle.std.specs.List.{list_any, Any}
 use Rattle.std.specs.Str.{bytes_eq}
 use Rattle.std.specs.Str.Parse.{digits_value, without_leading_plus}
 use Rattle.clap.specs.Words.{App, IsAmong, Row, Text, all_of, fault_of, first_of, one_of, subcommand_of}
@@ -226,9 +226,13 @@ HasKeys words keys = (app : App) × IsProgram app × (fault_of app words ≡ [] 
 
 -- ---- why they ask for nothing
 
+-- a text that is no pattern
+abbrev pub HasNoPattern : Text → Type 0
+HasNoPattern text = (steps : List (List ℕ)) → IsPattern text steps → ⊥
+
 -- a text of `--ignore` is no pattern
 abbrev pub RefusesPatterns : List Row → ErrorKind → Type 0
-RefusesPatterns rows k = (k ≡ kind.OutOfMemory) ⊎ ((k ≡ kind.ValueValidation) × (texts_in (codes "ignore") rows ≡ [] → ⊥))
+RefusesPatterns rows k = (k ≡ kind.OutOfMemory) ⊎ ((k ≡ kind.ValueValidation) × Any HasNoPattern (texts_in (codes "ignore") rows))
 
 -- the same, or numbers are asked for on a page
 abbrev pub RefusesDiff : List Row → ErrorKind → Type 0
