@@ -2,7 +2,7 @@
 use Rattle.std.specs.Prelude.{◌≡◌, ◌⊎◌, ℕ, List}
 use Rattle.yaml_shown.specs.Alike.{MeanAlike}
 use Rattle.yaml_shown.specs.Lines.{LinesOf}
-use Rattle.yaml_shown.specs.Refused.{ShowRefuses}
+use Rattle.yaml_shown.specs.Refused.{ShowRefuses, LinesRefuse}
 use Rattle.yaml_shown.specs.Shows.{Shows}
 use Rattle.yaml_c.specs.declared.fault.YamlcanonFault.{YamlcanonFault}
 use Rattle.yaml_c.specs.Answers.{Gives, Lacks, Refuses}
@@ -29,6 +29,9 @@ GivesJson bytes = Gives (LinesOf bytes)
 
 abbrev pub ShortJson : List ℕ → List ℕ → List ℕ → ℕ → YamlcanonFault → YamlcanonFault → Type 0
 ShortJson bytes = Lacks (LinesOf bytes)
+
+abbrev pub RefusesJson : List ℕ → List ℕ → List ℕ → ℕ → ℕ → YamlcanonFault → Type 0
+RefusesJson bytes = Refuses (LinesRefuse bytes)
 
 -- Neither the room nor the length is written, and no fault is told.
 pub record WritesNothing (old new : List ℕ) (len_before len_after : ℕ) (before after : YamlcanonFault) : Type 0 where

@@ -6,7 +6,7 @@ ghost use Rattle.yaml_definitions.specs.model.Means.{Means};
 ghost use Rattle.yaml_shown.specs.Refused.{JsonRefuses};
 ghost use Rattle.yaml_shown.specs.declared.unshown.Unshown.TheVariants.{NoJson, Unlike};
 ghost use Rattle.yaml_c.specs.Shown.{GivesShown, ShortShown, RefusesShown, IsLengthOrMemoryNumber};
-ghost use Rattle.yaml_c.specs.Shown.{GivesJson, ShortJson, WritesNothing};
+ghost use Rattle.yaml_c.specs.Shown.{GivesJson, ShortJson, RefusesJson, WritesNothing};
 
 use crate::fault::{YamlcanonFault, refuse};
 use crate::room::put_text;
@@ -55,7 +55,7 @@ pub extern "C" fn yaml_c_json(
     ensures status { (result ≡ 0) ⊎ ((result ≡ 2) ⊎ ((result ≡ 3) ⊎ ((result ≡ 4) ⊎ (result ≡ 5)))) }
     ensures given { result ≡ 0 → GivesJson input.now out.old out.new len.new fault.old fault.new }
     ensures short { result ≡ 3 → ShortJson input.now out.old out.new len.new fault.old fault.new }
-    ensures refused { result ≡ 2 → RefusesShown input.now out.old out.new len.old len.new fault.new }
+    ensures refused { result ≡ 2 → RefusesJson input.now out.old out.new len.old len.new fault.new }
     ensures lacks { result ≡ 4 → JsonRefuses input.now NoJson }
     ensures unlike { result ≡ 5 → JsonRefuses input.now Unlike }
     ensures none { (result ≡ 4) ⊎ (result ≡ 5) → WritesNothing out.old out.new len.old len.new fault.old fault.new }

@@ -95,9 +95,13 @@ pub when_none : {T P : Type 0} (o : Option T) → o ≡ None → IfNone o P → 
 when_none None e h = h
 when_none (Some x) e h = absurd (cc)
 
+-- what a store holds of this stream and an empty one
+pub all_left : (lefts rights all : List Tree) → Means [] rights → all ≡ lefts ++ rights → all ≡ lefts
+all_left lefts rights all n e = e ∙ ap (λ z. lefts ++ z) (nothing_meant rights n) ∙ append-nil lefts
+
 -- the documents of a store that holds this stream and an empty one
 all_meant : (bytes : List ℕ) (f lefts rights all : List Tree) → Means bytes lefts → Means [] rights → all ≡ lefts ++ rights → Means bytes f → all ≡ f
-all_meant bytes f lefts rights all m n e k = e ∙ ap (λ z. lefts ++ z) (nothing_meant rights n) ∙ append-nil lefts ∙ one_meaning bytes lefts f m k
+all_meant bytes f lefts rights all m n e k = all_left lefts rights all n e ∙ one_meaning bytes lefts f m k
 
 -- what is known of these documents
 pub of_meant : (P : List Tree → Type 0) (bytes : List ℕ) (f lefts rights all : List Tree) → Means bytes lefts → Means [] rights → all ≡ lefts ++ rights → P all → Means bytes f → P f

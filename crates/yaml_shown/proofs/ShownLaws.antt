@@ -1,6 +1,6 @@
 -- Canonical texts mean what their streams mean, and what a rejection leaves open.
 use Rattle.std.proofs.Common.{◌≡◌, ◌⊎◌, inl, inr, ℕ, ◌≤◌, List, [], ◌∷◌, refl, sym, ◌∙◌, subst}
-use Rattle.yaml_definitions.specs.model.Limits.{height_limit}
+use Rattle.yaml_definitions.specs.model.Limits.{height_limit, text_limit}
 use Rattle.yaml_definitions.specs.model.Tree.{Tree, height}
 use Rattle.yaml_definitions.specs.model.Same.{Keyed}
 use Rattle.yaml_definitions.specs.model.Proper.{AreAdmitted, Admitted}
@@ -11,8 +11,12 @@ use Rattle.law_read_back.proofs.Meanings.{spellings_mean}
 use Rattle.yaml_canon.specs.Claims.{AllOf, IsCanonicalText, CanonicalRefuses}
 use Rattle.yaml_canon.specs.Accepting.{IsMemory, MeaningsAreAccepted}
 use Rattle.yaml_canon.proofs.ClaimLaws.{means_alone}
+use Rattle.yaml_show_scalar.specs.Stops.{Stops}
+use Rattle.yaml_show_scalar.specs.declared.stop.Stop.{Stop}
+use Rattle.yaml_show_scalar.specs.declared.stop.Stop.TheVariants as stops
 use Rattle.yaml_shown.specs.Alike.{MeanAlike}
-use Rattle.yaml_shown.specs.Refused.{ShowRefuses, IsLengthOrMemory}
+use Rattle.yaml_shown.specs.Refused.{ShowRefuses, LinesRefuse, IsLengthOrMemory, lines_text, fault_of}
+use Rattle.yaml_shown.specs.Shows.{readable}
 
 all-low : (f : List Tree) → AreAdmitted f → AllOf (λ t. height t ≤ height_limit) f
 all-low [] a = tt
@@ -37,11 +41,28 @@ canonical_alike bytes text c =
 
 -- what `canonical` rejects
 pub refused_shown : (bytes : List ℕ) (fault : Fault) → CanonicalRefuses bytes fault → ShowRefuses bytes fault
-refused_shown bytes faults.TextTooLong h = tt
+refused_shown bytes faults.TextTooLong h = (h.0, h.1.means, inr h.2)
 refused_shown bytes _ h = h
 
 pub memory_shown : (bytes : List ℕ) (fault : Fault) → IsMemory fault → ShowRefuses bytes fault
 memory_shown bytes fault e = subst (ShowRefuses bytes) (sym e) tt
+
+-- the same of lines
+pub refused_lines : (bytes : List ℕ) (fault : Fault) → CanonicalRefuses bytes fault → LinesRefuse bytes fault
+refused_lines bytes faults.TextTooLong h = (h.0, h.1.means, inr h.2)
+refused_lines bytes _ h = h
+
+pub memory_lines : (bytes : List ℕ) (fault : Fault) → IsMemory fault → LinesRefuse bytes fault
+memory_lines bytes fault e = subst (LinesRefuse bytes) (sym e) tt
+
+-- a text that is not finished
+pub stop_shown : (bytes : List ℕ) (f : List Tree) (stop : Stop) → Means bytes f → Stops text_limit (readable f) stop → ShowRefuses bytes (fault_of stop)
+stop_shown bytes f stops.TooLong m h = (f, m, inl h)
+stop_shown bytes f stops.OutOfMemory m h = tt
+
+pub stop_lines : (bytes : List ℕ) (f : List Tree) (stop : Stop) → Means bytes f → Stops text_limit (lines_text f) stop → LinesRefuse bytes (fault_of stop)
+stop_lines bytes f stops.TooLong m h = (f, m, inl h)
+stop_lines bytes f stops.OutOfMemory m h = tt
 
 length-or-refused : (bytes : List ℕ) (fault : Fault) → ShowRefuses bytes fault → (fault ≡ faults.TextTooLong) ⊎ CanonicalRefuses bytes fault
 length-or-refused bytes faults.TextTooLong h = inl refl

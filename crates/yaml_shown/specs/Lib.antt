@@ -1,4 +1,4 @@
 pub mod Alike
 pub mod Lines
-pub mod Refused
 pub mod Shows
+pub mod Refused

@@ -1,14 +1,15 @@
 //! What a presenter writes of a stream.
 ghost use Rattle.std.specs.Prelude.{◌≡◌, ◌++◌, ℕ, List, IfOk, IfErr, IfSome, map, string_bytes};
 ghost use Rattle.yaml_definitions.specs.model.Tree.{Tree};
+ghost use Rattle.yaml_definitions.specs.model.Limits.{text_limit};
 ghost use Rattle.yaml_definitions.specs.model.Means.{Means};
 ghost use Rattle.yaml_graph.specs.GraphView.{forest as root_trees};
 ghost use Rattle.yaml_rank.specs.RanksView.{RanksAre};
 ghost use Rattle.yaml_canon.specs.Claims.{CanonicalRefuses};
 ghost use Rattle.yaml_canon.specs.Both.{HasBoth};
-ghost use Rattle.yaml_show.specs.JsonTrees.{Lacks};
+ghost use Rattle.yaml_show.specs.JsonTrees.{Lacks, Overruns};
 ghost use Rattle.yaml_shown.specs.Lines.{all_have_json, AreTheirs};
-ghost use Rattle.yaml_shown.specs.Refused.{ShowRefuses, JsonRefuses};
+ghost use Rattle.yaml_shown.specs.Refused.{ShowRefuses, JsonRefuses, lines_text, fault_of};
 ghost use Rattle.yaml_shown.specs.Shows.{readable};
 
 use crate::unshown::Unshown;
@@ -47,7 +48,7 @@ fn rejection(alloc: Global, bytes: &[u8]) -> Fault
 
 /// The fault of a text that is not finished.
 fn stopped(stop: Stop) -> Fault
-    ensures { (bytes : List ℕ) → ShowRefuses bytes result }
+    ensures { result ≡ fault_of stop }
 {
     match stop {
         Stop::TooLong => Fault::TextTooLong,
@@ -78,7 +79,7 @@ pub(crate) fn readable_text(alloc: Global, bytes: &[u8]) -> Result<String, Fault
 
 /// The fault of lines that are not finished.
 fn unwritten(why: Unwritten) -> Unshown
-    ensures { (bytes : List ℕ) → ((f : List Tree) → Means bytes f → Lacks (all_have_json f) why) → JsonRefuses bytes result }
+    ensures { (bytes : List ℕ) (f : List Tree) → Means bytes f → ((g : List Tree) → Means bytes g → Lacks (all_have_json g) why) → Overruns text_limit (lines_text f) why → JsonRefuses bytes result }
 {
     match why {
         Unwritten::Stopped(stop) => Unshown::Rejected(stopped(stop)),
@@ -90,7 +91,7 @@ fn unwritten(why: Unwritten) -> Unshown
 ///
 /// # Errors
 /// Those of `canonical`. 20: the lines would be too long. Else JSON cannot express a node.
-#[tactic(auto, using(crate::proofs::ShownLaws::refused_shown))]
+#[tactic(auto, using(crate::proofs::ShownLaws::refused_lines))]
 pub(crate) fn written_lines(alloc: Global, bytes: &[u8]) -> Result<Vec<String>, Unshown>
     ensures lines { IfOk result (λ lines. (f : List Tree) → Means bytes.now f → AreTheirs f (map string_bytes lines.items)) }
     ensures refused { IfErr result (JsonRefuses bytes.now) }

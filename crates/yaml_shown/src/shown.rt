@@ -42,8 +42,8 @@ fn block_shown(alloc: Global, bytes: &[u8]) -> Result<Option<String>, Fault>
 /// are shown as the same bytes.
 ///
 /// # Errors
-/// Those of `canonical`. 20 means that the readable text would have more than 67,108,864 bytes. If the bytes mean admitted documents, the
-/// only errors are 20 and want of memory.
+/// Those of `canonical`. 20 means that the readable text, or the canonical one, would have more than 67,108,864 bytes. If the bytes mean
+/// admitted documents, the only errors are 20 and want of memory.
 #[tactic(auto, using(crate::proofs::ShownLaws::canonical_alike, crate::proofs::ShownLaws::refused_shown, crate::proofs::ShownLaws::admitted_shown))]
 pub fn show(alloc: Global, bytes: &[u8]) -> Result<String, Fault>
     ensures alike { IfOk result (λ text. MeanAlike bytes.now (string_bytes text)) }
@@ -63,7 +63,7 @@ pub fn show(alloc: Global, bytes: &[u8]) -> Result<String, Fault>
 /// # Errors
 /// Those of `canonical`, and what JSON cannot express. 20 means that the lines would have more than 67,108,864 bytes, with four more for
 /// each.
-#[tactic(auto, using(crate::proofs::ShownLaws::memory_shown))]
+#[tactic(auto, using(crate::proofs::ShownLaws::memory_lines))]
 pub fn show_json(alloc: Global, bytes: &[u8]) -> Result<String, Unshown>
     ensures lines { IfOk result (λ text. LinesOf bytes.now (string_bytes text)) }
     ensures refused { IfErr result (JsonRefuses bytes.now) }

@@ -1,5 +1,5 @@
 //! The hunks of an edit script.
-ghost use Rattle.std.specs.Prelude.{◌<◌, ◌≤◌, ◌+◌, ◌^◌, length, string_bytes, OnOk, IfOk};
+ghost use Rattle.std.specs.Prelude.{◌≡◌, ◌<◌, ◌≤◌, ◌+◌, ◌^◌, length, string_bytes, OnOk, IfOk, IfErr};
 ghost use Rattle.yaml_unified.specs.Unified.{IsFirstChange, PutsHunk, PutsHunks};
 
 use crate::hunk::{lefts, put_hunk, rights};
@@ -29,6 +29,7 @@ fn put_next<'s, 't>(
     ensures lefts { IfOk result (λ next. next.left + length next.edits.now ≤ rest.entry.left + length rest.entry.edits.now) }
     ensures rights { IfOk result (λ next. next.right + length next.edits.now ≤ rest.entry.right + length rest.entry.edits.now) }
     ensures hunk { IfOk result (λ next. PutsHunk rest.entry.edits.now rest.entry.left rest.entry.right next.edits.now next.left next.right (string_bytes out.old) (string_bytes out.new)) }
+    ensures only { IfErr result (λ fault. fault ≡ Fault.OutOfMemory) }
 {
     let (skipped, more) = rest.edits.split_at(change.saturating_sub(context));
     let (shown, after) = more.split_at(hunk_len(more, context));
@@ -46,6 +47,7 @@ fn put_next<'s, 't>(
 pub fn put_unified(out: &mut String, edits: &[Edit<'_>], context: usize) -> Result<(), Fault>
     requires few { context < 65536 }
     ensures hunks { OnOk result (PutsHunks edits.now (string_bytes out.old) (string_bytes out.new)) }
+    ensures only { IfErr result (λ fault. fault ≡ Fault.OutOfMemory) }
 {
     let mut rest = Rest {
         edits,

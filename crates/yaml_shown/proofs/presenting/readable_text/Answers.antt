@@ -1,5 +1,10 @@
-use Rattle.std.proofs.Common.{[]}
-use Rattle.yaml_shown.proofs.AlikeLaws.{readable_is}
+use Rattle.std.proofs.Common.{[], sym, subst}
+use Rattle.yaml_definitions.specs.model.Limits.{text_limit}
+use Rattle.yaml_show_scalar.specs.Stops.{Stops}
+use Rattle.yaml_shown.specs.Refused.{ShowRefuses}
+use Rattle.yaml_shown.specs.Shows.{readable}
+use Rattle.yaml_shown.proofs.AlikeLaws.{all_left, readable_is}
+use Rattle.yaml_shown.proofs.ShownLaws.{stop_shown}
 use Rattle.yaml_shown.proofs.presenting.readable_text.Goals as goal
 
 pub returns-in-Ok-block_text-clause-text : goal.returns-in-Ok-block_text-clause-text
@@ -8,4 +13,7 @@ returns-in-Ok-block_text-clause-text c = λ f m.
     readable_is c.args.bytes.now _ f has.mean.lefts has.mean.rights _ has.mean.left_means has.mean.right_means (c.in-Some.ensures.trees c.args.bytes.now [] has) c.in-Ok-block_text.ensures.ok m
 
 pub returns-clause-refused : goal.returns-clause-refused
-returns-clause-refused c = c.stopped.ensures c.args.bytes.now
+returns-clause-refused c =
+    let has = c.in-Ok.ensures.both in
+    let e = all_left has.mean.lefts has.mean.rights _ has.mean.right_means (c.in-Some.ensures.trees c.args.bytes.now [] has) in
+    subst (ShowRefuses c.args.bytes.now) (sym c.stopped.ensures) (stop_shown c.args.bytes.now has.mean.lefts c.in-Err.stop has.mean.left_means (subst (λ z. Stops text_limit (readable z) c.in-Err.stop) e c.in-Err.ensures.err))

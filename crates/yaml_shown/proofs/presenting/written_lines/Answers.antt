@@ -1,8 +1,10 @@
-use Rattle.std.proofs.Common.{[], map}
+use Rattle.std.proofs.Common.{[], map, subst}
+use Rattle.yaml_definitions.specs.model.Limits.{text_limit}
 use Rattle.std.specs.String.{string_bytes}
-use Rattle.yaml_show.specs.JsonTrees.{Lacks}
+use Rattle.yaml_show.specs.JsonTrees.{Lacks, Overruns}
 use Rattle.yaml_shown.specs.Lines.{all_have_json, AreTheirs}
-use Rattle.yaml_shown.proofs.AlikeLaws.{of_meant, theirs}
+use Rattle.yaml_shown.specs.Refused.{lines_text}
+use Rattle.yaml_shown.proofs.AlikeLaws.{all_left, of_meant, theirs}
 use Rattle.yaml_shown.proofs.presenting.written_lines.Goals as goal
 
 pub returns-in-Ok-json_lines-clause-lines : goal.returns-in-Ok-json_lines-clause-lines
@@ -14,4 +16,5 @@ returns-in-Ok-json_lines-clause-lines c = λ f m.
 pub returns-clause-refused : goal.returns-clause-refused
 returns-clause-refused c =
     let has = c.in-Ok.ensures.both in
-    c.unwritten.ensures c.args.bytes.now (λ f m. of_meant (λ z. Lacks (all_have_json z) c.in-Err.why) c.args.bytes.now f has.mean.lefts has.mean.rights _ has.mean.left_means has.mean.right_means (c.in-Some.ensures.trees c.args.bytes.now [] has) c.in-Err.ensures.err m)
+    let e = all_left has.mean.lefts has.mean.rights _ has.mean.right_means (c.in-Some.ensures.trees c.args.bytes.now [] has) in
+    c.unwritten.ensures c.args.bytes.now has.mean.lefts has.mean.left_means (λ f m. of_meant (λ z. Lacks (all_have_json z) c.in-Err.why) c.args.bytes.now f has.mean.lefts has.mean.rights _ has.mean.left_means has.mean.right_means (c.in-Some.ensures.trees c.args.bytes.now [] has) c.in-Err.ensures.err m) (subst (λ z. Overruns text_limit (lines_text z) c.in-Err.why) e c.in-Err.ensures.stops)
