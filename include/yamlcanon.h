@@ -108,7 +108,8 @@ uint32_t yamlcanon_events(const uint8_t *input, size_t n, uint8_t *out, size_t c
                           yamlcanon_fault *fault);
 
 /* The same of readable YAML that means what the input means, as yamlreview show writes it: block style, a line for each
- * entry and item, aliases written out. Of this text 20 means that it would have more than 67,108,864 bytes. */
+ * entry and item, aliases written out. Of this text 20 means that it, or the canonical text, would have
+ * more than 67,108,864 bytes. */
 uint32_t yamlcanon_show(const uint8_t *input, size_t n, uint8_t *out, size_t cap, size_t *len,
                         yamlcanon_fault *fault);
 

@@ -18,7 +18,8 @@ use yaml_shown::{Unshown, show, show_json};
 /// Puts the stream that these bytes are, as readable YAML that means the same, at the start of `out`, and its length into `len`.
 ///
 /// The status is 0, or 2 where the bytes are refused, of which `fault` tells, or 3 where `out` has too little room, and
-/// then `len` has the length. Nothing else is written. 20 is told where the readable text would have more than 67,108,864 bytes.
+/// then `len` has the length. Nothing else is written. 20 is told where the readable text or
+/// the canonical one would have more than 67,108,864 bytes.
 #[unsafe(no_mangle)]
 pub extern "C" fn yaml_c_show(
     alloc: Global,

@@ -30,7 +30,7 @@ module _ (xs : List (Option ℕ)) (i r : ℕ) (free : slice_get xs i ≡ Some No
   set-new = set-here xs i (Some r) (slice_get_within xs i None free)
 
 pub keeps-same : (p : Partners) → Keeps p p
-keeps-same p = record { lefts_len = refl; rights_len = refl; left = λ j k h. h; right = λ j k h. h }
+keeps-same p = record { lefts_len = refl; rights_len = refl; left = λ j k h. h; right = λ j k h. h; agrees = λ h. h }
 
 pub keeps-more : (p q r : Partners) → Keeps p q → Keeps q r → Keeps p r
 keeps-more p q r a b = record {
@@ -38,6 +38,7 @@ keeps-more p q r a b = record {
   rights_len = b.rights_len ∙ a.rights_len;
   left = λ j k h. b.left j k (a.left j k h);
   right = λ j k h. b.right j k (a.right j k h);
+  agrees = λ h. b.agrees (a.agrees h);
 }
 
 pub takes-keeps : (old new : Partners) (i r : ℕ) → slice_get old.lefts.items i ≡ Some None → slice_get old.rights.items r ≡ Some None → Takes old new i r → Keeps old new
@@ -46,6 +47,16 @@ takes-keeps old new i r f h t = record {
   rights_len = ap length t.rights ∙ length-set old.rights.items r (Some i);
   left = λ j k p. subst (λ z. Partner z j k) (sym t.lefts) (set-kept old.lefts.items i r f j k p);
   right = λ j k p. subst (λ z. Partner z k j) (sym t.rights) (set-kept old.rights.items r i h k j p);
+  agrees = λ c j k. (
+    λ p. subst (λ z. Partner z k j) (sym t.rights) (elim (set-from old.lefts.items i r f j k (subst (λ z. Partner z j k) t.lefts p)) [
+      | inl a ↦ set-kept old.rights.items r i h k j ((c j k).0 a)
+      | inr e ↦ subst (λ z. Partner (set old.rights.items r (Some i)) k z) (sym e.0) (subst (λ z. Partner (set old.rights.items r (Some i)) z i) (sym e.1) (set-new old.rights.items r i h))
+    ]),
+    λ p. subst (λ z. Partner z j k) (sym t.lefts) (elim (set-from old.rights.items r i h k j (subst (λ z. Partner z k j) t.rights p)) [
+      | inl a ↦ set-kept old.lefts.items i r f j k ((c j k).1 a)
+      | inr e ↦ subst (λ z. Partner (set old.lefts.items i (Some r)) j z) (sym e.0) (subst (λ z. Partner (set old.lefts.items i (Some r)) z r) (sym e.1) (set-new old.lefts.items i r f))
+    ]),
+  );
 }
 
 -- ---- names that make pairs

@@ -1,5 +1,5 @@
 -- What the passes that make pairs say of names, as they compare them, and of the pairs so far.
-use Rattle.std.specs.Prelude.{◌≡◌, ◌⊎◌, ◌↔◌, ℕ, zero, suc, ◌+◌, ◌*◌, ◌<◌, ◌^◌, Bool, true, cond, is_some, List, [], ◌++◌, map, length, take, sum_by, count_by, ◌==◌, slice_set, codes, Option, Some, None, IfSome}
+use Rattle.std.specs.Prelude.{◌≡◌, ◌⊎◌, ◌↔◌, ℕ, zero, suc, ◌+◌, ◌-◌, ◌*◌, ◌<◌, ◌^◌, min, Bool, true, cond, is_some, List, [], ◌++◌, map, length, take, sum_by, count_by, ◌==◌, slice_set, codes, Option, Some, None, IfSome}
 use Rattle.std.specs.Borrow.{Bor}
 use Rattle.std.specs.declared.cmp.Ordering.{Ordering}
 use Rattle.std.specs.Ordering.{ordering_then, nat_cmp, eq_by_cmp}
@@ -179,12 +179,17 @@ Partner places j k = slice_get places j ≡ Some (Some k)
 abbrev pub OnlyFree : List (Option Name) → List (Option ℕ) → Type 0
 OnlyFree names places = (k : ℕ) (n : Name) → slice_get names k ≡ Some (Some n) → slice_get places k ≡ Some None
 
--- pairs are kept
+-- each pair is noted on both sides
+abbrev pub Agrees : Partners → Type 0
+Agrees p = (j k : ℕ) → (Partner p.lefts.items j k) ↔ (Partner p.rights.items k j)
+
+-- pairs are kept, and stay noted on both sides
 pub record Keeps (old new : Partners) : Type 0 where
   pub lefts_len : length new.lefts.items ≡ length old.lefts.items
   pub rights_len : length new.rights.items ≡ length old.rights.items
   pub left : (j k : ℕ) → Partner old.lefts.items j k → Partner new.lefts.items j k
   pub right : (j k : ℕ) → Partner old.rights.items k j → Partner new.rights.items k j
+  pub agrees : Agrees old → Agrees new
 
 -- these places are a pair now, and nothing else changed
 pub record Takes (old new : Partners) (left right : ℕ) : Type 0 where
@@ -231,19 +236,40 @@ HasPair steps j k = (i : ℕ) × (moved : Bool) × (slice_get steps i ≡ Some (
 abbrev pub HasPairsFrom : ℕ → List (Places × Bool) → (ℕ → ℕ → Type 0) → Type 0
 HasPairsFrom first steps Pairs = (j k : ℕ) → Pairs j k → HasPair steps (first + j) (first + k)
 
--- the list goes on
-abbrev pub GoesOn : List (Places × Bool) → List (Places × Bool) → Type 0
-GoesOn old new = (more : List (Places × Bool)) × (new ≡ old ++ more)
+-- no place of either list is in two pairs among the steps
+pub record OneToOne (steps : List (Places × Bool)) : Type 0 where
+  pub left : (a b c : ℕ) → HasPair steps a b → HasPair steps a c → b ≡ c
+  pub right : (a b c : ℕ) → HasPair steps a c → HasPair steps b c → a ≡ b
 
--- The pairs at the first so many right places are among the steps, whose places begin at this one and fit.
-abbrev pub StepsTo : ℕ → Partners → ℕ → List (Places × Bool) → Type 0
-StepsTo first p upto steps = (j k : ℕ) → k < upto → Partner p.rights.items k j → first + j < 2 ^ 64 → first + k < 2 ^ 64 → HasPair steps (first + j) (first + k)
+-- These pairs of the lists are among the steps, whose places begin at this one, and no place is in two pairs.
+pub record TellsPairs (first : ℕ) (steps : List (Places × Bool)) (Pairs : ℕ → ℕ → Type 0) : Type 0 where
+  pub has : HasPairsFrom first steps Pairs
+  pub once : OneToOne steps
+
+-- the list goes on, without a pair more
+pub record GoesOn (old new : List (Places × Bool)) : Type 0 where
+  pub more : List (Places × Bool)
+  pub on : new ≡ old ++ more
+  pub no_pair : (a b : ℕ) → HasPair new a b → HasPair old a b
+
+-- a pair whose places begin at this one, or are the greatest number where they do not fit
+pub record IsTold (first : ℕ) (p : Partners) (a b : ℕ) : Type 0 where
+  pub j : ℕ
+  pub k : ℕ
+  pub is : Partner p.rights.items k j
+  pub left : a ≡ min (j + first) (2 ^ 64 - 1)
+  pub right : b ≡ min (k + first) (2 ^ 64 - 1)
+
+-- The pairs at the first so many right places are among the steps, whose places begin at this one and fit, and no others are.
+pub record StepsTo (first : ℕ) (p : Partners) (upto : ℕ) (steps : List (Places × Bool)) : Type 0 where
+  pub has : (j k : ℕ) → k < upto → Partner p.rights.items k j → first + j < 2 ^ 64 → first + k < 2 ^ 64 → HasPair steps (first + j) (first + k)
+  pub only : (a b : ℕ) → HasPair steps a b → IsTold first p a b
 
 abbrev pub StepsOf : ℕ → Partners → List (Places × Bool) → Type 0
 StepsOf first p steps = StepsTo first p (length p.rights.items) steps
 
 -- Items that are equal and equally often in either list are pairs, and then those that one naming after the other makes pairs, unless the
--- items have too many entries.
+-- items have too many entries. No item is in two pairs.
 abbrev pub PairsNamed : Graph → List NodeId → List NodeId → ℕ → List Naming → List (Places × Bool) → Type 0
 PairsNamed g lefts rights first cs steps =
-    Within g lefts rights → (IsWeighty g lefts rights → ⊥) → first + length lefts < 2 ^ 64 → first + length rights < 2 ^ 64 → HasPairsFrom first steps (PairsBy g lefts rights cs)
+    Within g lefts rights → (IsWeighty g lefts rights → ⊥) → first + length lefts < 2 ^ 64 → first + length rights < 2 ^ 64 → TellsPairs first steps (PairsBy g lefts rights cs)
