@@ -1,10 +1,9 @@
 //! The differences and moves that lines tell.
 ghost use Rattle.std.specs.Prelude.{◌≡◌, ◌<◌, ◌≤◌, ◌&&◌, ◌==◌, true, false, take, drop, length, IfOk, IfErr};
-ghost use Rattle.std.specs.List.{list_any};
 ghost use Rattle.yaml_graph.specs.GraphView.{roots_of};
 ghost use Rattle.yaml_rank.specs.RanksView.{RanksAre};
 ghost use Rattle.yaml_diff.specs.Found.{FindsItems};
-ghost use Rattle.review_lines.specs.Searched.{room_for, is_high, least_room, search_room, Searches};
+ghost use Rattle.review_lines.specs.Searched.{room_for, least_room, search_room, Searches};
 
 use review_args::Diff;
 use review_patterns::Pattern;
@@ -57,23 +56,16 @@ const FEW: usize = 10_000;
 /// The greatest height of a document that is not high.
 const LOW: u32 = 100;
 
-/// Whether a document is high.
-fn is_deep(graph: &Graph<'_>) -> bool
-    ensures { result ≡ list_any (is_high graph.now) (roots_of graph.now) }
-{
-    for root in graph.roots() {
-        if graph.height(*root) > LOW {
-            return true;
-        }
-    }
-    false
-}
-
 /// So many, but few where a document is high.
 fn least_room(graph: &Graph<'_>, many: usize) -> usize
     ensures { result ≡ least_room graph.now many }
 {
-    if is_deep(graph) { FEW } else { many }
+    for root in graph.roots() {
+        if graph.height(*root) > LOW {
+            return FEW;
+        }
+    }
+    many
 }
 
 /// Room for so many lines, and for one at least, without which no list would tell whether there is a difference.

@@ -1,6 +1,6 @@
 //! How many differences and moves there are.
 ghost use Rattle.std.specs.Prelude.{◌≡◌, ◌++◌, decimal, string_bytes, OnOk, IfOk, IfErr};
-ghost use Rattle.review_lines.specs.Stat.{is_added, is_removed, is_changed, added, removed, changed, moved, moves_text, whole_text, stat_line, stat_json, numbers_text, lists_nothing, stat_text};
+ghost use Rattle.review_lines.specs.Stat.{is_added, is_removed, is_changed, added, removed, changed, moved, moves_text, whole_text, stat_line, stat_json, numbers_text, stat_text};
 
 use review_args::{Diff, Form};
 use review_text::put_shown;
@@ -125,20 +125,13 @@ fn put_numbers(out: &mut String, asked: &Diff<'_>, found: &Found) -> Result<(), 
     }
 }
 
-/// Whether no difference is listed, and no move.
-fn lists_nothing(found: &Found) -> bool
-    ensures { result ≡ lists_nothing found.now }
-{
-    found.list.is_empty() && found.moves.is_empty()
-}
-
 /// The numbers of differences and moves as a line; no line where none is asked for, or where nothing is listed.
 pub(crate) fn stat_text(alloc: Global, asked: &Diff<'_>, found: &Found) -> Result<String, Fault>
     ensures ok { IfOk result (λ text. string_bytes text ≡ stat_text asked.now found.now) }
     ensures err { IfErr result (λ fault. fault ≡ Fault.OutOfMemory) }
 {
     let mut out = String::new(alloc);
-    if asked.lines == 0 || lists_nothing(found) {
+    if asked.lines == 0 || (found.list.is_empty() && found.moves.is_empty()) {
         return Ok(out);
     }
     put_numbers(&mut out, asked, found)?;
