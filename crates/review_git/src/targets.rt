@@ -1,6 +1,7 @@
 //! What a link or a submodule was and is.
 ghost use Rattle.std.specs.Prelude.{◌≡◌, ◌==◌, ◌++◌, ℕ, List, OnOk, string_bytes};
 ghost use Rattle.std.specs.List.{before_first};
+ghost use Rattle.yaml_definitions.specs.grammar.Characters.{b-line-feed};
 ghost use Rattle.review_git.specs.Files.{IsBehind, IsTarget, targets_line, TellsTargets, TellsBothTargets};
 ghost use Rattle.review_git.specs.Texts.{OfTargets};
 
@@ -19,7 +20,7 @@ const COMMIT: &str = "Subproject commit ";
 
 /// The first line of a text.
 fn line_of(text: &str) -> &str
-    ensures { result.now ≡ before_first (λ b. b == 10) text.now }
+    ensures { result.now ≡ before_first (λ b. b == b-line-feed) text.now }
 {
     match text.split_once('\n') {
         Some((line, _)) => line,

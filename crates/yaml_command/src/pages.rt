@@ -6,6 +6,7 @@ ghost use Rattle.yaml_text.specs.EventModel.{event_of};
 ghost use Rattle.yaml_definitions.specs.model.EventText.{event_line, events_text};
 ghost use Rattle.yaml_spell.specs.Writers.{CutOff};
 ghost use Rattle.yaml_text.specs.Writers.{Printed};
+ghost use Rattle.yaml_definitions.specs.grammar.Characters.{b-line-feed};
 ghost use Rattle.yaml_command.specs.Pages.{PageHas, PagesFail};
 ghost use Rattle.yaml_command.specs.Printing.{PrintFails};
 
@@ -41,7 +42,7 @@ fn write_pages<W: Write>(
     out: &mut Counted<W>,
 ) -> Result<(), Fault>
     requires empty { string_bytes page.old ≡ [] }
-    requires room { All (λ e. 4096 + length (event_line e ++ (10 ∷ [])) ≤ string_capacity page.old) (map event_of events.now) }
+    requires room { All (λ e. 4096 + length (event_line e ++ (b-line-feed ∷ [])) ≤ string_capacity page.old) (map event_of events.now) }
     requires few { faults_of out.old < 2 ^ 64 - 1 }
     ensures ok { OnOk result (Printed W.contents out.old out.new (events_text (map event_of events.now))) }
     ensures err { IfErr result (PrintFails W.contents out.old out.new (events_text (map event_of events.now))) }

@@ -40,5 +40,9 @@ abbrev pub pointed_text : (first more : List ℕ) → List ℕ
 pointed_text [] more = []
 pointed_text (c ∷ x) more = mantissa_text (c ∷ (x ++ more))
 
+-- `-`
+abbrev pub minus_sign : ℕ
+minus_sign = 45
+
 abbrev pub float_text : Bool → List ℕ → ℤ → List ℕ
-float_text negative digits e = cond negative (45 ∷ []) [] ++ (mantissa_text digits ++ exponent_text e)
+float_text negative digits e = cond negative (minus_sign ∷ []) [] ++ (mantissa_text digits ++ exponent_text e)

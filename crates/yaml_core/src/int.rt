@@ -5,6 +5,7 @@ ghost use Rattle.std.specs.Cow.{cow_str_bytes};
 ghost use Rattle.yaml_definitions.specs.model.Core.{are_digits, number_in, unsigned, int_value, natural_text, refused};
 ghost use Rattle.yaml_core.specs.CoreAnswer.{IsContent, RefusesValue};
 ghost use Rattle.yaml_core.specs.State.{all_digits};
+ghost use Rattle.yaml_core.specs.Decimal.{minus_sign};
 ghost use Rattle.yaml_core.specs.Digits.{most_of};
 ghost use Rattle.yaml_core.specs.Values.{decimal_int};
 
@@ -46,7 +47,7 @@ fn most(negative: bool) -> u128
 
 /// These digits after a minus sign.
 fn minus<'a>(alloc: Global, digits: &str) -> Result<CowStr<'a>, CoreFault>
-    ensures { MatchResult result (λ c. cow_str_bytes c ≡ 45 ∷ digits.now) (λ fault. fault ≡ CoreFault.OutOfMemory) }
+    ensures { MatchResult result (λ c. cow_str_bytes c ≡ minus_sign ∷ digits.now) (λ fault. fault ≡ CoreFault.OutOfMemory) }
 {
     let mut out = String::from_str(alloc, "-").map_err(|_| CoreFault::OutOfMemory)?;
     out.push_str(digits).map_err(|_| CoreFault::OutOfMemory)?;

@@ -13,6 +13,7 @@ ghost use Rattle.yaml_text.specs.declared.fault.Fault.TheVariants.{OutOfMemory};
 ghost use Rattle.yaml_sink.specs.PropertyRules.{props_of};
 ghost use Rattle.yaml_sink.specs.SinkModel.{start_of, end_of};
 ghost use Rattle.yaml_read.specs.Decided.{IsAlone, HasNoReading};
+ghost use Rattle.yaml_definitions.specs.grammar.Characters.{b-line-feed};
 ghost use Rattle.yaml_event_text.specs.LinesHeld.{LinesHold, Begins, Grows, Inserts, Fills, Gives, IsBeside, DressesLine};
 ghost use Rattle.yaml_event_text.specs.Slots.{props_text};
 
@@ -52,7 +53,7 @@ fn spare_of(len: usize) -> usize {
 /// The line of a collection's start, without properties and with its LF.
 #[tactic(auto, unfolding(yaml_definitions::specs::model::EventText::event_line))]
 fn start_line(collection: Collection, flow: bool) -> &'static str
-    ensures { result.now ≡ event_line (start_of collection flow) ++ (10 ∷ []) }
+    ensures { result.now ≡ event_line (start_of collection flow) ++ (b-line-feed ∷ []) }
 {
     match (collection, flow) {
         (Collection::Sequence, false) => "+SEQ\n",
@@ -65,7 +66,7 @@ fn start_line(collection: Collection, flow: bool) -> &'static str
 /// The line of a collection's end, with its LF.
 #[tactic(auto, unfolding(yaml_definitions::specs::model::EventText::event_line))]
 fn end_line(collection: Collection) -> &'static str
-    ensures { result.now ≡ event_line (end_of collection) ++ (10 ∷ []) }
+    ensures { result.now ≡ event_line (end_of collection) ++ (b-line-feed ∷ []) }
 {
     match collection {
         Collection::Sequence => "-SEQ\n",

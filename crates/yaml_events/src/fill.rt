@@ -3,6 +3,7 @@ ghost use Rattle.std.specs.Prelude.{◌≡◌, ◌<◌, ◌≤◌, ◌+◌, ◌�
 ghost use Rattle.std.specs.String.{string_bytes, string_len, string_capacity};
 ghost use Rattle.yaml_text.specs.EventModel.{event_of};
 ghost use Rattle.yaml_definitions.specs.model.EventText.{event_line, events_text};
+ghost use Rattle.yaml_definitions.specs.grammar.Characters.{b-line-feed};
 ghost use Rattle.yaml_events.specs.Overwriting.{Overwrites, Turns, Fills};
 
 use crate::page::{PAGE, page_for};
@@ -105,7 +106,7 @@ fn turn(page: &mut String, room: &mut [u8], at: usize) -> usize
 /// takes no memory, and is always done. The answer is the text's length.
 fn turn_pages(events: &[Event<'_>], page: &mut String, room: &mut [u8]) -> Result<usize, Fault>
     requires empty { string_bytes page.old ≡ [] }
-    requires lines { All (λ e. 4096 + length (event_line e ++ (10 ∷ [])) ≤ string_capacity page.old) (map event_of events.now) }
+    requires lines { All (λ e. 4096 + length (event_line e ++ (b-line-feed ∷ [])) ≤ string_capacity page.old) (map event_of events.now) }
     requires long { length (events_text (map event_of events.now)) ≤ length room.old }
     ensures done { IsOk result }
     ensures fills { IfOk result (Fills (events_text (map event_of events.now)) room.old room.new) }

@@ -4,6 +4,7 @@ ghost use Rattle.std.specs.Option.{option_map};
 ghost use Rattle.std.specs.Cow.{cow_str_bytes};
 ghost use Rattle.yaml_text.specs.EventModel.{event_of, written_of};
 ghost use Rattle.yaml_definitions.specs.model.EventText.{event_line, events_text, anchor_part, tag_part};
+ghost use Rattle.yaml_definitions.specs.grammar.Characters.{b-line-feed};
 
 use std::borrow::CowStr;
 use yaml_text::event::{Event, EventTag};
@@ -34,7 +35,7 @@ fn tag_len(tag: &EventTag<'_>) -> usize
 
 /// A number of bytes that an event's line with its LF does not exceed.
 fn line_bound(event: &Event<'_>) -> u128
-    ensures { length (event_line (event_of event.now) ++ (10 ∷ [])) ≤ result }
+    ensures { length (event_line (event_of event.now) ++ (b-line-feed ∷ [])) ≤ result }
 {
     match event {
         Event::SequenceStart { anchor, tag, .. } | Event::MappingStart { anchor, tag, .. } => {
@@ -58,7 +59,7 @@ fn line_bound(event: &Event<'_>) -> u128
 /// taken: each byte of a tag is taken as three, and each of a value as two. `OutOfMemory` means that
 /// the number is past the greatest `usize`.
 pub fn longest_line(events: &[Event<'_>]) -> Result<usize, Fault>
-    ensures ok { IfOk result (λ most. All (λ e. length (event_line e ++ (10 ∷ [])) ≤ most) (map event_of events.now)) }
+    ensures ok { IfOk result (λ most. All (λ e. length (event_line e ++ (b-line-feed ∷ [])) ≤ most) (map event_of events.now)) }
     ensures only { IfErr result (λ fault. fault ≡ Fault.OutOfMemory) }
 {
     let mut most: u128 = 0;

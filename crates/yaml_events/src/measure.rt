@@ -5,6 +5,7 @@ ghost use Rattle.std.specs.Cow.{cow_str_bytes};
 ghost use Rattle.yaml_text.specs.EventModel.{event_of, written_of};
 ghost use Rattle.yaml_definitions.specs.canonical.TagText.{encoded, spell_byte};
 ghost use Rattle.yaml_definitions.specs.model.EventText.{event_line, events_text, anchor_part, tag_part, flag_text, value_byte, value_text};
+ghost use Rattle.yaml_definitions.specs.grammar.Characters.{b-line-feed};
 
 use std::borrow::CowStr;
 use yaml_text::class::is_uri;
@@ -115,7 +116,7 @@ fn value_len(text: &str) -> u128
 /// How many bytes an event's line has with its LF.
 #[tactic(auto, unfolding(yaml_definitions::specs::model::EventText::event_line))]
 fn line_len(event: &Event<'_>) -> u128
-    ensures { result ≡ length (event_line (event_of event.now) ++ (10 ∷ [])) }
+    ensures { result ≡ length (event_line (event_of event.now) ++ (b-line-feed ∷ [])) }
 {
     match event {
         Event::StreamStart | Event::StreamEnd | Event::SequenceEnd | Event::MappingEnd => BARE,

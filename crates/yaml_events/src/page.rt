@@ -3,6 +3,7 @@ ghost use Rattle.std.specs.Prelude.{◌≡◌, ◌≤◌, ◌+◌, ◌∷◌, �
 ghost use Rattle.std.specs.String.{string_bytes, string_capacity};
 ghost use Rattle.yaml_text.specs.EventModel.{event_of};
 ghost use Rattle.yaml_definitions.specs.model.EventText.{event_line};
+ghost use Rattle.yaml_definitions.specs.grammar.Characters.{b-line-feed};
 
 use crate::length::longest_line;
 use std::alloc::Global;
@@ -15,7 +16,7 @@ pub const PAGE: usize = 4096;
 /// An empty page with room for any one of the events' lines. The only error is `OutOfMemory`.
 pub fn page_for(alloc: Global, events: &[Event<'_>]) -> Result<String, Fault>
     ensures empty { IfOk result (λ page. string_bytes page ≡ []) }
-    ensures room { IfOk result (λ page. All (λ e. 4096 + length (event_line e ++ (10 ∷ [])) ≤ string_capacity page) (map event_of events.now)) }
+    ensures room { IfOk result (λ page. All (λ e. 4096 + length (event_line e ++ (b-line-feed ∷ [])) ≤ string_capacity page) (map event_of events.now)) }
     ensures only { IfErr result (λ fault. fault ≡ Fault.OutOfMemory) }
 {
     let most = longest_line(events)?;

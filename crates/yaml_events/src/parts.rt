@@ -6,6 +6,7 @@ ghost use Rattle.std.specs.String.{string_bytes};
 ghost use Rattle.yaml_text.specs.EventModel.{style_of, written_of};
 ghost use Rattle.yaml_definitions.specs.model.Event.{untagged, scalar_event};
 ghost use Rattle.yaml_definitions.specs.model.EventText.{event_line, anchor_part, tag_part, style_text};
+ghost use Rattle.yaml_definitions.specs.grammar.Characters.{b-line-feed};
 
 use crate::name::push_anchor;
 use crate::sink::Sink;
@@ -32,7 +33,7 @@ fn before_value(style: Style) -> &'static str
 /// of the line.
 #[tactic(auto, unfolding(yaml_definitions::specs::model::EventText::event_line))]
 pub fn push_scalar_line(style: Style, text: &str, out: &mut String) -> Result<(), Fault>
-    ensures ok { OnOk result (string_bytes out.new ≡ string_bytes out.old ++ (event_line (scalar_event None untagged (style_of style) text.now) ++ (10 ∷ []))) }
+    ensures ok { OnOk result (string_bytes out.new ≡ string_bytes out.old ++ (event_line (scalar_event None untagged (style_of style) text.now) ++ (b-line-feed ∷ []))) }
     ensures only { IfErr result (λ fault. fault ≡ Fault.OutOfMemory) }
 {
     out.put(before_value(style))?;

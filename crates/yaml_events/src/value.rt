@@ -3,6 +3,7 @@ ghost use Rattle.std.specs.Prelude.{◌≡◌, ◌<◌, ◌≤◌, ◌+◌, ◌+
 ghost use Rattle.std.specs.Str.{IsUtf8};
 ghost use Rattle.std.specs.Cow.{cow_str_bytes};
 ghost use Rattle.yaml_definitions.specs.model.EventText.{value_byte, value_text};
+ghost use Rattle.yaml_definitions.specs.grammar.Characters.{c-escape};
 ghost use Rattle.yaml_events.specs.LineAnswer.{Parses};
 
 use crate::fault::LineFault;
@@ -65,7 +66,7 @@ pub fn push_value<S: Sink>(text: &str, out: &mut S) -> Result<(), AllocError>
 /// What a backslash and this byte stand for in a value.
 #[tactic(auto, unfolding(yaml_definitions::specs::model::EventText::value_byte))]
 fn unescape(byte: u8) -> Option<char>
-    ensures { MatchOption result ((b : ℕ) → value_byte b ≢ 92 ∷ byte ∷ []) (λ c. (value_byte c ≡ 92 ∷ byte ∷ []) × (byte < 128) × (c < 128)) }
+    ensures { MatchOption result ((b : ℕ) → value_byte b ≢ c-escape ∷ byte ∷ []) (λ c. (value_byte c ≡ c-escape ∷ byte ∷ []) × (byte < 128) × (c < 128)) }
 {
     match byte {
         b'\\' => Some('\\'),

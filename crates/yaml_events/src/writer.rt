@@ -5,6 +5,7 @@ ghost use Rattle.std.specs.Cow.{cow_str_bytes};
 ghost use Rattle.std.specs.String.{string_bytes, string_len, string_capacity};
 ghost use Rattle.yaml_text.specs.EventModel.{event_of, style_of, written_of};
 ghost use Rattle.yaml_definitions.specs.model.EventText.{EventText, IsSound, event_line, anchor_part, tag_part, style_text, flag_text, value_text};
+ghost use Rattle.yaml_definitions.specs.grammar.Characters.{b-line-feed};
 
 use crate::name::push_anchor;
 use crate::sink::Sink;
@@ -122,10 +123,10 @@ fn push_event<S: Sink>(event: &Event<'_>, out: &mut S) -> Result<(), AllocError>
 
 /// Appends an event's line with its LF. It fails only if there is no room for it. A part of the line may then be there.
 pub fn put_line<S: Sink>(event: &Event<'_>, out: &mut S) -> Result<(), AllocError>
-    ensures ok { OnOk result (S.bytes out.new ≡ S.bytes out.old ++ (event_line (event_of event.now) ++ (10 ∷ []))) }
+    ensures ok { OnOk result (S.bytes out.new ≡ S.bytes out.old ++ (event_line (event_of event.now) ++ (b-line-feed ∷ []))) }
     ensures keeps { S.room out.old ≤ S.room out.new }
     ensures lent { S.lent out.new ≡ S.lent out.old }
-    ensures full { OnErr result (S.room out.old < length (S.bytes out.old) + length (event_line (event_of event.now) ++ (10 ∷ []))) }
+    ensures full { OnErr result (S.room out.old < length (S.bytes out.old) + length (event_line (event_of event.now) ++ (b-line-feed ∷ []))) }
 {
     push_event(event, out)?;
     out.put("\n")
@@ -134,9 +135,9 @@ pub fn put_line<S: Sink>(event: &Event<'_>, out: &mut S) -> Result<(), AllocErro
 /// Appends an event's line with its LF, as `write_events` writes it. The only error is `OutOfMemory`, only if the text had no
 /// room for the line. A part of the line may then be there.
 pub fn push_line(event: &Event<'_>, out: &mut String) -> Result<(), Fault>
-    ensures ok { OnOk result (string_bytes out.new ≡ string_bytes out.old ++ (event_line (event_of event.now) ++ (10 ∷ []))) }
+    ensures ok { OnOk result (string_bytes out.new ≡ string_bytes out.old ++ (event_line (event_of event.now) ++ (b-line-feed ∷ []))) }
     ensures keeps { string_capacity out.old ≤ string_capacity out.new }
-    ensures full { OnErr result (string_capacity out.old < string_len out.old + length (event_line (event_of event.now) ++ (10 ∷ []))) }
+    ensures full { OnErr result (string_capacity out.old < string_len out.old + length (event_line (event_of event.now) ++ (b-line-feed ∷ []))) }
     ensures only { IfErr result (λ fault. fault ≡ Fault.OutOfMemory) }
 {
     put_line(event, out)?;

@@ -4,6 +4,34 @@
 use Rattle.std.specs.Prelude.{◌≡◌, ◌||◌, ◌==◌, ℕ, Bool, true, List, [], ◌∷◌, ◌++◌, codes}
 use Rattle.std.specs.Int.{is_in_range}
 
+-- ---- characters by their names in the standard (2, 7)
+
+-- `[`
+abbrev pub left-square-bracket : ℕ
+left-square-bracket = 91
+
+-- `{`
+abbrev pub left-curly-bracket : ℕ
+left-curly-bracket = 123
+
+-- `:`
+abbrev pub colon : ℕ
+colon = 58
+
+-- `"`
+abbrev pub quotation-mark : ℕ
+quotation-mark = 34
+
+-- `\`
+abbrev pub reverse-solidus : ℕ
+reverse-solidus = 92
+
+-- `u`, which comes before the four digits of an escape
+abbrev pub letter-u : ℕ
+letter-u = 117
+
+-- ---- the grammar
+
 -- white space (2): a space, a tab, a line feed or a carriage return
 abbrev pub is_white : ℕ → Bool
 is_white c = c == 32 || c == 9 || c == 10 || c == 13

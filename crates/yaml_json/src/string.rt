@@ -1,6 +1,6 @@
 //! Strings (RFC 8259, 7).
 ghost use Rattle.std.specs.Prelude.{◌≡◌, ◌∷◌, true, List, ℕ, IfSome};
-ghost use Rattle.yaml_json.specs.Json.{is_hex_digit, is_unescaped, is_escaped, Chars, Str};
+ghost use Rattle.yaml_json.specs.Json.{is_hex_digit, is_unescaped, is_escaped, Chars, Str, letter-u, quotation-mark, reverse-solidus};
 
 use crate::bytes::{after_byte, first};
 
@@ -33,7 +33,7 @@ fn after_hex_digit(bytes: &[u8]) -> Option<&[u8]>
 
 /// The bytes after the four digits of an escape, whose `\u` is before them.
 fn after_code_point(bytes: &[u8]) -> Option<&[u8]>
-    ensures { IfSome result (λ rest. (r : List ℕ) → Chars rest.now r → Chars (92 ∷ 117 ∷ bytes.now) r) }
+    ensures { IfSome result (λ rest. (r : List ℕ) → Chars rest.now r → Chars (reverse-solidus ∷ letter-u ∷ bytes.now) r) }
 {
     let one = after_hex_digit(bytes)?;
     let two = after_hex_digit(one)?;
@@ -44,7 +44,7 @@ fn after_code_point(bytes: &[u8]) -> Option<&[u8]>
 
 /// The bytes after an escape, whose `\` is before them.
 fn after_escape(bytes: &[u8]) -> Option<&[u8]>
-    ensures { IfSome result (λ rest. (r : List ℕ) → Chars rest.now r → Chars (92 ∷ bytes.now) r) }
+    ensures { IfSome result (λ rest. (r : List ℕ) → Chars rest.now r → Chars (reverse-solidus ∷ bytes.now) r) }
 {
     let (c, rest) = first(bytes)?;
     if is_escaped(c) {
@@ -72,7 +72,7 @@ fn after_char(bytes: &[u8]) -> Option<&[u8]>
 
 /// The bytes after the quotation mark that ends a string.
 fn after_chars(bytes: &[u8]) -> Option<&[u8]>
-    ensures { IfSome result (λ rest. Chars bytes.now (34 ∷ rest.now)) }
+    ensures { IfSome result (λ rest. Chars bytes.now (quotation-mark ∷ rest.now)) }
 {
     let mut rest = bytes;
     'chars: for _ in 0..bytes.len() {

@@ -1,6 +1,6 @@
 //! Values and texts (RFC 8259, 2 to 5). What is open is kept in a list, so the stack does not grow with the nesting.
 ghost use Rattle.std.specs.Prelude.{◌≡◌, ◌∷◌, ◌++◌, [], List, ℕ, IfSome, IfOk, IsTrue};
-ghost use Rattle.yaml_json.specs.Json.{Ws, Str, Value, IsJson};
+ghost use Rattle.yaml_json.specs.Json.{Ws, Str, Value, IsJson, colon, left-curly-bracket, left-square-bracket};
 ghost use Rattle.yaml_json.specs.Reading.{GoesAt, Ends, GoesOn};
 ghost use Rattle.yaml_json.specs.declared.next.Next.TheVariants as next;
 ghost use Rattle.yaml_json.specs.declared.next.Collection.TheVariants as collections;
@@ -66,7 +66,7 @@ fn after_scalar(bytes: &[u8]) -> Option<&[u8]>
 
 /// The bytes after the name of a member and its colon.
 fn after_name(bytes: &[u8]) -> Option<&[u8]>
-    ensures { IfSome result (λ rest. (t : List ℕ) × Str bytes.now t × Ws t (58 ∷ rest.now)) }
+    ensures { IfSome result (λ rest. (t : List ℕ) × Str bytes.now t × Ws t (colon ∷ rest.now)) }
 {
     let colon = after_string(bytes)?;
     let rest = after_byte(after_white(colon), b':')?;
@@ -75,7 +75,7 @@ fn after_name(bytes: &[u8]) -> Option<&[u8]>
 
 /// Goes on after the `[` of an array.
 fn begin_array<'a>(around: &mut Vec<Collection>, bytes: &'a [u8]) -> Result<Next<'a>, AllocError>
-    ensures { IfOk result (λ n. GoesOn around.new.items n → GoesAt around.old.items (91 ∷ bytes.now)) }
+    ensures { IfOk result (λ n. GoesOn around.new.items n → GoesAt around.old.items (left-square-bracket ∷ bytes.now)) }
 {
     let inside = after_white(bytes);
     if let Some(rest) = after_byte(inside, b']') {
@@ -87,7 +87,7 @@ fn begin_array<'a>(around: &mut Vec<Collection>, bytes: &'a [u8]) -> Result<Next
 
 /// Goes on after the `{` of an object.
 fn begin_object<'a>(around: &mut Vec<Collection>, bytes: &'a [u8]) -> Result<Next<'a>, AllocError>
-    ensures { IfOk result (λ n. GoesOn around.new.items n → GoesAt around.old.items (123 ∷ bytes.now)) }
+    ensures { IfOk result (λ n. GoesOn around.new.items n → GoesAt around.old.items (left-curly-bracket ∷ bytes.now)) }
 {
     let inside = after_white(bytes);
     if let Some(rest) = after_byte(inside, b'}') {

@@ -5,6 +5,7 @@ ghost use Rattle.yaml_text.specs.Source.{text_of, place_of, IsBorder};
 ghost use Rattle.yaml_text.specs.Calls as calls;
 ghost use Rattle.yaml_definitions.specs.grammar.Separation.{s-l-comments as s_l_comments, l-comment as l_comment, StartsLine, AtEnd};
 ghost use Rattle.yaml_text.specs.Lines.{Uncut};
+ghost use Rattle.yaml_definitions.specs.grammar.Characters.{b-line-feed};
 
 use crate::starts::begins_text;
 use yaml_text::chars::Chars;
@@ -16,7 +17,7 @@ use yaml_text::places::{accept, is_border};
 pub fn is_cut(source: &Chars<'_>, at: usize) -> bool
     requires { IsBorder source.now at }
     ensures yes { OnTrue result (Uncut (text_of source.now) (place_of source.now at) → ⊥) }
-    ensures feed { OnTrue result (slice_get (text_of source.now) (place_of source.now at) ≡ Some 10) }
+    ensures feed { OnTrue result (slice_get (text_of source.now) (place_of source.now at) ≡ Some b-line-feed) }
     ensures no { OnFalse result (Uncut (text_of source.now) (place_of source.now at)) }
 {
     match accept(source, at, '\n') {

@@ -2,6 +2,7 @@
 ghost use Rattle.std.specs.Prelude.{◌≡◌, ◌≤◌, ◌<◌, ℕ, true, length, slice_index};
 ghost use Rattle.yaml_definitions.specs.grammar.Separation.{flow_in};
 ghost use Rattle.yaml_text.specs.EventModel.{context_of};
+ghost use Rattle.yaml_definitions.specs.grammar.Characters.{c-double-quote, c-single-quote};
 ghost use Rattle.yaml_scalar.specs.Chains.{plain_inner, plain_head, plain_sign, verbatim};
 
 use yaml_text::class::{is_indicator, is_ns, is_plain_safe};
@@ -62,8 +63,8 @@ pub fn is_verbatim(quote: char, c: char) -> bool
 #[inline]
 fn is_quoted_byte(byte: u8) -> bool
     ensures ascii { result ≡ true → byte < 128 }
-    ensures single { result ≡ true → verbatim 39 byte ≡ true }
-    ensures double { result ≡ true → verbatim 34 byte ≡ true }
+    ensures single { result ≡ true → verbatim c-single-quote byte ≡ true }
+    ensures double { result ≡ true → verbatim c-double-quote byte ≡ true }
 {
     // most are told by one comparison
     (byte >= b'a' && byte <= b'z')
@@ -91,8 +92,8 @@ fn is_plain_in_many(byte: u8) -> bool
 #[tactic(auto, unfolding(crate::specs::Chains::verbatim, yaml_definitions::specs::grammar::Characters::is_ns, yaml_definitions::specs::grammar::Characters::is_nb, yaml_definitions::specs::grammar::Characters::is_break, yaml_definitions::specs::grammar::Characters::is_white))]
 fn is_quoted_in_many(byte: u8) -> bool
     ensures ascii { result ≡ true → byte < 128 }
-    ensures single { result ≡ true → verbatim 39 byte ≡ true }
-    ensures double { result ≡ true → verbatim 34 byte ≡ true }
+    ensures single { result ≡ true → verbatim c-single-quote byte ≡ true }
+    ensures double { result ≡ true → verbatim c-double-quote byte ≡ true }
 {
     (byte > b' ') & (byte < 127) & (byte != b'"') & (byte != b'\'') & (byte != b'\\')
 }
@@ -125,7 +126,7 @@ pub fn plain_len(bytes: &[u8]) -> usize
 #[inline(never)]
 fn far_quoted_len(bytes: &[u8]) -> usize
     ensures len { result ≤ length bytes.now }
-    ensures front { (k : ℕ) → k < result → (slice_index bytes.now k < 128) × (verbatim 39 (slice_index bytes.now k) ≡ true) × (verbatim 34 (slice_index bytes.now k) ≡ true) }
+    ensures front { (k : ℕ) → k < result → (slice_index bytes.now k < 128) × (verbatim c-single-quote (slice_index bytes.now k) ≡ true) × (verbatim c-double-quote (slice_index bytes.now k) ≡ true) }
 {
     front_len(bytes, is_quoted_in_many)
 }
@@ -134,7 +135,7 @@ fn far_quoted_len(bytes: &[u8]) -> usize
 #[inline(always)]
 pub fn quoted_len(bytes: &[u8]) -> usize
     ensures len { result ≤ length bytes.now }
-    ensures front { (k : ℕ) → k < result → (slice_index bytes.now k < 128) × (verbatim 39 (slice_index bytes.now k) ≡ true) × (verbatim 34 (slice_index bytes.now k) ≡ true) }
+    ensures front { (k : ℕ) → k < result → (slice_index bytes.now k < 128) × (verbatim c-single-quote (slice_index bytes.now k) ≡ true) × (verbatim c-double-quote (slice_index bytes.now k) ≡ true) }
 {
     if bytes.len() > NEAR {
         let len = len_by_one(&bytes[..NEAR], &is_quoted_byte);

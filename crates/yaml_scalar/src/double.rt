@@ -7,7 +7,7 @@ ghost use Rattle.yaml_text.specs.LeafAnswer.{Only};
 ghost use Rattle.yaml_text.specs.EventModel.{context_of};
 ghost use Rattle.yaml_text.specs.Placed.{IsPlaced};
 ghost use Rattle.yaml_text.specs.Source.{text_of, place_of, IsBorder};
-ghost use Rattle.yaml_definitions.specs.grammar.FlowScalars.{c-double-quoted as double};
+ghost use Rattle.yaml_definitions.specs.grammar.FlowScalars.{c-double-quoted as double, line_feeds};
 ghost use Rattle.yaml_definitions.specs.grammar.Separation.{DocumentMark};
 ghost use Rattle.yaml_scalar.specs.Chains.{breaks, SolidStart, NoSolidBreaks};
 ghost use Rattle.yaml_text.specs.Lines.{line_brk};
@@ -54,7 +54,7 @@ fn read_solid_break(
     context: Ctx,
 ) -> Result<(usize, usize), Fault>
     requires { IsBorder source.now at }
-    ensures breaks { IfOk result (λ r. breaks (text_of source.now) least (context_of context) (place_of source.now at) (place_of source.now r.1) (replicate r.0 10)) }
+    ensures breaks { IfOk result (λ r. breaks (text_of source.now) least (context_of context) (place_of source.now at) (place_of source.now r.1) (line_feeds r.0)) }
     ensures onward { IfOk result (λ r. at < r.1) }
     ensures border { IfOk result (λ r. IsBorder source.now r.1) }
     ensures solid { IfOk result (λ r. SolidStart (text_of source.now) (place_of source.now r.1)) }

@@ -6,6 +6,7 @@ ghost use Rattle.yaml_text.specs.EventModel.{context_of};
 ghost use Rattle.yaml_definitions.specs.grammar.Rules.{Stands};
 ghost use Rattle.yaml_definitions.specs.grammar.Characters.{is_space, is_white, is_ns};
 ghost use Rattle.yaml_definitions.specs.grammar.Separation.{StartsLine, DocumentMark, s-indent as indent, s-indent-less-than as less};
+ghost use Rattle.yaml_definitions.specs.grammar.FlowScalars.{line_feeds};
 ghost use Rattle.yaml_scalar.specs.Chains.{margin, lead, breaks, NoLead, NoBreaks};
 
 use yaml_text::chars::Chars;
@@ -71,7 +72,7 @@ pub fn read_lead(source: &Chars<'_>, at: usize, least: usize) -> Result<(usize, 
     requires start { StartsLine (text_of source.now) (place_of source.now at) }
     ensures border { IfOk result (λ r. IsBorder source.now r.1) }
     ensures onward { IfOk result (λ r. at ≤ r.1) }
-    ensures lead { IfOk result (λ r. lead (text_of source.now) least (place_of source.now at) (place_of source.now r.1) (replicate r.0 10)) }
+    ensures lead { IfOk result (λ r. lead (text_of source.now) least (place_of source.now at) (place_of source.now r.1) (line_feeds r.0)) }
     ensures text { IfOk result (λ r. Stands (text_of source.now) is_ns (place_of source.now r.1)) }
     ensures unmarked { IfOk result (λ r. DocumentMark (text_of source.now) (place_of source.now r.1) → ⊥) }
     ensures none { IfErr result (λ _. NoLead (text_of source.now) least (place_of source.now at)) }
@@ -111,7 +112,7 @@ pub fn read_break(
     context: Ctx,
 ) -> Result<(usize, usize), usize>
     requires { IsBorder source.now at }
-    ensures breaks { IfOk result (λ r. breaks (text_of source.now) least (context_of context) (place_of source.now at) (place_of source.now r.1) (replicate r.0 10)) }
+    ensures breaks { IfOk result (λ r. breaks (text_of source.now) least (context_of context) (place_of source.now at) (place_of source.now r.1) (line_feeds r.0)) }
     ensures onward { IfOk result (λ r. at < r.1) }
     ensures border { IfOk result (λ r. IsBorder source.now r.1) }
     ensures text { IfOk result (λ r. Stands (text_of source.now) is_ns (place_of source.now r.1)) }

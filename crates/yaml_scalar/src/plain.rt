@@ -10,7 +10,7 @@ ghost use Rattle.yaml_text.specs.Placed.{IsPlaced};
 ghost use Rattle.yaml_text.specs.Source.{bytes_of, text_of, place_of, IsBorder};
 ghost use Rattle.yaml_text.specs.LeafAnswer.{Unread};
 ghost use Rattle.yaml_definitions.specs.grammar.Characters.{is_white};
-ghost use Rattle.yaml_definitions.specs.grammar.FlowScalars.{plain_safe, PlainFirst, ns-plain as plain};
+ghost use Rattle.yaml_definitions.specs.grammar.FlowScalars.{plain_safe, PlainFirst, ns-plain as plain, line_feeds};
 ghost use Rattle.yaml_definitions.specs.grammar.Rules.{run, Stands, any};
 ghost use Rattle.yaml_definitions.specs.grammar.Separation.{DocumentMark};
 ghost use Rattle.yaml_scalar.specs.Chains.{breaks, GoesOnBelow, Later, NoPlainLine, line_more, plain_inner};
@@ -136,7 +136,7 @@ fn line_below(
     context: Ctx,
 ) -> Option<(usize, usize, usize)>
     requires { IsBorder source.now stop }
-    ensures breaks { IfSome result (λ r. breaks (text_of source.now) least (context_of context) (place_of source.now stop) (place_of source.now r.1) (replicate r.0 10)) }
+    ensures breaks { IfSome result (λ r. breaks (text_of source.now) least (context_of context) (place_of source.now stop) (place_of source.now r.1) (line_feeds r.0)) }
     ensures onward { IfSome result (λ r. stop < r.1) }
     ensures border { IfSome result (λ r. IsBorder source.now r.1) }
     ensures steps { IfSome result (λ r. (c : ℕ) × Steps (bytes_of source.now) r.1 c r.2) }
@@ -169,7 +169,7 @@ fn next_line(
     context: Ctx,
 ) -> Option<(usize, usize, usize)>
     requires { IsBorder source.now stop }
-    ensures breaks { IfSome result (λ r. breaks (text_of source.now) least (context_of context) (place_of source.now stop) (place_of source.now r.1) (replicate r.0 10)) }
+    ensures breaks { IfSome result (λ r. breaks (text_of source.now) least (context_of context) (place_of source.now stop) (place_of source.now r.1) (line_feeds r.0)) }
     ensures onward { IfSome result (λ r. stop < r.1) }
     ensures border { IfSome result (λ r. IsBorder source.now r.1) }
     ensures steps { IfSome result (λ r. (c : ℕ) × Steps (bytes_of source.now) r.1 c r.2) }

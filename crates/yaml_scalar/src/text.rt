@@ -3,6 +3,7 @@ ghost use Rattle.std.specs.Prelude.{◌≡◌, ◌≤◌, ◌++◌, IfOk, slice_
 ghost use Rattle.std.specs.Str.{chars};
 ghost use Rattle.std.specs.String.{string_bytes};
 ghost use Rattle.yaml_text.specs.Source.{text_of, place_of, IsBorder};
+ghost use Rattle.yaml_definitions.specs.grammar.FlowScalars.{line_feeds};
 ghost use Rattle.yaml_scalar.specs.Chains.{folded_breaks};
 
 use std::alloc::AllocError;
@@ -11,7 +12,7 @@ use yaml_text::places::text_between;
 
 /// Puts so many LFs at the end of a text.
 pub fn push_lines(text: &mut String, count: usize) -> Result<(), AllocError>
-    ensures { IfOk result (λ _. chars (string_bytes text.new) ≡ chars (string_bytes text.old) ++ replicate count 10) }
+    ensures { IfOk result (λ _. chars (string_bytes text.new) ≡ chars (string_bytes text.old) ++ line_feeds count) }
 {
     for done in 0..count {
         text.push('\n')?;
@@ -21,7 +22,7 @@ pub fn push_lines(text: &mut String, count: usize) -> Result<(), AllocError>
 
 /// Puts one space, or an LF for each empty line of a fold, at the end of a text.
 pub fn push_fold(text: &mut String, count: usize) -> Result<(), AllocError>
-    ensures { IfOk result (λ _. chars (string_bytes text.new) ≡ chars (string_bytes text.old) ++ folded_breaks (replicate count 10)) }
+    ensures { IfOk result (λ _. chars (string_bytes text.new) ≡ chars (string_bytes text.old) ++ folded_breaks (line_feeds count)) }
 {
     if count == 0 {
         text.push(' ')

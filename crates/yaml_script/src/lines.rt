@@ -1,6 +1,7 @@
 //! The lines of a text.
 ghost use Rattle.std.specs.Prelude.{◌≡◌, ◌++◌, ◌∷◌, [], cond, true, IfOk, IfErr};
 ghost use Rattle.std.specs.List.{flat_map};
+ghost use Rattle.yaml_definitions.specs.grammar.Characters.{b-line-feed};
 ghost use Rattle.yaml_script.specs.Script.{content};
 
 use std::alloc::Global;
@@ -30,7 +31,7 @@ impl Piece<'_> {
 
 /// A line without the line feed at its end, and whether it has one.
 fn split_end(text: &str) -> (&str, bool)
-    ensures { result.0.now ++ cond result.1 (10 ∷ []) [] ≡ text.now }
+    ensures { result.0.now ++ cond result.1 (b-line-feed ∷ []) [] ≡ text.now }
 {
     match text.split_at_checked(text.len().saturating_sub(1)) {
         Some((line, "\n")) => (line, true),

@@ -5,6 +5,7 @@ ghost use Rattle.yaml_spell.specs.RankedNodes.{trees_of, pairs_of};
 ghost use Rattle.yaml_spell.specs.Walked.{separator};
 ghost use Rattle.yaml_show_scalar.specs.Stops.{limit_of, Stops};
 ghost use Rattle.yaml_show_scalar.specs.Texts.{written};
+ghost use Rattle.yaml_definitions.specs.grammar.Characters.{c-mapping-start, c-sequence-start};
 ghost use Rattle.yaml_show.specs.Flow.{is_short, mark, colon, flow_text, flow_items, flow_entries};
 
 use yaml_show_scalar::scalar::put_scalar;
@@ -104,9 +105,9 @@ fn put_flow_items<I: Copy, V: RankedNodes<I>>(
 ) -> Result<(), Stop>
     requires stands { V.stands view.now }
     requires within { All (λ i. V.number i < V.count view.now) items.now }
-    ensures ok { OnOk result (written out.new ≡ written out.old ++ (91 ∷ flow_items [] (trees_of V.tree V.number view.now items.now))) }
+    ensures ok { OnOk result (written out.new ≡ written out.old ++ (c-sequence-start ∷ flow_items [] (trees_of V.tree V.number view.now items.now))) }
     ensures limit { limit_of out.new ≡ limit_of out.old }
-    ensures err { IfErr result (Stops (limit_of out.old) (written out.old ++ (91 ∷ flow_items [] (trees_of V.tree V.number view.now items.now)))) }
+    ensures err { IfErr result (Stops (limit_of out.old) (written out.old ++ (c-sequence-start ∷ flow_items [] (trees_of V.tree V.number view.now items.now)))) }
 {
     out.put("[")?;
     for (place, item) in items.iter().enumerate() {
@@ -125,9 +126,9 @@ fn put_flow_entries<I: Copy, V: RankedNodes<I>>(
 ) -> Result<(), Stop>
     requires stands { V.stands view.now }
     requires within { All (λ p. (V.number p.0 < V.count view.now) × (V.number p.1 < V.count view.now)) entries.now }
-    ensures ok { OnOk result (written out.new ≡ written out.old ++ (123 ∷ flow_entries [] (pairs_of V.tree V.number view.now entries.now))) }
+    ensures ok { OnOk result (written out.new ≡ written out.old ++ (c-mapping-start ∷ flow_entries [] (pairs_of V.tree V.number view.now entries.now))) }
     ensures limit { limit_of out.new ≡ limit_of out.old }
-    ensures err { IfErr result (Stops (limit_of out.old) (written out.old ++ (123 ∷ flow_entries [] (pairs_of V.tree V.number view.now entries.now)))) }
+    ensures err { IfErr result (Stops (limit_of out.old) (written out.old ++ (c-mapping-start ∷ flow_entries [] (pairs_of V.tree V.number view.now entries.now)))) }
 {
     out.put("{")?;
     for (place, entry) in entries.iter().enumerate() {

@@ -11,6 +11,7 @@ ghost use Rattle.yaml_show_scalar.specs.Escapes.{quoted};
 ghost use Rattle.yaml_show_scalar.specs.declared.escapes.Language.TheVariants.{Json};
 ghost use Rattle.yaml_show_scalar.specs.Stops.{limit_of, Stops};
 ghost use Rattle.yaml_show_scalar.specs.Texts.{written};
+ghost use Rattle.yaml_definitions.specs.grammar.Characters.{c-mapping-start, c-sequence-start};
 ghost use Rattle.yaml_show.specs.JsonText.{json_scalar, json_key, json_text, json_items, json_entries, line_stream};
 ghost use Rattle.yaml_show.specs.JsonTrees.{scalar_has_json, key_has_json, has_json, items_have_json, entries_have_json, Says, Lacks, Overruns};
 
@@ -163,10 +164,10 @@ fn put_json_items<I: Copy, V: RankedNodes<I>>(
 ) -> Result<(), Unwritten>
     requires stands { V.stands view.now }
     requires within { All (λ i. V.number i < V.count view.now) items.now }
-    ensures ok { OnOk result (Says (items_have_json (trees_of V.tree V.number view.now items.now)) (91 ∷ json_items [] (trees_of V.tree V.number view.now items.now)) (written out.old) (written out.new)) }
+    ensures ok { OnOk result (Says (items_have_json (trees_of V.tree V.number view.now items.now)) (c-sequence-start ∷ json_items [] (trees_of V.tree V.number view.now items.now)) (written out.old) (written out.new)) }
     ensures err { IfErr result (Lacks (items_have_json (trees_of V.tree V.number view.now items.now))) }
     ensures limit { limit_of out.new ≡ limit_of out.old }
-    ensures stops { IfErr result (Overruns (limit_of out.old) (written out.old ++ (91 ∷ json_items [] (trees_of V.tree V.number view.now items.now)))) }
+    ensures stops { IfErr result (Overruns (limit_of out.old) (written out.old ++ (c-sequence-start ∷ json_items [] (trees_of V.tree V.number view.now items.now)))) }
 {
     out.put("[")?;
     for (place, item) in items.iter().enumerate() {
@@ -186,10 +187,10 @@ fn put_json_entries<I: Copy, V: RankedNodes<I>>(
 ) -> Result<(), Unwritten>
     requires stands { V.stands view.now }
     requires within { All (λ p. (V.number p.0 < V.count view.now) × (V.number p.1 < V.count view.now)) entries.now }
-    ensures ok { OnOk result (Says (entries_have_json (pairs_of V.tree V.number view.now entries.now)) (123 ∷ json_entries [] (pairs_of V.tree V.number view.now entries.now)) (written out.old) (written out.new)) }
+    ensures ok { OnOk result (Says (entries_have_json (pairs_of V.tree V.number view.now entries.now)) (c-mapping-start ∷ json_entries [] (pairs_of V.tree V.number view.now entries.now)) (written out.old) (written out.new)) }
     ensures err { IfErr result (Lacks (entries_have_json (pairs_of V.tree V.number view.now entries.now))) }
     ensures limit { limit_of out.new ≡ limit_of out.old }
-    ensures stops { IfErr result (Overruns (limit_of out.old) (written out.old ++ (123 ∷ json_entries [] (pairs_of V.tree V.number view.now entries.now)))) }
+    ensures stops { IfErr result (Overruns (limit_of out.old) (written out.old ++ (c-mapping-start ∷ json_entries [] (pairs_of V.tree V.number view.now entries.now)))) }
 {
     out.put("{")?;
     for (place, entry) in entries.iter().enumerate() {

@@ -6,6 +6,7 @@ ghost use Rattle.yaml_spell.specs.RankedNodes.{pairs_of};
 ghost use Rattle.yaml_show_scalar.specs.Stops.{limit_of, Stops};
 ghost use Rattle.yaml_show_scalar.specs.declared.stop.Stop.TheVariants.{OutOfMemory};
 ghost use Rattle.yaml_show_scalar.specs.Texts.{written};
+ghost use Rattle.yaml_definitions.specs.grammar.Characters.{s-space};
 ghost use Rattle.yaml_show.specs.Flow.{flow_text, key_text, fits, all_fit};
 
 use crate::flow::{is_short, put_flow};
@@ -25,9 +26,9 @@ const KEY_BYTES: usize = 4_096;
 fn put_flow_key<I: Copy, V: RankedNodes<I>>(view: &V, id: I, out: &mut Out) -> Result<(), Stop>
     requires stands { V.stands view.now }
     requires within { V.number id < V.count view.now }
-    ensures ok { OnOk result (written out.new ≡ written out.old ++ (flow_text (V.tree view.now (V.number id)) ++ (32 ∷ []))) }
+    ensures ok { OnOk result (written out.new ≡ written out.old ++ (flow_text (V.tree view.now (V.number id)) ++ (s-space ∷ []))) }
     ensures limit { limit_of out.new ≡ limit_of out.old }
-    ensures err { IfErr result (Stops (limit_of out.old) (written out.old ++ (flow_text (V.tree view.now (V.number id)) ++ (32 ∷ [])))) }
+    ensures err { IfErr result (Stops (limit_of out.old) (written out.old ++ (flow_text (V.tree view.now (V.number id)) ++ (s-space ∷ [])))) }
 {
     put_flow(view, id, out)?;
     out.put(" ")

@@ -2,6 +2,7 @@
 ghost use Rattle.std.specs.Prelude.{◌≡◌, ◌==◌, not};
 ghost use Rattle.std.specs.List.{list_all};
 ghost use Rattle.std.specs.Str.{chars};
+ghost use Rattle.yaml_definitions.specs.grammar.Characters.{c-comment, c-mapping-value, s-space};
 ghost use Rattle.yaml_show_scalar.specs.Escapes.{is_unseen};
 ghost use Rattle.yaml_show_scalar.specs.Texts.{has_pair};
 ghost use Rattle.yaml_show_scalar.specs.Plain.{is_letter, begins_plainly, is_core_word, is_old_word, is_dotted, is_plain_inside, is_plain};
@@ -92,14 +93,14 @@ fn is_all_seen(text: &str) -> bool
 
 /// Whether a text has a colon before a space.
 fn has_colon(text: &str) -> bool
-    ensures { result ≡ has_pair 58 32 text.now }
+    ensures { result ≡ has_pair c-mapping-value s-space text.now }
 {
     text.contains(": ")
 }
 
 /// Whether a text has a space before `#`.
 fn has_comment(text: &str) -> bool
-    ensures { result ≡ has_pair 32 35 text.now }
+    ensures { result ≡ has_pair s-space c-comment text.now }
 {
     text.contains(" #")
 }

@@ -1,6 +1,7 @@
 //! Scalars.
 ghost use Rattle.std.specs.Prelude.{◌≡◌, ◌==◌, ◌||◌, ◌++◌, [], ◌∷◌, OnOk, IfErr};
 ghost use Rattle.std.specs.List.{list_any};
+ghost use Rattle.yaml_definitions.specs.grammar.Characters.{b-line-feed, s-space, s-tab};
 ghost use Rattle.yaml_show_scalar.specs.Scalars.{stands_plain, string_text, scalar_text, is_feed, is_long, is_seen, is_blank, leads_blank, literal_text, broken_text, is_literal, long_text, scalar_lines};
 ghost use Rattle.yaml_show_scalar.specs.Tags.{tag_before};
 ghost use Rattle.yaml_definitions.specs.model.Tag.{str_tag};
@@ -103,7 +104,7 @@ fn is_seen(content: &str) -> bool
 
 /// Whether a byte is a space or a tab.
 fn is_white(byte: u8) -> bool
-    ensures { result ≡ ((byte == 32) || (byte == 9)) }
+    ensures { result ≡ ((byte == s-space) || (byte == s-tab)) }
 {
     byte == b' ' || byte == b'\t'
 }
@@ -152,9 +153,9 @@ fn put_broken_string(out: &mut Out, tag: &str, content: &str, level: usize) -> R
 
 /// Writes a scalar on one line, and its end.
 fn put_line(out: &mut Out, tag: &str, content: &str, quotes: Quotes) -> Result<(), Stop>
-    ensures ok { OnOk result (written out.new ≡ written out.old ++ (scalar_text quotes tag.now content.now ++ (10 ∷ []))) }
+    ensures ok { OnOk result (written out.new ≡ written out.old ++ (scalar_text quotes tag.now content.now ++ (b-line-feed ∷ []))) }
     ensures limit { limit_of out.new ≡ limit_of out.old }
-    ensures err { IfErr result (Stops (limit_of out.old) (written out.old ++ (scalar_text quotes tag.now content.now ++ (10 ∷ [])))) }
+    ensures err { IfErr result (Stops (limit_of out.old) (written out.old ++ (scalar_text quotes tag.now content.now ++ (b-line-feed ∷ [])))) }
 {
     put_scalar(out, tag, content, quotes)?;
     out.put("\n")

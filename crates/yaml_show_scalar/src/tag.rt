@@ -4,6 +4,7 @@ ghost use Rattle.std.specs.List.{list_all};
 ghost use Rattle.std.specs.Option.{option_map};
 ghost use Rattle.yaml_definitions.specs.canonical.CharText.{hex_digit};
 ghost use Rattle.yaml_definitions.specs.canonical.TagText.{spell_byte, encoded};
+ghost use Rattle.yaml_definitions.specs.grammar.Tags.{percent};
 ghost use Rattle.yaml_show_scalar.specs.Tags.{is_suffix_byte, is_suffix, suffix_behind, verbatim, other_text, tag_text, is_resolved, is_left_out, tag_before};
 ghost use Rattle.yaml_show_scalar.specs.Stops.{limit_of, Stops};
 ghost use Rattle.yaml_show_scalar.specs.Texts.{written};
@@ -54,9 +55,9 @@ pub fn is_left_out(tag: &str, own: &str) -> bool
 
 /// Writes a byte percent-encoded.
 fn put_percent(out: &mut Out, byte: u8) -> Result<(), Stop>
-    ensures ok { OnOk result (written out.new ≡ written out.old ++ (37 ∷ hex_digit (byte / 16 % 16) ∷ hex_digit (byte % 16) ∷ [])) }
+    ensures ok { OnOk result (written out.new ≡ written out.old ++ (percent ∷ hex_digit (byte / 16 % 16) ∷ hex_digit (byte % 16) ∷ [])) }
     ensures limit { limit_of out.new ≡ limit_of out.old }
-    ensures err { IfErr result (Stops (limit_of out.old) (written out.old ++ (37 ∷ hex_digit (byte / 16 % 16) ∷ hex_digit (byte % 16) ∷ []))) }
+    ensures err { IfErr result (Stops (limit_of out.old) (written out.old ++ (percent ∷ hex_digit (byte / 16 % 16) ∷ hex_digit (byte % 16) ∷ []))) }
 {
     out.put("%")?;
     out.put_digit(u32::from(byte) / 16)?;

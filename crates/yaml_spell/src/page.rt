@@ -1,5 +1,6 @@
 //! A text that is written page by page.
 ghost use Rattle.std.specs.Prelude.{◌≤◌, OnOk, IfErr};
+ghost use Rattle.yaml_definitions.specs.grammar.Characters.{c-double-quote};
 ghost use Rattle.yaml_spell.specs.Writers.{Sent, CutOff};
 
 use crate::few::copy;
@@ -99,7 +100,7 @@ impl Page {
     #[inline(always)]
     fn fill_quoted(&mut self, content: &[u8])
         requires { page_len self.old + length content.now + 2 ≤ 4096 }
-        ensures { page_bytes self.new ≡ page_bytes self.old ++ (34 ∷ (content.now ++ (34 ∷ []))) }
+        ensures { page_bytes self.new ≡ page_bytes self.old ++ (c-double-quote ∷ (content.now ++ (c-double-quote ∷ []))) }
     {
         let start = self.len + 1;
         let end = start + content.len();
@@ -154,8 +155,8 @@ impl Page {
     /// Takes bytes between quotes. Mostly the page has room for all of them.
     #[inline(always)]
     fn add_quoted<W: Write>(&mut self, out: &mut Counted<W>, content: &[u8]) -> Result<(), Stop>
-        ensures ok { OnOk result (TakesPiece (PageHolds W.contents) self.old out.old self.new out.new (34 ∷ (content.now ++ (34 ∷ [])))) }
-        ensures err { IfErr result (λ stop. Misses (PageHolds W.contents) (PageStops W.contents) self.old out.old out.new (fault_of stop) (34 ∷ (content.now ++ (34 ∷ [])))) }
+        ensures ok { OnOk result (TakesPiece (PageHolds W.contents) self.old out.old self.new out.new (c-double-quote ∷ (content.now ++ (c-double-quote ∷ [])))) }
+        ensures err { IfErr result (λ stop. Misses (PageHolds W.contents) (PageStops W.contents) self.old out.old out.new (fault_of stop) (c-double-quote ∷ (content.now ++ (c-double-quote ∷ [])))) }
     {
         if content.len() + 2 > PAGE - self.len {
             return self.add_between(out, content);
@@ -167,8 +168,8 @@ impl Page {
     /// The same, the quotes and the bytes one after the other.
     #[inline(never)]
     fn add_between<W: Write>(&mut self, out: &mut Counted<W>, content: &[u8]) -> Result<(), Stop>
-        ensures ok { OnOk result (TakesPiece (PageHolds W.contents) self.old out.old self.new out.new (34 ∷ (content.now ++ (34 ∷ [])))) }
-        ensures err { IfErr result (λ stop. Misses (PageHolds W.contents) (PageStops W.contents) self.old out.old out.new (fault_of stop) (34 ∷ (content.now ++ (34 ∷ [])))) }
+        ensures ok { OnOk result (TakesPiece (PageHolds W.contents) self.old out.old self.new out.new (c-double-quote ∷ (content.now ++ (c-double-quote ∷ [])))) }
+        ensures err { IfErr result (λ stop. Misses (PageHolds W.contents) (PageStops W.contents) self.old out.old out.new (fault_of stop) (c-double-quote ∷ (content.now ++ (c-double-quote ∷ [])))) }
     {
         self.add(out, b"\"")?;
         self.add(out, content)?;

@@ -9,6 +9,8 @@ ghost use Rattle.yaml_definitions.specs.canonical.NodeText.{node_text, anchor_te
 ghost use Rattle.yaml_definitions.specs.model.Tag.{default_tag};
 ghost use Rattle.yaml_definitions.specs.canonical.TagText.{spell_byte, encoded, full_text, tag_text, written_tag};
 ghost use Rattle.yaml_definitions.specs.model.Tree.{a_scalar};
+ghost use Rattle.yaml_definitions.specs.grammar.Tags.{percent};
+ghost use Rattle.yaml_definitions.specs.grammar.Characters.{c-double-quote};
 ghost use Rattle.yaml_spell.specs.Stops.{fault_of};
 ghost use Rattle.yaml_spell.specs.Pieces.{TakesPiece, Puts, Misses, Fails};
 ghost use Rattle.yaml_spell.specs.Kinds.{number_of_kind};
@@ -103,8 +105,8 @@ pub(crate) fn put_anchor<O, S: Sink<O>>(
 
 /// `%HH`, for a byte that is not written as itself.
 fn put_escape<O, S: Sink<O>>(sink: &mut S, out: &mut O, byte: u8) -> Result<(), Stop>
-    ensures ok { OnOk result (TakesPiece S.holds sink.old out.old sink.new out.new (37 ∷ hex_digit (byte / 16) ∷ hex_digit (byte % 16) ∷ [])) }
-    ensures err { IfErr result (λ stop. Misses S.holds S.stops sink.old out.old out.new (fault_of stop) (37 ∷ hex_digit (byte / 16) ∷ hex_digit (byte % 16) ∷ [])) }
+    ensures ok { OnOk result (TakesPiece S.holds sink.old out.old sink.new out.new (percent ∷ hex_digit (byte / 16) ∷ hex_digit (byte % 16) ∷ [])) }
+    ensures err { IfErr result (λ stop. Misses S.holds S.stops sink.old out.old out.new (fault_of stop) (percent ∷ hex_digit (byte / 16) ∷ hex_digit (byte % 16) ∷ [])) }
 {
     sink.put(out, "%")?;
     sink.put(out, digit(byte / 16))?;
@@ -175,8 +177,8 @@ pub(crate) fn put_scalar<O, S: Sink<O>>(
     tag: &str,
     content: &str,
 ) -> Result<(), Stop>
-    ensures ok { OnOk result (Puts S.holds sink.old out.old sink.new out.new (λ more. tag_text (written_tag a_scalar tag.now) ++ (34 ∷ quoted (chars content.now) more))) }
-    ensures err { IfErr result (λ stop. Fails S.holds S.stops sink.old out.old out.new (fault_of stop) (λ more. tag_text (written_tag a_scalar tag.now) ++ (34 ∷ quoted (chars content.now) more))) }
+    ensures ok { OnOk result (Puts S.holds sink.old out.old sink.new out.new (λ more. tag_text (written_tag a_scalar tag.now) ++ (c-double-quote ∷ quoted (chars content.now) more))) }
+    ensures err { IfErr result (λ stop. Fails S.holds S.stops sink.old out.old out.new (fault_of stop) (λ more. tag_text (written_tag a_scalar tag.now) ++ (c-double-quote ∷ quoted (chars content.now) more))) }
 {
     put_tag(sink, out, tag, Kind::Scalar)?;
     sink.put_spelled(out, content)

@@ -2,6 +2,7 @@
 ghost use Rattle.std.specs.Prelude.{◌≡◌, ◌≢◌, ◌<◌, ◌≤◌, ◌+◌, ◌++◌, ◌∷◌, [], true, false, take, drop, length, slice_index};
 ghost use Rattle.std.specs.Str.{IsCharBoundary, IsUtf8};
 ghost use Rattle.yaml_scalar.specs.Spelling.{quoted_bytes, spelled_chars, is_verbatim};
+ghost use Rattle.yaml_definitions.specs.grammar.Characters.{c-double-quote};
 ghost use Rattle.yaml_spell.specs.Quoted.{next_text, piece_text, Plain, Other, AllPlain, SomeOther};
 
 use yaml_scalar::spell::spelled_char;
@@ -108,7 +109,7 @@ fn all_plain(bytes: &[u8]) -> bool
 /// Whether a content is written as it is, but for the quotes. Of one with a character of U+0080 to
 /// U+00BF, or from U+F000 to U+FFFF, the answer is no.
 pub(crate) fn is_unescaped(text: &str) -> bool
-    ensures yes { result ≡ true → quoted_bytes text.now ≡ 34 ∷ (text.now ++ (34 ∷ [])) }
+    ensures yes { result ≡ true → quoted_bytes text.now ≡ c-double-quote ∷ (text.now ++ (c-double-quote ∷ [])) }
     ensures no { result ≡ false → SomeOther text.now }
 {
     all_plain(text.as_bytes())

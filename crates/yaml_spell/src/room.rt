@@ -1,5 +1,6 @@
 //! A text that is put into the room that a caller gives for it.
 ghost use Rattle.std.specs.Prelude.{◌≤◌, length};
+ghost use Rattle.yaml_definitions.specs.grammar.Characters.{c-double-quote};
 
 use crate::quoted::{Piece, cut, is_unescaped};
 use crate::sink::Sink;
@@ -71,8 +72,8 @@ impl<'a> Room<'a> {
 
     /// Takes bytes between quotes.
     fn add_quoted(&mut self, content: &[u8]) -> Result<(), Stop>
-        ensures ok { OnOk result (RoomTakes self.old self.new (34 ∷ (content.now ++ (34 ∷ [])))) }
-        ensures err { IfErr result (λ stop. RoomMisses self.old (fault_of stop) (34 ∷ (content.now ++ (34 ∷ [])))) }
+        ensures ok { OnOk result (RoomTakes self.old self.new (c-double-quote ∷ (content.now ++ (c-double-quote ∷ [])))) }
+        ensures err { IfErr result (λ stop. RoomMisses self.old (fault_of stop) (c-double-quote ∷ (content.now ++ (c-double-quote ∷ [])))) }
     {
         self.add(b"\"")?;
         self.add(content)?;

@@ -1,6 +1,7 @@
 //! The walk of ranked nodes in writing order.
 ghost use Rattle.std.specs.Prelude.{◌≡◌, ◌<◌, ◌++◌, ◌∷◌, [], true, false, OnOk, IfOk, IfErr};
 ghost use Rattle.std.specs.List.{All};
+ghost use Rattle.yaml_definitions.specs.grammar.Characters.{c-mapping-start, c-sequence-start};
 ghost use Rattle.yaml_spell.specs.NamesView.{ranks_in, table_of, given_of, opening_number, NamesNone};
 ghost use Rattle.yaml_spell.specs.Stops.{fault_of};
 ghost use Rattle.yaml_spell.specs.Pieces.{TakesPiece, Counts, Puts, Exceeds, Fails};
@@ -184,8 +185,8 @@ fn write_items<I: Copy, V: RankedNodes<I>, O, S: Sink<O>>(
     requires within { All (λ i. V.number i < V.count view.now) items.now }
     ensures long { ranks_in names.new ≡ ranks_in names.old }
     ensures known { OnOk result (given_of names.new ≡ given_all (V.rank view.now) (trees_of V.tree V.number view.now items.now) (given_of names.old)) }
-    ensures ok { OnOk result (Puts S.holds sink.old out.old sink.new out.new (λ more. 91 ∷ items_text [] (written_all (V.rank view.now) (trees_of V.tree V.number view.now items.now) (given_of names.old)) more)) }
-    ensures err { IfErr result (λ stop. Fails S.holds S.stops sink.old out.old out.new (fault_of stop) (λ more. 91 ∷ items_text [] (written_all (V.rank view.now) (trees_of V.tree V.number view.now items.now) (given_of names.old)) more)) }
+    ensures ok { OnOk result (Puts S.holds sink.old out.old sink.new out.new (λ more. c-sequence-start ∷ items_text [] (written_all (V.rank view.now) (trees_of V.tree V.number view.now items.now) (given_of names.old)) more)) }
+    ensures err { IfErr result (λ stop. Fails S.holds S.stops sink.old out.old out.new (fault_of stop) (λ more. c-sequence-start ∷ items_text [] (written_all (V.rank view.now) (trees_of V.tree V.number view.now items.now) (given_of names.old)) more)) }
 {
     sink.put(out, "[")?;
     for (place, item) in items.iter().enumerate() {
@@ -208,8 +209,8 @@ fn write_entries<I: Copy, V: RankedNodes<I>, O, S: Sink<O>>(
     requires within { All (λ p. (V.number p.0 < V.count view.now) × (V.number p.1 < V.count view.now)) entries.now }
     ensures long { ranks_in names.new ≡ ranks_in names.old }
     ensures known { OnOk result (given_of names.new ≡ given_pairs (V.rank view.now) (pairs_of V.tree V.number view.now entries.now) (given_of names.old)) }
-    ensures ok { OnOk result (Puts S.holds sink.old out.old sink.new out.new (λ more. 123 ∷ pairs_text [] (written_pairs (V.rank view.now) (pairs_of V.tree V.number view.now entries.now) (given_of names.old)) more)) }
-    ensures err { IfErr result (λ stop. Fails S.holds S.stops sink.old out.old out.new (fault_of stop) (λ more. 123 ∷ pairs_text [] (written_pairs (V.rank view.now) (pairs_of V.tree V.number view.now entries.now) (given_of names.old)) more)) }
+    ensures ok { OnOk result (Puts S.holds sink.old out.old sink.new out.new (λ more. c-mapping-start ∷ pairs_text [] (written_pairs (V.rank view.now) (pairs_of V.tree V.number view.now entries.now) (given_of names.old)) more)) }
+    ensures err { IfErr result (λ stop. Fails S.holds S.stops sink.old out.old out.new (fault_of stop) (λ more. c-mapping-start ∷ pairs_text [] (written_pairs (V.rank view.now) (pairs_of V.tree V.number view.now entries.now) (given_of names.old)) more)) }
 {
     sink.put(out, "{")?;
     for (place, entry) in entries.iter().enumerate() {

@@ -2,6 +2,7 @@
 ghost use Rattle.std.specs.Prelude.{◌≡◌, ◌++◌, ◌∷◌, [], OnOk, IfErr};
 ghost use Rattle.std.specs.String.{string_bytes};
 ghost use Rattle.yaml_scalar.specs.Spelling.{quoted_bytes};
+ghost use Rattle.yaml_definitions.specs.grammar.Characters.{c-double-quote};
 
 use crate::quoted::is_unescaped;
 use crate::sink::Sink;
@@ -14,7 +15,7 @@ pub struct Whole;
 
 /// Puts a text between quotes at the end of a string.
 fn push_quoted(text: &str, out: &mut String) -> Result<(), Stop>
-    ensures ok { OnOk result (string_bytes out.new ≡ string_bytes out.old ++ (34 ∷ (text.now ++ (34 ∷ [])))) }
+    ensures ok { OnOk result (string_bytes out.new ≡ string_bytes out.old ++ (c-double-quote ∷ (text.now ++ (c-double-quote ∷ [])))) }
     ensures err { IfErr result (λ stop. stop ≡ Stop.OutOfMemory) }
 {
     out.push_str("\"")?;

@@ -98,6 +98,24 @@ is_indicator c = is_in c "-?:,[]{}#&*!|>'\"%@`"
 unfoldable pub is_flow_indicator : ℕ → Bool
 is_flow_indicator c = is_in c ",[]{}"
 
+-- ---- line breaks and white space (5.4, 5.5)
+
+-- [24] b-line-feed
+abbrev pub b-line-feed : ℕ
+b-line-feed = 10
+
+-- [25] b-carriage-return
+abbrev pub b-carriage-return : ℕ
+b-carriage-return = 13
+
+-- [31] s-space
+abbrev pub s-space : ℕ
+s-space = 32
+
+-- [32] s-tab
+abbrev pub s-tab : ℕ
+s-tab = 9
+
 -- [26] b-char (5.4): [24] b-line-feed, [25] b-carriage-return
 unfoldable pub is_break : ℕ → Bool
 is_break c = c == 10 || c == 13

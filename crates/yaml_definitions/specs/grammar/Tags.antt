@@ -11,6 +11,10 @@ use Rattle.yaml_definitions.specs.model.Tag.{is_full}
 
 -- ---- tags' texts
 
+-- no production: `%`, which comes before the two hexadecimal digits of a byte (5.6)
+abbrev pub percent : ℕ
+percent = 37
+
 -- no production: `%` and two hexadecimal digits stand for a byte (5.6)
 unfoldable pub percent_decode : List ℕ → List ℕ
 percent_decode [] = []
