@@ -1,4 +1,6 @@
 //! What faults of characters, escapes, directives, tags and aliases commonly are.
+ghost use Rattle.std.specs.Prelude.{◌≡◌, true};
+ghost use Rattle.review_hints.specs.Hinted.{is_plain};
 
 /// Whether bytes are UTF-16: by its byte order mark, or by the zeros of its first letters.
 pub fn is_utf16(text: &[u8]) -> bool {
@@ -11,7 +13,9 @@ pub fn is_utf16(text: &[u8]) -> bool {
 }
 
 /// What bytes are that are no UTF-8.
-pub fn utf8_words(text: &[u8]) -> &'static str {
+pub fn utf8_words(text: &[u8]) -> &'static str
+    ensures { is_plain result.now ≡ true }
+{
     if is_utf16(text) {
         "this is UTF-16: convert the file by `iconv -f UTF-16 -t UTF-8`"
     } else {
@@ -20,7 +24,9 @@ pub fn utf8_words(text: &[u8]) -> &'static str {
 }
 
 /// What a character is that is none of YAML's.
-pub fn printable_words(text: &[u8], at: usize) -> &'static str {
+pub fn printable_words(text: &[u8], at: usize) -> &'static str
+    ensures { is_plain result.now ≡ true }
+{
     match text.get(at..).unwrap_or(&[]) {
         [0, ..] if is_utf16(text) && at == 0 => {
             "this is UTF-16: convert the file by `iconv -f UTF-16BE -t UTF-8`"
@@ -35,7 +41,9 @@ pub fn printable_words(text: &[u8], at: usize) -> &'static str {
 }
 
 /// What a backslash is that begins no escape.
-pub fn escape_words(behind: &str) -> &'static str {
+pub fn escape_words(behind: &str) -> &'static str
+    ensures { is_plain result.now ≡ true }
+{
     match behind.as_bytes() {
         [_, b'U', ..] =>
             "`\\U` has eight hexadecimal digits: a backslash is written `\\\\`, or the text stands between single quotes",
@@ -50,7 +58,9 @@ pub fn escape_words(behind: &str) -> &'static str {
 }
 
 /// What a directive is that is malformed, repeated or of another version.
-pub fn directive_words(before: &str, behind: &str) -> &'static str {
+pub fn directive_words(before: &str, behind: &str) -> &'static str
+    ensures { is_plain result.now ≡ true }
+{
     let line = behind.split('\n').next().unwrap_or("").trim_end();
     if line.starts_with("%YAML 1.1") {
         "this reader reads YAML 1.2: without this line `yes`, `no`, `on` and `off` are strings, `012` is 12 and `<<` is an ordinary key (`yamlreview warn` shows where)"
@@ -66,7 +76,9 @@ pub fn directive_words(before: &str, behind: &str) -> &'static str {
 }
 
 /// What is no tag.
-pub fn tag_words(behind: &str) -> &'static str {
+pub fn tag_words(behind: &str) -> &'static str
+    ensures { is_plain result.now ≡ true }
+{
     let word = behind.split([' ', '\n']).next().unwrap_or("");
     if word.starts_with("!<") && !word.contains('>') {
         "the `>` of this tag is missing: a full tag is `!<URI>`"
@@ -76,7 +88,9 @@ pub fn tag_words(behind: &str) -> &'static str {
 }
 
 /// What an alias is that names nothing.
-pub fn alias_words(behind: &str) -> &'static str {
+pub fn alias_words(behind: &str) -> &'static str
+    ensures { is_plain result.now ≡ true }
+{
     let name = behind
         .split([' ', '\n', ',', ']', '}'])
         .next()

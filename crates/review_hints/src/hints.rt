@@ -1,6 +1,8 @@
 //! What a syntax fault commonly is, by the text around its place.
-ghost use Rattle.std.specs.Prelude.{◌≡◌, ◌≤◌, length, IfErr};
+ghost use Rattle.std.specs.Prelude.{◌≡◌, ◌≤◌, ℕ, List, true, length, IfOk, IfErr, string_bytes};
 ghost use Rattle.yaml_place.specs.LineModel.{IsPlace};
+ghost use Rattle.review_hints.specs.Hinted.{is_line, name_of, IsHint};
+ghost use Rattle.review_hints.specs.Hints.{IsScanned, IsTrue};
 
 use crate::line_hints::line_hint;
 use crate::node_hints::node_hint;
@@ -24,7 +26,9 @@ pub enum Hint {
 }
 
 /// The name of what a character opens.
-fn name_of(mark: u8) -> &'static str {
+fn name_of(mark: u8) -> &'static str
+    ensures { result.now ≡ name_of mark }
+{
     match mark {
         b'[' => "bracket",
         b'{' => "brace",
@@ -45,9 +49,16 @@ fn place_in(text: &str, at: usize) -> Place
 }
 
 impl Hint {
+    ghost use Rattle.std.specs.Prelude.{◌≡◌, ◌≤◌, ℕ, true, length, IfOk, IfErr, string_bytes};
+    ghost use Rattle.review_hints.specs.Hinted.{is_line, IsHint};
+    ghost use Rattle.review_hints.specs.Hints.{IsTrue};
+
     /// The hint as a text.
     fn words(self, alloc: Global, text: &str) -> Result<String, Fault>
-        ensures { IfErr result (λ fault. fault ≡ Fault.OutOfMemory) }
+        requires { (at : ℕ) × IsTrue text.now at self }
+        ensures line { IfOk result (λ words. is_line (string_bytes words) ≡ true) }
+        ensures hint { (at : ℕ) → at ≤ length text.now → IsTrue text.now at self → IfOk result (λ words. IsHint text.now at (string_bytes words)) }
+        ensures err { IfErr result (λ fault. fault ≡ Fault.OutOfMemory) }
     {
         match self {
             Hint::Text(words) => Ok(words.to_string(alloc)?),
@@ -70,20 +81,28 @@ impl Hint {
     }
 }
 
+/// What the text around a fault shows.
+fn hint_of(spot: &Spot<'_>) -> Hint
+    ensures { (text : List ℕ) → spot.now.above_at ≤ spot.now.at → IsScanned text spot.now.at spot.now.scan → IsTrue text spot.now.at result }
+{
+    if let Some(hint) = line_hint(spot) {
+        return hint;
+    }
+    if let Some(hint) = open_hint(spot) {
+        return hint;
+    }
+    node_hint(spot)
+}
+
 /// What a syntax fault at an offset of a text commonly is. Takes time linear in the text's size.
 ///
 /// # Errors
 /// `OutOfMemory`
 pub fn syntax_words(alloc: Global, text: &str, at: usize) -> Result<String, Fault>
-    ensures { IfErr result (λ fault. fault ≡ Fault.OutOfMemory) }
+    ensures line { IfOk result (λ words. is_line (string_bytes words) ≡ true) }
+    ensures hint { at ≤ length text.now → IfOk result (λ words. IsHint text.now at (string_bytes words)) }
+    ensures err { IfErr result (λ fault. fault ≡ Fault.OutOfMemory) }
 {
     let spot = Spot::new(alloc, text, at)?;
-    let hint = match line_hint(&spot) {
-        Some(hint) => hint,
-        None => match open_hint(&spot) {
-            Some(hint) => hint,
-            None => node_hint(&spot),
-        },
-    };
-    hint.words(alloc, text)
+    hint_of(&spot).words(alloc, text)
 }

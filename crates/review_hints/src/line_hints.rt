@@ -1,11 +1,17 @@
 //! Causes of syntax faults that a whole line shows: templates, marks of a merge, and what is no entry.
+ghost use Rattle.std.specs.Prelude.{◌≡◌, ◌≤◌, true, ℕ, List, IfSome};
+ghost use Rattle.review_hints.specs.Hinted.{is_line};
+ghost use Rattle.review_hints.specs.Hints.{IsTrue};
+
 use crate::hints::Hint;
 use crate::spot::{Spot, is_entry};
 
 const HIDDEN_SPACE: &str = "has a no-break space (U+00A0): write a space";
 
 /// What the line of the fault shows, or the line above that it continues.
-pub fn line_hint(spot: &Spot<'_>) -> Option<Hint> {
+pub fn line_hint(spot: &Spot<'_>) -> Option<Hint>
+    ensures { (text : List ℕ) → spot.now.above_at ≤ spot.now.at → IfSome result (IsTrue text spot.now.at) }
+{
     if is_template(spot) {
         return Some(Hint::Text("a template: render it first"));
     }
@@ -21,11 +27,14 @@ pub fn line_hint(spot: &Spot<'_>) -> Option<Hint> {
     if spot.is_first() || spot.above.is_empty() {
         return None;
     }
-    above_words(spot).map(|words| Hint::Line(spot.above_at, words))
+    let words = above_words(spot)?;
+    Some(Hint::Line(spot.above_at, words))
 }
 
 /// What is wrong with the line above, where the line of the fault continues its plain scalar.
-fn above_words(spot: &Spot<'_>) -> Option<&'static str> {
+fn above_words(spot: &Spot<'_>) -> Option<&'static str>
+    ensures { IfSome result (λ words. is_line words.now ≡ true) }
+{
     if has_hidden_space(spot.above.trim_start_matches(' ')) {
         return Some(HIDDEN_SPACE);
     }
@@ -58,7 +67,9 @@ fn is_template(spot: &Spot<'_>) -> bool {
 }
 
 /// What makes a line no line of YAML.
-fn line_fault(line: &str) -> Option<&'static str> {
+fn line_fault(line: &str) -> Option<&'static str>
+    ensures { IfSome result (λ words. is_line words.now ≡ true) }
+{
     let text = line.trim();
     if is_conflict(line) {
         Some("is a merge conflict marker: resolve the conflict first")

@@ -1,4 +1,8 @@
 //! Causes of syntax faults outside quotes and brackets, by the character at the fault.
+ghost use Rattle.std.specs.Prelude.{◌≡◌, true, ℕ, List, IfSome};
+ghost use Rattle.review_hints.specs.Hinted.{is_plain};
+ghost use Rattle.review_hints.specs.Hints.{IsTrue};
+
 use crate::hints::Hint;
 use crate::spot::{Spot, depth, indent_of, is_entry, is_header, value_of};
 
@@ -11,7 +15,9 @@ const ONE_EACH: &str =
     "an anchor, an alias or a tag cannot stand here: each node has one of each at most";
 
 /// What a fault outside quotes and brackets is.
-pub fn node_hint(spot: &Spot<'_>) -> Hint {
+pub fn node_hint(spot: &Spot<'_>) -> Hint
+    ensures { (text : List ℕ) (at : ℕ) → IsTrue text at result }
+{
     if let Some(words) = block_words(spot) {
         return Hint::Text(words);
     }
@@ -25,7 +31,9 @@ pub fn node_hint(spot: &Spot<'_>) -> Hint {
 }
 
 /// What is wrong with a block scalar's header, or with the line after it.
-fn block_words(spot: &Spot<'_>) -> Option<&'static str> {
+fn block_words(spot: &Spot<'_>) -> Option<&'static str>
+    ensures { IfSome result (λ words. is_plain words.now ≡ true) }
+{
     if is_header(spot.line) && !spot.rest.is_empty() {
         return Some(match spot.next() {
             Some('#') if !spot.line.ends_with(' ') => "a comment has a space before its `#`",
@@ -60,7 +68,9 @@ fn parent_of<'a>(spot: &Spot<'a>) -> &'a str {
 }
 
 /// What is wrong with a value by its beginning.
-fn value_words(spot: &Spot<'_>) -> Option<&'static str> {
+fn value_words(spot: &Spot<'_>) -> Option<&'static str>
+    ensures { IfSome result (λ words. is_plain words.now ≡ true) }
+{
     let value = spot.value();
     let is_behind_key = spot.line.trim_start().starts_with('*')
         && spot.line.trim_end().ends_with(':');
@@ -84,7 +94,9 @@ fn value_words(spot: &Spot<'_>) -> Option<&'static str> {
 }
 
 /// What is wrong with a dash on the line of what the sequence belongs to.
-fn dash_words(spot: &Spot<'_>) -> Option<&'static str> {
+fn dash_words(spot: &Spot<'_>) -> Option<&'static str>
+    ensures { IfSome result (λ words. is_plain words.now ≡ true) }
+{
     let line = spot.line.trim();
     if line == "---" {
         Some("a block sequence starts on the line after `---`")
@@ -98,12 +110,16 @@ fn dash_words(spot: &Spot<'_>) -> Option<&'static str> {
 }
 
 /// Of a fault at the first character of a line.
-fn first_hint(spot: &Spot<'_>) -> Hint {
+fn first_hint(spot: &Spot<'_>) -> Hint
+    ensures { (text : List ℕ) (at : ℕ) → IsTrue text at result }
+{
     Hint::Text(first_words(spot))
 }
 
 /// The words of such a fault, by that character.
-fn first_words(spot: &Spot<'_>) -> &'static str {
+fn first_words(spot: &Spot<'_>) -> &'static str
+    ensures { is_plain result.now ≡ true }
+{
     match spot.next() {
         None => "the text ends before a node is whole",
         Some('?') => {
@@ -119,7 +135,9 @@ fn first_words(spot: &Spot<'_>) -> &'static str {
 }
 
 /// The words of such a fault, by the line above: of an item, or of another text.
-fn below_words(spot: &Spot<'_>, is_item: bool) -> &'static str {
+fn below_words(spot: &Spot<'_>, is_item: bool) -> &'static str
+    ensures { is_plain result.now ≡ true }
+{
     let above = spot.above.trim();
     if above.starts_with('%') {
         "a line `---` is missing after the directives"
@@ -137,7 +155,9 @@ fn below_words(spot: &Spot<'_>, is_item: bool) -> &'static str {
 }
 
 /// Of a line after a whole flow collection.
-fn document_words(spot: &Spot<'_>) -> &'static str {
+fn document_words(spot: &Spot<'_>) -> &'static str
+    ensures { is_plain result.now ≡ true }
+{
     if spot.above.starts_with('[') && spot.rest.contains('=') {
         "this looks like TOML or INI, and is not YAML"
     } else {
@@ -162,7 +182,9 @@ fn has_value(line: &str) -> bool {
 }
 
 /// Of a closing bracket or a comma where nothing is open.
-fn closing_words(spot: &Spot<'_>) -> &'static str {
+fn closing_words(spot: &Spot<'_>) -> &'static str
+    ensures { is_plain result.now ≡ true }
+{
     match spot.next() {
         Some(',') =>
             "a comma only separates items of `[ ]` and entries of `{ }`: remove it, or quote the value",
@@ -172,7 +194,9 @@ fn closing_words(spot: &Spot<'_>) -> &'static str {
 }
 
 /// Of a fault after other characters of its line.
-fn next_words(spot: &Spot<'_>) -> &'static str {
+fn next_words(spot: &Spot<'_>) -> &'static str
+    ensures { is_plain result.now ≡ true }
+{
     match spot.next() {
         None | Some('\n' | '\r') => "this line is no entry: its key has no `:`",
         Some('\t') =>
@@ -190,7 +214,9 @@ fn next_words(spot: &Spot<'_>) -> &'static str {
 }
 
 /// Of a second anchor, tag or alias.
-fn properties_words(spot: &Spot<'_>) -> &'static str {
+fn properties_words(spot: &Spot<'_>) -> &'static str
+    ensures { is_plain result.now ≡ true }
+{
     match spot.next() {
         Some('*') if spot.value().starts_with(['&', '!']) => {
             "an alias has no anchor and no tag of its own"
@@ -200,7 +226,9 @@ fn properties_words(spot: &Spot<'_>) -> &'static str {
 }
 
 /// Of what follows a node that has ended.
-fn behind_words(spot: &Spot<'_>) -> &'static str {
+fn behind_words(spot: &Spot<'_>) -> &'static str
+    ensures { is_plain result.now ≡ true }
+{
     if spot.before.ends_with('\'') {
         "write `''` for a quote inside single quotes"
     } else if spot.before.ends_with('"') {

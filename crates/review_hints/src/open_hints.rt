@@ -1,4 +1,7 @@
 //! Causes of syntax faults inside quotes, brackets and braces.
+ghost use Rattle.std.specs.Prelude.{ℕ, List, IfSome};
+ghost use Rattle.review_hints.specs.Hints.{IsOpened, IsScanned, IsTrue};
+
 use crate::hints::Hint;
 use crate::scan::Opened;
 use crate::spot::{Spot, is_entry, uncommented};
@@ -6,7 +9,9 @@ use crate::spot::{Spot, is_entry, uncommented};
 const FLOW_LINE: &str = "a line of a flow collection stands deeper than its parent";
 
 /// What a fault inside a quoted scalar or a flow collection is.
-pub fn open_hint(spot: &Spot<'_>) -> Option<Hint> {
+pub fn open_hint(spot: &Spot<'_>) -> Option<Hint>
+    ensures { (text : List ℕ) → IsScanned text spot.now.at spot.now.scan → IfSome result (IsTrue text spot.now.at) }
+{
     if let Some(quote) = spot.scan.quote() {
         return Some(quote_hint(spot, quote));
     }
@@ -28,7 +33,9 @@ fn indent(spot: &Spot<'_>) -> usize {
     spot.line.len()
 }
 
-fn quote_hint(spot: &Spot<'_>, quote: Opened) -> Hint {
+fn quote_hint(spot: &Spot<'_>, quote: Opened) -> Hint
+    ensures { (text : List ℕ) → IsOpened text spot.now.at quote → IsTrue text spot.now.at result }
+{
     if spot.is_marker() {
         return Hint::Opened(quote, "is open at this document marker");
     }
@@ -53,7 +60,9 @@ fn is_in_flow(before: &str) -> bool {
 }
 
 /// Of a line that begins left of where the lines of a flow collection may.
-fn flow_line_hint(spot: &Spot<'_>, bracket: Opened) -> Hint {
+fn flow_line_hint(spot: &Spot<'_>, bracket: Opened) -> Hint
+    ensures { (text : List ℕ) → IsOpened text spot.now.at bracket → IsTrue text spot.now.at result }
+{
     let count = bracket.floor.saturating_sub(indent(spot));
     match spot.next() {
         Some(']') => Hint::Indent("the closing bracket", count),
@@ -64,7 +73,9 @@ fn flow_line_hint(spot: &Spot<'_>, bracket: Opened) -> Hint {
 }
 
 /// Of a character that cannot follow in a flow collection.
-fn flow_hint(spot: &Spot<'_>, bracket: Opened) -> Option<Hint> {
+fn flow_hint(spot: &Spot<'_>, bracket: Opened) -> Option<Hint>
+    ensures { (text : List ℕ) → IsOpened text spot.now.at bracket → IfSome result (IsTrue text spot.now.at) }
+{
     let before = spot.before.trim_end();
     match spot.next() {
         Some(',') if before.ends_with([',', '[', '{']) => {

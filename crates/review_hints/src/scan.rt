@@ -1,6 +1,7 @@
 //! What is open before an offset of a text that breaks off there: quotes, brackets and braces. The text is read only roughly, by
 //! its indicators, since it is no YAML as a whole.
-ghost use Rattle.std.specs.Prelude.{◌≡◌, IfErr};
+ghost use Rattle.std.specs.Prelude.{ℕ, List};
+ghost use Rattle.review_hints.specs.Hints.{IsMode};
 
 use std::alloc::Global;
 use yaml_text::fault::Fault;
@@ -55,13 +56,30 @@ fn is_blank(byte: u8) -> bool {
     matches!(byte, b' ' | b'\t' | b'\r')
 }
 
+/// Where a text is read on after a line's end.
+fn after_line(mode: Mode) -> Mode
+    ensures { (text : List ℕ) (end : ℕ) → IsMode text end mode → IsMode text end result }
+{
+    match mode {
+        Mode::Double(opened) | Mode::Escape(opened) => Mode::Double(opened),
+        Mode::Single(opened) => Mode::Single(opened),
+        Mode::Header | Mode::Block | Mode::BlockLine => Mode::Block,
+        _ => Mode::Start,
+    }
+}
+
 impl Scan {
+    ghost use Rattle.std.specs.Prelude.{◌≡◌, ◌<◌, ℕ, true, length, slice_get, List, Some, IfSome, IfOk, IfErr, OnOk};
+    ghost use Rattle.review_hints.specs.Hinted.{is_mark};
+    ghost use Rattle.review_hints.specs.Hints.{IsOpened, IsScanned};
+
     /// Reads the text before an offset.
     ///
     /// # Errors
     /// `OutOfMemory`
     pub fn of(alloc: Global, before: &str) -> Result<Scan, Fault>
-        ensures { IfErr result (λ fault. fault ≡ Fault.OutOfMemory) }
+        ensures ok { IfOk result (IsScanned before.now (length before.now)) }
+        ensures err { IfErr result (λ fault. fault ≡ Fault.OutOfMemory) }
     {
         let mut scan = Scan {
             mode: Mode::Start,
@@ -83,7 +101,9 @@ impl Scan {
     }
 
     /// The quote in which the offset is.
-    pub fn quote(&self) -> Option<Opened> {
+    pub fn quote(&self) -> Option<Opened>
+        ensures { (text : List ℕ) (end : ℕ) → IsScanned text end self.now → IfSome result (IsOpened text end) }
+    {
         match self.mode {
             Mode::Double(opened) | Mode::Escape(opened) | Mode::Single(opened) => Some(opened),
             _ => None,
@@ -91,7 +111,9 @@ impl Scan {
     }
 
     /// The innermost bracket or brace in which the offset is.
-    pub fn bracket(&self) -> Option<Opened> {
+    pub fn bracket(&self) -> Option<Opened>
+        ensures { (text : List ℕ) (end : ℕ) → IsScanned text end self.now → IfSome result (IsOpened text end) }
+    {
         self.flow.last().copied()
     }
 
@@ -104,13 +126,17 @@ impl Scan {
         at.saturating_sub(self.line_start)
     }
 
-    fn opened(&self, at: usize, mark: u8) -> Opened {
+    fn opened(&self, at: usize, mark: u8) -> Opened
+        ensures { (result.at ≡ at) × (result.mark ≡ mark) }
+    {
         let floor = self.floor;
         Opened { at, mark, floor }
     }
 
     /// After the indicator of an entry: a node below it is indented more than its column.
-    fn enter(&mut self) {
+    fn enter(&mut self)
+        ensures { (text : List ℕ) (end : ℕ) → IsScanned text end self.old → IsScanned text end self.new }
+    {
         if self.flow.is_empty() {
             if let Some(node) = self.node {
                 self.floor = self.column(node).saturating_add(1);
@@ -120,20 +146,19 @@ impl Scan {
         self.mode = Mode::Start;
     }
 
-    fn end_line(&mut self, at: usize) {
+    fn end_line(&mut self, at: usize)
+        ensures { (text : List ℕ) (end : ℕ) → IsScanned text end self.old → IsScanned text end self.new }
+    {
         self.end_word(at);
         self.line_start = at.saturating_add(1);
         self.node = None;
-        self.mode = match self.mode {
-            Mode::Double(opened) | Mode::Escape(opened) => Mode::Double(opened),
-            Mode::Single(opened) => Mode::Single(opened),
-            Mode::Header | Mode::Block | Mode::BlockLine => Mode::Block,
-            _ => Mode::Start,
-        };
+        self.mode = after_line(self.mode);
     }
 
     /// Before a blank or a line's end: `-`, `?`, `---` and what ends with `:` are indicators there.
-    fn end_word(&mut self, at: usize) {
+    fn end_word(&mut self, at: usize)
+        ensures { (text : List ℕ) (end : ℕ) → IsScanned text end self.old → IsScanned text end self.new }
+    {
         match self.mode {
             Mode::Plain(start) => {
                 let is_dash = self.last == b'-' && matches!(at.saturating_sub(start), 1 | 3);
@@ -148,12 +173,28 @@ impl Scan {
         }
     }
 
-    fn take(&mut self, at: usize, byte: u8) -> Result<(), Fault>
-        ensures { IfErr result (λ fault. fault ≡ Fault.OutOfMemory) }
+    /// Before a character, which may be a blank.
+    fn end_at(&mut self, at: usize, byte: u8)
+        ensures { (text : List ℕ) (end : ℕ) → IsScanned text end self.old → IsScanned text end self.new }
     {
         if is_blank(byte) {
             self.end_word(at);
         }
+    }
+
+    fn take(&mut self, at: usize, byte: u8) -> Result<(), Fault>
+        ensures ok { (text : List ℕ) (end : ℕ) → at < end → slice_get text at ≡ Some byte → IsScanned text end self.old → OnOk result (IsScanned text end self.new) }
+        ensures err { IfErr result (λ fault. fault ≡ Fault.OutOfMemory) }
+    {
+        self.end_at(at, byte);
+        self.read(at, byte)
+    }
+
+    /// Reads a character by where it stands.
+    fn read(&mut self, at: usize, byte: u8) -> Result<(), Fault>
+        ensures ok { (text : List ℕ) (end : ℕ) → at < end → slice_get text at ≡ Some byte → IsScanned text end self.old → OnOk result (IsScanned text end self.new) }
+        ensures err { IfErr result (λ fault. fault ≡ Fault.OutOfMemory) }
+    {
         match self.mode {
             Mode::Double(opened) => match byte {
                 b'\\' => self.mode = Mode::Escape(opened),
@@ -176,17 +217,33 @@ impl Scan {
         Ok(())
     }
 
-    /// Where a node may start.
-    fn start(&mut self, at: usize, byte: u8) -> Result<(), Fault>
-        ensures { IfErr result (λ fault. fault ≡ Fault.OutOfMemory) }
+    /// Keeps where the first node of a line starts.
+    fn begin(&mut self, at: usize)
+        ensures { (text : List ℕ) (end : ℕ) → IsScanned text end self.old → IsScanned text end self.new }
     {
-        if is_blank(byte) {
-            return Ok(());
-        }
         if self.node.is_none() && self.flow.is_empty() {
             self.floor = self.floor.min(self.column(at));
             self.node = Some(at);
         }
+    }
+
+    /// Where a node may start.
+    fn start(&mut self, at: usize, byte: u8) -> Result<(), Fault>
+        ensures ok { (text : List ℕ) (end : ℕ) → at < end → slice_get text at ≡ Some byte → IsScanned text end self.old → OnOk result (IsScanned text end self.new) }
+        ensures err { IfErr result (λ fault. fault ≡ Fault.OutOfMemory) }
+    {
+        if is_blank(byte) {
+            return Ok(());
+        }
+        self.begin(at);
+        self.open(at, byte)
+    }
+
+    /// By the first character of a node.
+    fn open(&mut self, at: usize, byte: u8) -> Result<(), Fault>
+        ensures ok { (text : List ℕ) (end : ℕ) → at < end → slice_get text at ≡ Some byte → IsScanned text end self.old → OnOk result (IsScanned text end self.new) }
+        ensures err { IfErr result (λ fault. fault ≡ Fault.OutOfMemory) }
+    {
         match byte {
             b'"' => self.mode = Mode::Double(self.opened(at, byte)),
             b'\'' => self.mode = Mode::Single(self.opened(at, byte)),
@@ -204,7 +261,8 @@ impl Scan {
     }
 
     fn plain(&mut self, at: usize, byte: u8) -> Result<(), Fault>
-        ensures { IfErr result (λ fault. fault ≡ Fault.OutOfMemory) }
+        ensures ok { (text : List ℕ) (end : ℕ) → at < end → slice_get text at ≡ Some byte → IsScanned text end self.old → OnOk result (IsScanned text end self.new) }
+        ensures err { IfErr result (λ fault. fault ≡ Fault.OutOfMemory) }
     {
         match byte {
             b'#' if is_blank(self.last) => self.mode = Mode::Comment,
@@ -221,7 +279,8 @@ impl Scan {
 
     /// After a node that a character of its own has ended.
     fn behind(&mut self, byte: u8) -> Result<(), Fault>
-        ensures { IfErr result (λ fault. fault ≡ Fault.OutOfMemory) }
+        ensures ok { (text : List ℕ) (end : ℕ) → IsScanned text end self.old → OnOk result (IsScanned text end self.new) }
+        ensures err { IfErr result (λ fault. fault ≡ Fault.OutOfMemory) }
     {
         match byte {
             b']' | b'}' => {
@@ -238,7 +297,8 @@ impl Scan {
 
     /// At the start of a line after a block scalar's header.
     fn block(&mut self, at: usize, byte: u8) -> Result<(), Fault>
-        ensures { IfErr result (λ fault. fault ≡ Fault.OutOfMemory) }
+        ensures ok { (text : List ℕ) (end : ℕ) → at < end → slice_get text at ≡ Some byte → IsScanned text end self.old → OnOk result (IsScanned text end self.new) }
+        ensures err { IfErr result (λ fault. fault ≡ Fault.OutOfMemory) }
     {
         if byte == b' ' || byte == b'\r' {
             return Ok(());

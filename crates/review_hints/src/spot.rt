@@ -1,5 +1,6 @@
 //! What is around the offset at which a text breaks off, for a hint.
-ghost use Rattle.std.specs.Prelude.{◌≡◌, IfErr};
+ghost use Rattle.std.specs.Prelude.{◌≡◌, ◌≤◌, ◌⊎◌, [], length, take, IfOk, IfErr};
+ghost use Rattle.review_hints.specs.Hints.{IsScanned};
 
 use crate::scan::Scan;
 use std::alloc::Global;
@@ -22,18 +23,24 @@ pub struct Spot<'a> {
 }
 
 impl<'a> Spot<'a> {
+    ghost use Rattle.std.specs.Prelude.{◌≡◌, ◌≤◌, IfOk, IfErr};
+    ghost use Rattle.review_hints.specs.Hints.{IsScanned};
+
     /// # Errors
     /// `OutOfMemory`
     pub fn new(alloc: Global, text: &'a str, at: usize) -> Result<Spot<'a>, Fault>
-        ensures { IfErr result (λ fault. fault ≡ Fault.OutOfMemory) }
+        ensures at { IfOk result (λ spot. spot.at ≡ at) }
+        ensures above { IfOk result (λ spot. spot.above_at ≤ spot.at) }
+        ensures scan { IfOk result (λ spot. IsScanned text.now spot.at spot.scan) }
+        ensures err { IfErr result (λ fault. fault ≡ Fault.OutOfMemory) }
     {
-        let before = text.get(..at).unwrap_or("");
+        let before = front(text, at);
         let behind = text.get(at..).unwrap_or("");
         let line = before.rsplit('\n').next().unwrap_or("");
         let rest = behind.split('\n').next().unwrap_or("");
         let start = at.saturating_sub(line.len());
         let whole = text.get(start..at.saturating_add(rest.len())).unwrap_or("");
-        let (above_at, above) = line_above(text.get(..start).unwrap_or(""));
+        let (above_at, above) = line_above(front(text, start));
         Ok(Spot {
             at,
             before,
@@ -58,7 +65,9 @@ impl<'a> Spot<'a> {
     }
 
     /// Where the line of the offset starts.
-    pub fn start(&self) -> usize {
+    pub fn start(&self) -> usize
+        ensures { result ≤ self.now.at }
+    {
         self.at.saturating_sub(self.line.len())
     }
 
@@ -73,8 +82,17 @@ impl<'a> Spot<'a> {
     }
 }
 
+/// So many bytes of a text, or none where that would part a character.
+fn front(text: &str, len: usize) -> &str
+    ensures { (result.now ≡ []) ⊎ (result.now ≡ take len text.now) }
+{
+    text.get(..len).unwrap_or("")
+}
+
 /// The last line that is not blank, and the offset at which it starts.
-fn line_above(text: &str) -> (usize, &str) {
+fn line_above(text: &str) -> (usize, &str)
+    ensures { result.0 ≤ length text.now }
+{
     let mut end = text.len();
     for line in text.rsplit('\n') {
         let start = end.saturating_sub(line.len());

@@ -1,5 +1,7 @@
 //! What is said of each fault.
-ghost use Rattle.std.specs.Prelude.{◌≡◌, IfErr};
+ghost use Rattle.std.specs.Prelude.{◌≡◌, ◌≤◌, true, length, IfOk, IfErr, string_bytes};
+ghost use Rattle.std.specs.Str.{IsUtf8};
+ghost use Rattle.review_hints.specs.Hinted.{is_line, is_plain, limit_of, HoldsLimit, IsHint};
 
 use crate::byte_hints::{
     alias_words, directive_words, escape_words, printable_words, tag_words, utf8_words,
@@ -9,14 +11,27 @@ use std::alloc::Global;
 use std::str;
 use yaml_text::fault::Fault;
 
+/// The bytes as a text, or none.
+fn source_of(text: &[u8]) -> &str
+    ensures { IsUtf8 text.now → result.now ≡ text.now }
+{
+    match str::from_utf8(text) {
+        Ok(source) => source,
+        Err(_) => "",
+    }
+}
+
 /// What a fault at an offset of a text is, for one who mends the file: of many faults what their cause commonly is.
 ///
 /// # Errors
 /// `OutOfMemory`
 pub fn words_of(alloc: Global, fault: Fault, text: &[u8], at: usize) -> Result<String, Fault>
-    ensures { IfErr result (λ fault. fault ≡ Fault.OutOfMemory) }
+    ensures line { IfOk result (λ words. is_line (string_bytes words) ≡ true) }
+    ensures limit { IfOk result (λ words. HoldsLimit (limit_of fault) (string_bytes words)) }
+    ensures hint { IfOk result (λ words. IsUtf8 text.now → at ≤ length text.now → IsHint text.now at (string_bytes words)) }
+    ensures err { IfErr result (λ fault. fault ≡ Fault.OutOfMemory) }
 {
-    let source = str::from_utf8(text).unwrap_or("");
+    let source = source_of(text);
     if let Fault::Syntax(_) = fault {
         return syntax_words(alloc, source, at);
     }
@@ -24,7 +39,10 @@ pub fn words_of(alloc: Global, fault: Fault, text: &[u8], at: usize) -> Result<S
 }
 
 /// What a fault is that has no hint of its own number or place.
-fn plain_words(fault: Fault, text: &[u8], at: usize, source: &str) -> &'static str {
+fn plain_words(fault: Fault, text: &[u8], at: usize, source: &str) -> &'static str
+    ensures plain { is_plain result.now ≡ true }
+    ensures limit { HoldsLimit (limit_of fault) result.now }
+{
     let behind = source.get(at..).unwrap_or("");
     match fault {
         Fault::TooLong => "an input has at most 67,108,864 bytes",

@@ -1,0 +1,2 @@
+mod HintLaws
+mod ScanLaws

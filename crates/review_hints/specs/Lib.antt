@@ -1,0 +1,2 @@
+pub mod Hinted
+pub mod Hints
