@@ -1,10 +1,10 @@
 -- What ends the collections that are open, and how one token changes it.
-use Rattle.std.proofs.Common.{◌≡◌, ℕ, List, [], ◌∷◌, ◌++◌, length, refl, subst, sym, arith}
+use Rattle.std.proofs.Common.{◌≡◌, ℕ, List, [], ◌∷◌, ◌++◌, refl, subst, sym}
 use Rattle.yaml_json.specs.Json.{Ws, no_white, Structural, structural, Str, Value, object_value, array_value, empty_object, object, Member, member, MoreMembers, no_member, more_members, empty_array, array, MoreItems, no_item, more_items, EndArray, EndObject, IsJson, json_text}
-use Rattle.yaml_json.specs.Reading.{Left, Leave, Ends, GoesAt}
+use Rattle.yaml_json.specs.Reading.{Scalar, Left, Leave, Ends, GoesAt}
 use Rattle.yaml_json.specs.declared.next.Collection.{Collection}
 use Rattle.yaml_json.specs.declared.next.Collection.TheVariants as collections
-use Rattle.yaml_json.proofs.Rules.{white_joined}
+use Rattle.yaml_json.proofs.Rules.{white_joined, scalar_read}
 
 -- ---- white space before
 
@@ -28,7 +28,7 @@ pub ends_white : (ks : List Collection) (s t : List ℕ) → Ws s t → Ends ks 
 ends_white [] s t w (v, e, x) = (s, refl, white_joined w (subst (λ z. Ws z []) (sym e) x))
 ends_white (k ∷ ks) s t w (v, l, x) = (v, leave_white k ks s t v w l, x)
 
-goes_white : (ks : List Collection) (s t : List ℕ) → Ws s t → GoesAt ks t → GoesAt ks s
+pub goes_white : (ks : List Collection) (s t : List ℕ) → Ws s t → GoesAt ks t → GoesAt ks s
 goes_white ks s t w (a, b, x, v, e) = (a, b, white_joined w x, v, e)
 
 -- ---- the collection that was opened last
@@ -41,10 +41,10 @@ leave_outer : (ks : List Collection) (k : Collection) (s r : List ℕ) → Leave
 leave_outer [] k s r (u, e, l) = (r, subst (λ z. Left k z r) (sym e) l, refl)
 leave_outer (j ∷ js) k s r (u, m, x) = let w = leave_outer js k s u m in (w.0, w.1, (u, w.2, x))
 
-ends_inner : (ks : List Collection) (k : Collection) (s t : List ℕ) → Left k s t → Ends ks t → Ends (ks ++ k ∷ []) s
+pub ends_inner : (ks : List Collection) (k : Collection) (s t : List ℕ) → Left k s t → Ends ks t → Ends (ks ++ k ∷ []) s
 ends_inner ks k s t l (u, m, w) = (u, leave_inner ks k s t u l m, w)
 
-ends_outer : (ks : List Collection) (k : Collection) (s : List ℕ) → Ends (ks ++ k ∷ []) s → (t : List ℕ) × Left k s t × Ends ks t
+pub ends_outer : (ks : List Collection) (k : Collection) (s : List ℕ) → Ends (ks ++ k ∷ []) s → (t : List ℕ) × Left k s t × Ends ks t
 ends_outer ks k s (u, m, w) = let x = leave_outer ks k s u m in (x.0, x.1, (u, x.2, w))
 
 -- a structural character with no white space before it
@@ -70,6 +70,9 @@ array_begun ks new bytes inside w is (t, u, a, v, e) =
 abbrev pub Named : List ℕ → List ℕ → Type 0
 Named bytes value = (t : List ℕ) × Str bytes t × Ws t (58 ∷ value)
 
+pub name_read : (bytes colon behind value : List ℕ) → Str bytes colon → Ws colon behind → behind ≡ 58 ∷ value → Named bytes value
+name_read bytes colon behind value q w e = (colon, q, subst (λ z. Ws colon z) e w)
+
 named : (bytes value t u : List ℕ) → Named bytes value → Ws value t → Value t u → Member bytes u
 named bytes value t u n a v = member n.1 (structural n.2 a) v
 
@@ -77,6 +80,9 @@ pub object_begun : (ks new : List Collection) (bytes inside value : List ℕ) �
 object_begun ks new bytes inside value w n is (t, u, a, v, e) =
     let out = ends_outer ks collections.Object u (subst (λ z. Ends z u) is e) in
     (123 ∷ bytes, out.0, no_white, object_value (object (structural no_white w) (named inside value t u n a v) out.1.1 out.1.2), out.2)
+
+pub scalar_began : (ks : List Collection) (bytes start rest : List ℕ) → Ws bytes start → Scalar start rest → Ends ks rest → GoesAt ks bytes
+scalar_began ks bytes start rest w x ends = (start, rest, w, scalar_read start rest x, ends)
 
 pub begun : (ks : List Collection) (c : ℕ) (bytes start inside : List ℕ) → Ws bytes start → start ≡ c ∷ inside → GoesAt ks (c ∷ inside) → GoesAt ks bytes
 begun ks c bytes start inside w e g = goes_white ks bytes start w (subst (λ z. GoesAt ks z) (sym e) g)
@@ -102,13 +108,6 @@ member_begun ks new bytes more name value q w n is (t, u, a, v, e) =
 pub value_ended : (old new : List Collection) (last k : Collection) (bytes rest : List ℕ) → Ws bytes rest → old ≡ new ++ last ∷ [] → last ≡ k → Ends (new ++ k ∷ []) rest → Ends old bytes
 value_ended old new last k bytes rest w is which e =
     ends_white old bytes rest w (subst (λ z. Ends z rest) (sym is) (subst (λ z. Ends (new ++ z ∷ []) rest) (sym which) e))
-
-none_left : (n : ℕ) (ks : List Collection) → n ≡ length ks → n ≡ 0 → ks ≡ []
-none_left n [] e z = refl
-none_left n (k ∷ ks) e z = absurd (omega arith)
-
-pub text_ended : (n : ℕ) (ks : List Collection) (bytes rest : List ℕ) → n ≡ length ks → n ≡ 0 → Ws bytes rest → rest ≡ [] → Ends ks bytes
-text_ended n ks bytes rest e z w is = subst (λ y. Ends y bytes) (sym (none_left n ks e z)) (bytes, refl, subst (λ y. Ws bytes y) is w)
 
 -- ---- the whole text
 

@@ -1,30 +1,33 @@
 -- The rules of scalars, by what a reader took.
-use Rattle.std.proofs.Common.{◌≡◌, ℕ, List, ◌∷◌, true, Bool, subst, sym, ◌∙◌}
-use Rattle.yaml_json.specs.Json.{is_white, is_digit, is_nonzero_digit, is_hex_digit, is_e, is_sign, is_unescaped, is_escaped, Ws, no_white, white, Digits, no_digit, digit, SomeDigits, some_digits, Minus, minus, Int, zero_int, other_int, Frac, frac, Exp, signed_exp, Chars, unescaped, escape, code_point, Str, string, Value, false_value, null_value, true_value}
+use Rattle.std.proofs.Common.{◌≡◌, ℕ, List, ◌∷◌, true, Bool, Option, None, Bor, subst, ap, sym, ◌∙◌}
+use Rattle.std.specs.Prelude.{IfNone}
+use Rattle.yaml_json.specs.Json.{is_white, is_digit, is_nonzero_digit, is_e, is_sign, is_unescaped, is_escaped, Ws, no_white, white, Digits, no_digit, digit, SomeDigits, some_digits, Minus, minus, Int, zero_int, other_int, Frac, frac, Exp, signed_exp, Chars, unescaped, escape, code_point, Str, string, Value, false_value, null_value, true_value, number_value, string_value}
+use Rattle.yaml_json.specs.Reading.{No, Char, plain_char, escaped_char, numbered_char, Scalar, false_scalar, null_scalar, true_scalar, number_scalar, string_scalar}
+
+-- what is told of a `None` by `?`
+pub none_told : {T : Type 0} (o : Option T) (P : Type 0) → o ≡ None → P → IfNone o P
+none_told o P e p = subst (λ z. IfNone z P) (sym e) p
 
 -- ---- white space
-
-pub took_white : (bytes rest : List ℕ) (c : ℕ) (b : Bool) → bytes ≡ c ∷ rest → b ≡ is_white c → b ≡ true → Ws bytes rest
-took_white bytes rest c b e h t = subst (λ z. Ws z rest) (sym e) (white (sym h ∙ t) no_white)
 
 pub white_joined : {s t r : List ℕ} → Ws s t → Ws t r → Ws s r
 white_joined no_white k = k
 white_joined (white h w) k = white h (white_joined w k)
 
--- ---- numbers
+pub took_white : (bytes rest after : List ℕ) → Ws bytes rest → (c : ℕ) × (is_white c ≡ true) × (rest ≡ c ∷ after) → Ws bytes after
+took_white bytes rest after w (c, h, e) = white_joined w (subst (λ z. Ws z after) (sym e) (white h no_white))
 
-pub took_digit : (bytes rest : List ℕ) (c : ℕ) (b : Bool) → bytes ≡ c ∷ rest → b ≡ is_digit c → b ≡ true → SomeDigits bytes rest
-took_digit bytes rest c b e h t = subst (λ z. SomeDigits z rest) (sym e) (some_digits (sym h ∙ t) no_digit)
+-- ---- numbers
 
 pub digits_joined : {s t r : List ℕ} → Digits s t → Digits t r → Digits s r
 digits_joined no_digit k = k
 digits_joined (digit h d) k = digit h (digits_joined d k)
 
-pub some_are_digits : {s r : List ℕ} → SomeDigits s r → Digits s r
-some_are_digits (some_digits h d) = digit h d
+pub took_digit : (bytes rest after : List ℕ) → Digits bytes rest → (c : ℕ) × (is_digit c ≡ true) × (rest ≡ c ∷ after) → Digits bytes after
+took_digit bytes rest after d (c, h, e) = digits_joined d (subst (λ z. Digits z after) (sym e) (digit h no_digit))
 
-pub some_joined : {s t r : List ℕ} → SomeDigits s t → Digits t r → SomeDigits s r
-some_joined (some_digits h d) k = some_digits h (digits_joined d k)
+pub took_some : (bytes more rest : List ℕ) → (c : ℕ) × (is_digit c ≡ true) × (bytes ≡ c ∷ more) → Digits more rest → SomeDigits bytes rest
+took_some bytes more rest (c, h, e) d = subst (λ z. SomeDigits z rest) (sym e) (some_digits h d)
 
 pub took_minus : (bytes rest : List ℕ) → bytes ≡ 45 ∷ rest → Minus bytes rest
 took_minus bytes rest e = subst (λ z. Minus z rest) (sym e) minus
@@ -46,49 +49,30 @@ took_exp bytes power rest e q x = subst (λ z. Exp z rest) (sym q) x
 
 -- ---- strings
 
-pub took_unescaped : (bytes rest : List ℕ) (c : ℕ) (b : Bool) → bytes ≡ c ∷ rest → b ≡ is_unescaped c → b ≡ true → (r : List ℕ) → Chars rest r → Chars bytes r
-took_unescaped bytes rest c b e h t r k = subst (λ z. Chars z r) (sym e) (unescaped (sym h ∙ t) k)
+pub plain_read : (bytes rest : List ℕ) (c : ℕ) (b : Bool) → bytes ≡ c ∷ rest → b ≡ is_unescaped c → b ≡ true → Char bytes rest
+plain_read bytes rest c b e h t = plain_char (sym h ∙ t) e
 
-pub took_escape : (bytes rest : List ℕ) (c : ℕ) (b : Bool) → bytes ≡ c ∷ rest → b ≡ is_escaped c → b ≡ true → (r : List ℕ) → Chars rest r → Chars (92 ∷ bytes) r
-took_escape bytes rest c b e h t r k = subst (λ z. Chars (92 ∷ z) r) (sym e) (escape (sym h ∙ t) k)
+pub escaped_read : (bytes rest : List ℕ) (c : ℕ) (b : Bool) → bytes ≡ c ∷ rest → b ≡ is_escaped c → b ≡ true → Char (92 ∷ bytes) rest
+escaped_read bytes rest c b e h t = escaped_char (sym h ∙ t) (ap (λ z. 92 ∷ z) e)
 
-abbrev pub HexDigit : List ℕ → List ℕ → Type 0
-HexDigit bytes rest = (c : ℕ) × (is_hex_digit c ≡ true) × (bytes ≡ c ∷ rest)
+-- nothing is read behind a byte
+pub none_behind : (Read : List ℕ → List ℕ → Type 0) (o : Option (Bor (List ℕ))) (bytes rest : List ℕ) (c d : ℕ) → bytes ≡ c ∷ rest → c ≡ d → IfNone o (No (Read (d ∷ rest))) → IfNone o (No (Read bytes))
+none_behind Read o bytes rest c d e f h = subst (λ z. IfNone o (No (Read z))) (ap (λ z. z ∷ rest) (sym f) ∙ sym e) h
 
-pub took_code_point : (p q s t u : List ℕ) → HexDigit p q → HexDigit q s → HexDigit s t → HexDigit t u → (r : List ℕ) → Chars u r → Chars (92 ∷ 117 ∷ p) r
-took_code_point p q s t u (a, ha, ea) (b, hb, eb) (c, hc, ec) (d, hd, ed) r k =
-    let k4 : Chars (92 ∷ 117 ∷ a ∷ b ∷ c ∷ d ∷ u) r = code_point ha hb hc hd k in
-    let k3 = subst (λ z. Chars (92 ∷ 117 ∷ a ∷ b ∷ c ∷ z) r) (sym ed) k4 in
-    let k2 = subst (λ z. Chars (92 ∷ 117 ∷ a ∷ b ∷ z) r) (sym ec) k3 in
-    let k1 = subst (λ z. Chars (92 ∷ 117 ∷ a ∷ z) r) (sym eb) k2 in
-    subst (λ z. Chars (92 ∷ 117 ∷ z) r) (sym ea) k1
+-- one character more
+pub char_read : (s t r : List ℕ) → Char s t → Chars t r → Chars s r
+char_read s t r (plain_char h e) k = subst (λ z. Chars z r) (sym e) (unescaped h k)
+char_read s t r (escaped_char h e) k = subst (λ z. Chars z r) (sym e) (escape h k)
+char_read s t r (numbered_char a b c d e) k = subst (λ z. Chars z r) (sym e) (code_point a b c d k)
 
 pub took_string : (bytes chars rest : List ℕ) → bytes ≡ 34 ∷ chars → Chars chars (34 ∷ rest) → Str bytes rest
 took_string bytes chars rest e k = subst (λ z. Str z rest) (sym e) (string k)
 
--- ---- words
+-- ---- values
 
-pub took_false : (p q s t u r : List ℕ) → p ≡ 102 ∷ q → q ≡ 97 ∷ s → s ≡ 108 ∷ t → t ≡ 115 ∷ u → u ≡ 101 ∷ r → Value p r
-took_false p q s t u r a b c d e =
-    let k4 : Value (102 ∷ 97 ∷ 108 ∷ 115 ∷ 101 ∷ r) r = false_value in
-    let k3 = subst (λ z. Value (102 ∷ 97 ∷ 108 ∷ 115 ∷ z) r) (sym e) k4 in
-    let k2 = subst (λ z. Value (102 ∷ 97 ∷ 108 ∷ z) r) (sym d) k3 in
-    let k1 = subst (λ z. Value (102 ∷ 97 ∷ z) r) (sym c) k2 in
-    let k0 = subst (λ z. Value (102 ∷ z) r) (sym b) k1 in
-    subst (λ z. Value z r) (sym a) k0
-
-pub took_null : (p q s t r : List ℕ) → p ≡ 110 ∷ q → q ≡ 117 ∷ s → s ≡ 108 ∷ t → t ≡ 108 ∷ r → Value p r
-took_null p q s t r a b c d =
-    let k3 : Value (110 ∷ 117 ∷ 108 ∷ 108 ∷ r) r = null_value in
-    let k2 = subst (λ z. Value (110 ∷ 117 ∷ 108 ∷ z) r) (sym d) k3 in
-    let k1 = subst (λ z. Value (110 ∷ 117 ∷ z) r) (sym c) k2 in
-    let k0 = subst (λ z. Value (110 ∷ z) r) (sym b) k1 in
-    subst (λ z. Value z r) (sym a) k0
-
-pub took_true : (p q s t r : List ℕ) → p ≡ 116 ∷ q → q ≡ 114 ∷ s → s ≡ 117 ∷ t → t ≡ 101 ∷ r → Value p r
-took_true p q s t r a b c d =
-    let k3 : Value (116 ∷ 114 ∷ 117 ∷ 101 ∷ r) r = true_value in
-    let k2 = subst (λ z. Value (116 ∷ 114 ∷ 117 ∷ z) r) (sym d) k3 in
-    let k1 = subst (λ z. Value (116 ∷ 114 ∷ z) r) (sym c) k2 in
-    let k0 = subst (λ z. Value (116 ∷ z) r) (sym b) k1 in
-    subst (λ z. Value z r) (sym a) k0
+pub scalar_read : (s r : List ℕ) → Scalar s r → Value s r
+scalar_read s r (false_scalar e) = subst (λ z. Value z r) (sym e) false_value
+scalar_read s r (null_scalar e) = subst (λ z. Value z r) (sym e) null_value
+scalar_read s r (true_scalar e) = subst (λ z. Value z r) (sym e) true_value
+scalar_read s r (number_scalar n) = number_value n
+scalar_read s r (string_scalar q) = string_value q

@@ -1,10 +1,12 @@
 //! The first byte of some, and white space.
-ghost use Rattle.std.specs.Prelude.{◌≡◌, ◌∷◌, IfSome};
+ghost use Rattle.std.specs.Prelude.{◌≡◌, ◌∷◌, ◌++◌, [], ℕ, List, true, false, IfSome, IfNone};
 ghost use Rattle.yaml_json.specs.Json.{is_white, Ws};
+ghost use Rattle.yaml_json.specs.Reading.{begins, No};
 
 /// The first byte, and those after it.
 pub(crate) fn first(bytes: &[u8]) -> Option<(u8, &[u8])>
-    ensures { IfSome result (λ p. bytes.now ≡ p.0 ∷ p.1.now) }
+    ensures some { IfSome result (λ p. bytes.now ≡ p.0 ∷ p.1.now) }
+    ensures none { IfNone result (bytes.now ≡ []) }
 {
     match bytes.split_first() {
         Some((byte, rest)) => Some((*byte, rest)),
@@ -14,12 +16,22 @@ pub(crate) fn first(bytes: &[u8]) -> Option<(u8, &[u8])>
 
 /// The bytes after this one, if it is the first.
 pub(crate) fn after_byte(bytes: &[u8], byte: u8) -> Option<&[u8]>
-    ensures { IfSome result (λ rest. bytes.now ≡ byte ∷ rest.now) }
+    ensures some { IfSome result (λ rest. bytes.now ≡ byte ∷ rest.now) }
+    ensures none { IfNone result (No (λ rest. bytes.now ≡ byte ∷ rest)) }
 {
-    match first(bytes) {
-        Some((c, rest)) if c == byte => Some(rest),
-        _ => None,
+    let (c, rest) = first(bytes)?;
+    if c == byte {
+        return Some(rest);
     }
+    None
+}
+
+/// The bytes after these, if they are the first.
+pub(crate) fn after_word<'a>(bytes: &'a [u8], word: &[u8]) -> Option<&'a [u8]>
+    ensures some { IfSome result (λ rest. bytes.now ≡ word.now ++ rest.now) }
+    ensures none { IfNone result (No (λ rest. bytes.now ≡ word.now ++ rest)) }
+{
+    bytes.strip_prefix(word)
 }
 
 fn is_white(c: u8) -> bool
@@ -30,7 +42,8 @@ fn is_white(c: u8) -> bool
 
 /// The bytes after one byte of white space.
 fn after_white_byte(bytes: &[u8]) -> Option<&[u8]>
-    ensures { IfSome result (λ rest. Ws bytes.now rest.now) }
+    ensures some { IfSome result (λ rest. (c : ℕ) × (is_white c ≡ true) × (bytes.now ≡ c ∷ rest.now)) }
+    ensures none { IfNone result (begins is_white bytes.now ≡ false) }
 {
     let (c, rest) = first(bytes)?;
     if is_white(c) {
@@ -41,13 +54,11 @@ fn after_white_byte(bytes: &[u8]) -> Option<&[u8]>
 
 /// The bytes after the white space with which they begin.
 pub(crate) fn after_white(bytes: &[u8]) -> &[u8]
-    ensures { Ws bytes.now result.now }
+    ensures white { Ws bytes.now result.now }
+    ensures all { begins is_white result.now ≡ false }
 {
     let mut rest = bytes;
-    'white: for _ in 0..bytes.len() {
-        let Some(after) = after_white_byte(rest) else {
-            return rest;
-        };
+    'white: while let Some(after) = after_white_byte(rest) {
         rest = after;
     }
     rest

@@ -1,6 +1,7 @@
 //! Numbers (RFC 8259, 6).
-ghost use Rattle.std.specs.Prelude.{◌≡◌, ◌∷◌, true, IfSome};
+ghost use Rattle.std.specs.Prelude.{◌≡◌, ◌∷◌, ℕ, true, false, IfSome, IfNone};
 ghost use Rattle.yaml_json.specs.Json.{is_digit, is_nonzero_digit, is_e, is_sign, Digits, SomeDigits, Minus, Int, Frac, Exp, Number};
+ghost use Rattle.yaml_json.specs.Reading.{begins, Only, No, DigitsTo, MinusTo, IntTo, FracTo, ExpTo, NumberTo};
 
 use crate::bytes::{after_byte, first};
 
@@ -30,7 +31,8 @@ fn is_sign(c: u8) -> bool
 
 /// The bytes after one digit.
 fn after_digit(bytes: &[u8]) -> Option<&[u8]>
-    ensures { IfSome result (λ rest. SomeDigits bytes.now rest.now) }
+    ensures some { IfSome result (λ rest. (c : ℕ) × (is_digit c ≡ true) × (bytes.now ≡ c ∷ rest.now)) }
+    ensures none { IfNone result (begins is_digit bytes.now ≡ false) }
 {
     let (c, rest) = first(bytes)?;
     if is_digit(c) {
@@ -41,13 +43,11 @@ fn after_digit(bytes: &[u8]) -> Option<&[u8]>
 
 /// The bytes after the digits with which they begin.
 fn after_digits(bytes: &[u8]) -> &[u8]
-    ensures { Digits bytes.now result.now }
+    ensures digits { Digits bytes.now result.now }
+    ensures all { begins is_digit result.now ≡ false }
 {
     let mut rest = bytes;
-    'digits: for _ in 0..bytes.len() {
-        let Some(after) = after_digit(rest) else {
-            return rest;
-        };
+    'digits: while let Some(after) = after_digit(rest) {
         rest = after;
     }
     rest
@@ -55,7 +55,9 @@ fn after_digits(bytes: &[u8]) -> &[u8]
 
 /// The same, where there is at least one digit.
 fn after_some_digits(bytes: &[u8]) -> Option<&[u8]>
-    ensures { IfSome result (λ rest. SomeDigits bytes.now rest.now) }
+    ensures some { IfSome result (λ rest. SomeDigits bytes.now rest.now) }
+    ensures only { IfSome result (λ rest. Only (DigitsTo bytes.now) rest.now) }
+    ensures none { IfNone result (No (DigitsTo bytes.now)) }
 {
     let more = after_digit(bytes)?;
     Some(after_digits(more))
@@ -63,7 +65,8 @@ fn after_some_digits(bytes: &[u8]) -> Option<&[u8]>
 
 /// The bytes after the minus, if there is one.
 fn after_minus(bytes: &[u8]) -> &[u8]
-    ensures { Minus bytes.now result.now }
+    ensures minus { Minus bytes.now result.now }
+    ensures only { Only (MinusTo bytes.now) result.now }
 {
     match after_byte(bytes, b'-') {
         Some(rest) => rest,
@@ -73,7 +76,9 @@ fn after_minus(bytes: &[u8]) -> &[u8]
 
 /// The bytes after the integer part.
 fn after_int(bytes: &[u8]) -> Option<&[u8]>
-    ensures { IfSome result (λ rest. Int bytes.now rest.now) }
+    ensures some { IfSome result (λ rest. Int bytes.now rest.now) }
+    ensures only { IfSome result (λ rest. Only (IntTo bytes.now) rest.now) }
+    ensures none { IfNone result (No (IntTo bytes.now)) }
 {
     let (c, rest) = first(bytes)?;
     if c == b'0' {
@@ -87,7 +92,9 @@ fn after_int(bytes: &[u8]) -> Option<&[u8]>
 
 /// The bytes after the fraction, if there is one.
 fn after_frac(bytes: &[u8]) -> Option<&[u8]>
-    ensures { IfSome result (λ rest. Frac bytes.now rest.now) }
+    ensures some { IfSome result (λ rest. Frac bytes.now rest.now) }
+    ensures only { IfSome result (λ rest. Only (FracTo bytes.now) rest.now) }
+    ensures none { IfNone result (No (FracTo bytes.now)) }
 {
     let Some(digits) = after_byte(bytes, b'.') else {
         return Some(bytes);
@@ -99,7 +106,9 @@ fn after_frac(bytes: &[u8]) -> Option<&[u8]>
 /// The bytes after the exponent, whose `e` is before them.
 fn after_power(bytes: &[u8], e: u8) -> Option<&[u8]>
     requires { is_e e ≡ true }
-    ensures { IfSome result (λ rest. Exp (e ∷ bytes.now) rest.now) }
+    ensures some { IfSome result (λ rest. Exp (e ∷ bytes.now) rest.now) }
+    ensures only { IfSome result (λ rest. Only (ExpTo (e ∷ bytes.now)) rest.now) }
+    ensures none { IfNone result (No (ExpTo (e ∷ bytes.now))) }
 {
     let (c, digits) = first(bytes)?;
     if is_sign(c) {
@@ -112,7 +121,9 @@ fn after_power(bytes: &[u8], e: u8) -> Option<&[u8]>
 
 /// The bytes after the exponent, if there is one.
 fn after_exp(bytes: &[u8]) -> Option<&[u8]>
-    ensures { IfSome result (λ rest. Exp bytes.now rest.now) }
+    ensures some { IfSome result (λ rest. Exp bytes.now rest.now) }
+    ensures only { IfSome result (λ rest. Only (ExpTo bytes.now) rest.now) }
+    ensures none { IfNone result (No (ExpTo bytes.now)) }
 {
     let Some((e, power)) = first(bytes) else {
         return Some(bytes);
@@ -126,7 +137,9 @@ fn after_exp(bytes: &[u8]) -> Option<&[u8]>
 
 /// The bytes after a number.
 pub(crate) fn after_number(bytes: &[u8]) -> Option<&[u8]>
-    ensures { IfSome result (λ rest. Number bytes.now rest.now) }
+    ensures some { IfSome result (λ rest. Number bytes.now rest.now) }
+    ensures only { IfSome result (λ rest. Only (NumberTo bytes.now) rest.now) }
+    ensures none { IfNone result (No (NumberTo bytes.now)) }
 {
     let int = after_minus(bytes);
     let frac = after_int(int)?;

@@ -1,6 +1,7 @@
 //! Strings (RFC 8259, 7).
-ghost use Rattle.std.specs.Prelude.{◌≡◌, ◌∷◌, true, List, ℕ, IfSome};
+ghost use Rattle.std.specs.Prelude.{◌≡◌, ◌∷◌, true, false, ℕ, IfSome, IfNone};
 ghost use Rattle.yaml_json.specs.Json.{is_hex_digit, is_unescaped, is_escaped, Chars, Str, letter-u, quotation-mark, reverse-solidus};
+ghost use Rattle.yaml_json.specs.Reading.{begins, Only, No, Char};
 
 use crate::bytes::{after_byte, first};
 
@@ -23,17 +24,20 @@ fn is_unescaped(c: u8) -> bool
 }
 
 fn after_hex_digit(bytes: &[u8]) -> Option<&[u8]>
-    ensures { IfSome result (λ rest. (c : ℕ) × (is_hex_digit c ≡ true) × (bytes.now ≡ c ∷ rest.now)) }
+    ensures some { IfSome result (λ rest. (c : ℕ) × (is_hex_digit c ≡ true) × (bytes.now ≡ c ∷ rest.now)) }
+    ensures none { IfNone result (begins is_hex_digit bytes.now ≡ false) }
 {
-    match first(bytes) {
-        Some((c, rest)) if is_hex_digit(c) => Some(rest),
-        _ => None,
+    let (c, rest) = first(bytes)?;
+    if is_hex_digit(c) {
+        return Some(rest);
     }
+    None
 }
 
 /// The bytes after the four digits of an escape, whose `\u` is before them.
 fn after_code_point(bytes: &[u8]) -> Option<&[u8]>
-    ensures { IfSome result (λ rest. (r : List ℕ) → Chars rest.now r → Chars (reverse-solidus ∷ letter-u ∷ bytes.now) r) }
+    ensures some { IfSome result (λ rest. Char (reverse-solidus ∷ letter-u ∷ bytes.now) rest.now) }
+    ensures none { IfNone result (No (Char (reverse-solidus ∷ letter-u ∷ bytes.now))) }
 {
     let one = after_hex_digit(bytes)?;
     let two = after_hex_digit(one)?;
@@ -44,7 +48,8 @@ fn after_code_point(bytes: &[u8]) -> Option<&[u8]>
 
 /// The bytes after an escape, whose `\` is before them.
 fn after_escape(bytes: &[u8]) -> Option<&[u8]>
-    ensures { IfSome result (λ rest. (r : List ℕ) → Chars rest.now r → Chars (reverse-solidus ∷ bytes.now) r) }
+    ensures some { IfSome result (λ rest. Char (reverse-solidus ∷ bytes.now) rest.now) }
+    ensures none { IfNone result (No (Char (reverse-solidus ∷ bytes.now))) }
 {
     let (c, rest) = first(bytes)?;
     if is_escaped(c) {
@@ -58,7 +63,8 @@ fn after_escape(bytes: &[u8]) -> Option<&[u8]>
 
 /// The bytes after one character of a string.
 fn after_char(bytes: &[u8]) -> Option<&[u8]>
-    ensures { IfSome result (λ rest. (r : List ℕ) → Chars rest.now r → Chars bytes.now r) }
+    ensures some { IfSome result (λ rest. Char bytes.now rest.now) }
+    ensures none { IfNone result (No (Char bytes.now)) }
 {
     let (c, rest) = first(bytes)?;
     if is_unescaped(c) {
@@ -72,21 +78,24 @@ fn after_char(bytes: &[u8]) -> Option<&[u8]>
 
 /// The bytes after the quotation mark that ends a string.
 fn after_chars(bytes: &[u8]) -> Option<&[u8]>
-    ensures { IfSome result (λ rest. Chars bytes.now (quotation-mark ∷ rest.now)) }
+    ensures some { IfSome result (λ rest. Chars bytes.now (quotation-mark ∷ rest.now)) }
+    ensures only { IfSome result (λ rest. Only (λ r. Chars bytes.now (quotation-mark ∷ r)) rest.now) }
+    ensures none { IfNone result (No (λ r. Chars bytes.now (quotation-mark ∷ r))) }
 {
     let mut rest = bytes;
-    'chars: for _ in 0..bytes.len() {
+    'chars: loop {
         if let Some(after) = after_byte(rest, b'"') {
             return Some(after);
         }
         rest = after_char(rest)?;
     }
-    None
 }
 
 /// The bytes after a string.
 pub(crate) fn after_string(bytes: &[u8]) -> Option<&[u8]>
-    ensures { IfSome result (λ rest. Str bytes.now rest.now) }
+    ensures some { IfSome result (λ rest. Str bytes.now rest.now) }
+    ensures only { IfSome result (λ rest. Only (Str bytes.now) rest.now) }
+    ensures none { IfNone result (No (Str bytes.now)) }
 {
     let chars = after_byte(bytes, b'"')?;
     let rest = after_chars(chars)?;

@@ -1,53 +1,21 @@
 //! Values and texts (RFC 8259, 2 to 5). What is open is kept in a list, so the stack does not grow with the nesting.
-ghost use Rattle.std.specs.Prelude.{◌≡◌, ◌∷◌, ◌++◌, [], List, ℕ, IfSome, IfOk, IsTrue};
-ghost use Rattle.yaml_json.specs.Json.{Ws, Str, Value, IsJson, colon, left-curly-bracket, left-square-bracket};
-ghost use Rattle.yaml_json.specs.Reading.{GoesAt, Ends, GoesOn};
+ghost use Rattle.std.specs.Prelude.{◌≡◌, ◌≤◌, ◌<◌, ◌⊎◌, ◌+◌, ◌∷◌, ◌++◌, [], List, ℕ, false, length, IfSome, IfNone, IfOk, IsTrue};
+ghost use Rattle.yaml_json.specs.Json.{is_white, Ws, Str, IsJson, colon, left-curly-bracket, left-square-bracket};
+ghost use Rattle.yaml_json.specs.Reading.{begins, Only, No, Scalar, ScalarTo, GoesAt, Ends, GoesOn, left};
 ghost use Rattle.yaml_json.specs.declared.next.Next.TheVariants as next;
 ghost use Rattle.yaml_json.specs.declared.next.Collection.TheVariants as collections;
 
-use crate::bytes::{after_byte, after_white};
+use crate::bytes::{after_byte, after_white, after_word};
 use crate::next::{Collection, Next};
 use crate::number::after_number;
 use crate::string::after_string;
 use std::alloc::{AllocError, Global};
 
-/// The bytes after `false`.
-fn after_false(bytes: &[u8]) -> Option<&[u8]>
-    ensures { IfSome result (λ rest. Value bytes.now rest.now) }
-{
-    let a = after_byte(bytes, b'f')?;
-    let l = after_byte(a, b'a')?;
-    let s = after_byte(l, b'l')?;
-    let e = after_byte(s, b's')?;
-    let rest = after_byte(e, b'e')?;
-    Some(rest)
-}
-
-/// The bytes after `null`.
-fn after_null(bytes: &[u8]) -> Option<&[u8]>
-    ensures { IfSome result (λ rest. Value bytes.now rest.now) }
-{
-    let u = after_byte(bytes, b'n')?;
-    let l = after_byte(u, b'u')?;
-    let last = after_byte(l, b'l')?;
-    let rest = after_byte(last, b'l')?;
-    Some(rest)
-}
-
-/// The bytes after `true`.
-fn after_true(bytes: &[u8]) -> Option<&[u8]>
-    ensures { IfSome result (λ rest. Value bytes.now rest.now) }
-{
-    let r = after_byte(bytes, b't')?;
-    let u = after_byte(r, b'r')?;
-    let e = after_byte(u, b'u')?;
-    let rest = after_byte(e, b'e')?;
-    Some(rest)
-}
-
 /// The bytes after a value that is no array and no object.
 fn after_scalar(bytes: &[u8]) -> Option<&[u8]>
-    ensures { IfSome result (λ rest. Value bytes.now rest.now) }
+    ensures some { IfSome result (λ rest. Scalar bytes.now rest.now) }
+    ensures only { IfSome result (λ rest. Only (ScalarTo bytes.now) rest.now) }
+    ensures none { IfNone result (No (ScalarTo bytes.now)) }
 {
     if let Some(rest) = after_string(bytes) {
         return Some(rest);
@@ -55,18 +23,21 @@ fn after_scalar(bytes: &[u8]) -> Option<&[u8]>
     if let Some(rest) = after_number(bytes) {
         return Some(rest);
     }
-    if let Some(rest) = after_false(bytes) {
+    if let Some(rest) = after_word(bytes, b"false") {
         return Some(rest);
     }
-    if let Some(rest) = after_null(bytes) {
+    if let Some(rest) = after_word(bytes, b"null") {
         return Some(rest);
     }
-    after_true(bytes)
+    let rest = after_word(bytes, b"true")?;
+    Some(rest)
 }
 
 /// The bytes after the name of a member and its colon.
 fn after_name(bytes: &[u8]) -> Option<&[u8]>
-    ensures { IfSome result (λ rest. (t : List ℕ) × Str bytes.now t × Ws t (colon ∷ rest.now)) }
+    ensures some { IfSome result (λ rest. (t : List ℕ) × Str bytes.now t × Ws t (colon ∷ rest.now)) }
+    ensures only { IfSome result (λ rest. Only (λ r. (t : List ℕ) × Str bytes.now t × Ws t (colon ∷ r)) rest.now) }
+    ensures none { IfNone result (No (λ r. (t : List ℕ) × Str bytes.now t × Ws t (colon ∷ r))) }
 {
     let colon = after_string(bytes)?;
     let rest = after_byte(after_white(colon), b':')?;
@@ -75,7 +46,9 @@ fn after_name(bytes: &[u8]) -> Option<&[u8]>
 
 /// Goes on after the `[` of an array.
 fn begin_array<'a>(around: &mut Vec<Collection>, bytes: &'a [u8]) -> Result<Next<'a>, AllocError>
-    ensures { IfOk result (λ n. GoesOn around.new.items n → GoesAt around.old.items (left-square-bracket ∷ bytes.now)) }
+    ensures reads { IfOk result (λ n. GoesOn around.new.items n → GoesAt around.old.items (left-square-bracket ∷ bytes.now)) }
+    ensures only { IfOk result (λ n. GoesAt around.old.items (left-square-bracket ∷ bytes.now) → GoesOn around.new.items n) }
+    ensures less { IfOk result (λ n. left n ≤ length bytes.now + 1) }
 {
     let inside = after_white(bytes);
     if let Some(rest) = after_byte(inside, b']') {
@@ -87,7 +60,9 @@ fn begin_array<'a>(around: &mut Vec<Collection>, bytes: &'a [u8]) -> Result<Next
 
 /// Goes on after the `{` of an object.
 fn begin_object<'a>(around: &mut Vec<Collection>, bytes: &'a [u8]) -> Result<Next<'a>, AllocError>
-    ensures { IfOk result (λ n. GoesOn around.new.items n → GoesAt around.old.items (left-curly-bracket ∷ bytes.now)) }
+    ensures reads { IfOk result (λ n. GoesOn around.new.items n → GoesAt around.old.items (left-curly-bracket ∷ bytes.now)) }
+    ensures only { IfOk result (λ n. GoesAt around.old.items (left-curly-bracket ∷ bytes.now) → GoesOn around.new.items n) }
+    ensures less { IfOk result (λ n. left n ≤ length bytes.now + 1) }
 {
     let inside = after_white(bytes);
     if let Some(rest) = after_byte(inside, b'}') {
@@ -102,7 +77,9 @@ fn begin_object<'a>(around: &mut Vec<Collection>, bytes: &'a [u8]) -> Result<Nex
 
 /// Goes on where a value is read next.
 fn after_begin<'a>(around: &mut Vec<Collection>, bytes: &'a [u8]) -> Result<Next<'a>, AllocError>
-    ensures { IfOk result (λ n. GoesOn around.new.items n → GoesAt around.old.items bytes.now) }
+    ensures reads { IfOk result (λ n. GoesOn around.new.items n → GoesAt around.old.items bytes.now) }
+    ensures only { IfOk result (λ n. GoesAt around.old.items bytes.now → GoesOn around.new.items n) }
+    ensures less { IfOk result (λ n. left n ≤ length bytes.now) }
 {
     let start = after_white(bytes);
     if let Some(rest) = after_scalar(start) {
@@ -121,7 +98,10 @@ fn after_begin<'a>(around: &mut Vec<Collection>, bytes: &'a [u8]) -> Result<Next
 
 /// Goes on after an item of an array, without white space: this array is no longer in the list.
 fn after_item<'a>(around: &mut Vec<Collection>, bytes: &'a [u8]) -> Result<Next<'a>, AllocError>
-    ensures { IfOk result (λ n. GoesOn around.new.items n → Ends (around.old.items ++ collections.Array ∷ []) bytes.now) }
+    requires { begins is_white bytes.now ≡ false }
+    ensures reads { IfOk result (λ n. GoesOn around.new.items n → Ends (around.old.items ++ collections.Array ∷ []) bytes.now) }
+    ensures only { IfOk result (λ n. Ends (around.old.items ++ collections.Array ∷ []) bytes.now → GoesOn around.new.items n) }
+    ensures less { IfOk result (λ n. left n ≤ length bytes.now) }
 {
     if let Some(rest) = after_byte(bytes, b']') {
         return Ok(Next::Rest(rest));
@@ -135,7 +115,10 @@ fn after_item<'a>(around: &mut Vec<Collection>, bytes: &'a [u8]) -> Result<Next<
 
 /// Goes on after a member of an object, without white space: this object is no longer in the list.
 fn after_member<'a>(around: &mut Vec<Collection>, bytes: &'a [u8]) -> Result<Next<'a>, AllocError>
-    ensures { IfOk result (λ n. GoesOn around.new.items n → Ends (around.old.items ++ collections.Object ∷ []) bytes.now) }
+    requires { begins is_white bytes.now ≡ false }
+    ensures reads { IfOk result (λ n. GoesOn around.new.items n → Ends (around.old.items ++ collections.Object ∷ []) bytes.now) }
+    ensures only { IfOk result (λ n. Ends (around.old.items ++ collections.Object ∷ []) bytes.now → GoesOn around.new.items n) }
+    ensures less { IfOk result (λ n. left n ≤ length bytes.now) }
 {
     if let Some(rest) = after_byte(bytes, b'}') {
         return Ok(Next::Rest(rest));
@@ -152,7 +135,9 @@ fn after_member<'a>(around: &mut Vec<Collection>, bytes: &'a [u8]) -> Result<Nex
 
 /// Goes on after the last value.
 fn after_last(bytes: &[u8]) -> Next<'_>
-    ensures { GoesOn [] result → bytes.now ≡ [] }
+    ensures reads { GoesOn [] result → bytes.now ≡ [] }
+    ensures only { bytes.now ≡ [] → GoesOn [] result }
+    ensures less { left result ≡ 0 }
 {
     if bytes.is_empty() {
         Next::End
@@ -163,7 +148,9 @@ fn after_last(bytes: &[u8]) -> Next<'_>
 
 /// Goes on after a value.
 fn after_value<'a>(around: &mut Vec<Collection>, bytes: &'a [u8]) -> Result<Next<'a>, AllocError>
-    ensures { IfOk result (λ n. GoesOn around.new.items n → Ends around.old.items bytes.now) }
+    ensures reads { IfOk result (λ n. GoesOn around.new.items n → Ends around.old.items bytes.now) }
+    ensures only { IfOk result (λ n. Ends around.old.items bytes.now → GoesOn around.new.items n) }
+    ensures less { IfOk result (λ n. left n ≤ length bytes.now) }
 {
     let rest = after_white(bytes);
     match around.pop() {
@@ -181,7 +168,9 @@ fn after_value<'a>(around: &mut Vec<Collection>, bytes: &'a [u8]) -> Result<Next
 
 /// Goes on by one token, or to the next value.
 fn step<'a>(around: &mut Vec<Collection>, next: Next<'a>) -> Result<Next<'a>, AllocError>
-    ensures { IfOk result (λ n. GoesOn around.new.items n → GoesOn around.old.items next.entry) }
+    ensures reads { IfOk result (λ n. GoesOn around.new.items n → GoesOn around.old.items next.entry) }
+    ensures only { IfOk result (λ n. GoesOn around.old.items next.entry → GoesOn around.new.items n) }
+    ensures less { IfOk result (λ n. left n ≡ 0 ⊎ left n < left next.entry) }
 {
     match next {
         Next::Value(bytes) => after_begin(around, bytes),
@@ -191,17 +180,18 @@ fn step<'a>(around: &mut Vec<Collection>, next: Next<'a>) -> Result<Next<'a>, Al
 }
 
 /// Whether a text is JSON (RFC 8259), with all of its white space and no bound on nesting. It takes a byte of memory for each array and
-/// object that is open at one place. `true` is proved to be right; of `false` nothing is promised.
+/// object that is open at one place.
 ///
 /// # Errors
 /// Memory does not suffice.
 pub fn is_json(alloc: Global, text: &str) -> Result<bool, AllocError>
-    ensures { IfOk result (λ is. IsTrue is → IsJson text.now) }
+    ensures yes { IfOk result (λ is. IsTrue is → IsJson text.now) }
+    ensures no { IfOk result (λ is. is ≡ false → IsJson text.now → ⊥) }
 {
     let bytes = text.as_bytes();
     let mut around: Vec<Collection> = Vec::new(alloc);
     let mut next = Next::Value(bytes);
-    'values: for _ in 0..=bytes.len() {
+    'values: loop {
         next = step(&mut around, next)?;
         match next {
             Next::End => return Ok(true),
@@ -209,5 +199,4 @@ pub fn is_json(alloc: Global, text: &str) -> Result<bool, AllocError>
             Next::Value(_) | Next::Rest(_) => {}
         }
     }
-    Ok(false)
 }
