@@ -2,4 +2,7 @@ mod TraceLaws
 mod Lists
 mod NodeLaws
 mod LayoutLaws
+mod AliasLaws
+mod KeyLaws
+mod RankLaws
 mod SeatLaws

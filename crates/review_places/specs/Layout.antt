@@ -1,5 +1,6 @@
 -- What a layout holds of the events of a stream.
-use Rattle.std.specs.Prelude.{◌≡◌, ℕ, ◌+◌, ◌==◌, cond, List, Option, Some, None, [], ◌∷◌, ◌++◌, slice_set, take, length, slice_get, option_and_then}
+use Rattle.std.specs.Prelude.{◌≡◌, ℕ, ◌+◌, ◌==◌, cond, Bool, List, Option, Some, None, [], ◌∷◌, ◌++◌, slice_set, take, length, slice_get, option_and_then}
+use Rattle.std.specs.List.{list_any}
 use Rattle.review_places.specs.declared.layout.Layout.{Layout}
 use Rattle.review_places.specs.declared.trace.Shape.{Shape}
 use Rattle.review_places.specs.declared.layout.Open.{Open}
@@ -16,6 +17,10 @@ root_events layout = layout.roots.items
 -- the events that are aliases
 abbrev pub alias_events : Layout → List ℕ
 alias_events layout = layout.aliases.items
+
+-- whether an event is an alias
+abbrev pub is_alias_event : Layout → ℕ → Bool
+is_alias_event layout event = list_any (λ alias. alias == event) (alias_events layout)
 
 -- the number of the node of each event, and 4294967295 where there is none
 abbrev pub node_numbers : Layout → List ℕ

@@ -1,6 +1,9 @@
 -- What a trace of events holds.
-use Rattle.std.specs.Prelude.{◌≡◌, ℕ, ◌&&◌, cond, List, [], map, length, nat_le, slice_range}
+use Rattle.std.specs.Prelude.{◌≡◌, ℕ, ◌&&◌, cond, List, [], map, length, nat_le, slice_range, Some, slice_get}
 use Rattle.yaml_definitions.specs.model.Event.{Event, stream_start, stream_end, document_start, document_end, sequence_start, sequence_end, mapping_start, mapping_end, scalar_event, alias_event}
+use Rattle.yaml_definitions.specs.grammar.Characters.{c-tag}
+use Rattle.review_places.specs.declared.trace.Note.TheVariants.{Tag}
+use Rattle.review_places.specs.declared.trace.Noted.{Noted}
 use Rattle.review_places.specs.declared.trace.Shape.{Shape}
 use Rattle.review_places.specs.declared.trace.Shape.TheVariants.{Scalar, Alias, Opens, Closes, Other}
 use Rattle.review_places.specs.declared.trace.Trace.{Trace}
@@ -32,3 +35,16 @@ events_in trace first end = cond (nat_le first end && nat_le end (length trace.e
 -- It has what each event does that was put down and not taken back, in their order, and so an offset for each.
 pub record TraceHolds (t : Trace) (log : List Event) : Type 0 where
   pub shapes : shapes_in t.events.items ≡ map shape_of log
+
+-- A note tells that the node of this event has a tag at this offset, and a tag begins there in the text.
+pub record IsTagNote (noted : Noted) (text : List ℕ) (event at : ℕ) : Type 0 where
+  pub tag : noted.note ≡ Tag at
+  pub here : noted.event ≡ event
+  pub begins : slice_get text at ≡ Some c-tag
+
+-- such a note was made
+pub record IsTagAt (t : Trace) (text : List ℕ) (event at : ℕ) : Type 0 where
+  pub place : ℕ
+  pub noted : Noted
+  pub made : slice_get t.notes.items place ≡ Some noted
+  pub tells : IsTagNote noted text event at

@@ -32,7 +32,7 @@ pub struct Layout {
 
 impl Layout {
     ghost use Rattle.std.specs.Prelude.{◌≡◌, nat_lt, length, slice_get};
-    ghost use Rattle.review_places.specs.Layout.{offsets_of, root_events, alias_events, node_numbers, node_told, part_event, event_below};
+    ghost use Rattle.review_places.specs.Layout.{offsets_of, root_events, alias_events, is_alias_event, node_numbers, node_told, part_event, event_below};
 
     /// The event of a document's root.
     pub fn root(&self, document: usize) -> Option<usize>
@@ -74,7 +74,9 @@ impl Layout {
     }
 
     /// Whether an event is an alias.
-    pub fn is_alias(&self, event: usize) -> bool {
+    pub fn is_alias(&self, event: usize) -> bool
+        ensures { (s : List Shape) → IsLayout s self.now → result ≡ is_alias_event self.now event }
+    {
         self.aliases.binary_search(&event).is_ok()
     }
 

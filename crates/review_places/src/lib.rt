@@ -2,6 +2,7 @@
 #![tactic(auto)]
 
 pub mod finder;
+mod keys;
 pub mod layout;
 pub mod places;
 pub mod trace;

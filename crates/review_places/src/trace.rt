@@ -1,7 +1,7 @@
 //! A stream's events, each with the offset of its own text. An empty node's offset is the end of its properties, or of the
 //! indicator that introduces it where it has none; an empty key without properties has the offset of its colon.
-ghost use Rattle.std.specs.Prelude.{◌≡◌, ◌⊎◌, List, IfOk, IfErr, IfSome, Some, slice_get};
-ghost use Rattle.std.specs.Bool.{OnTrue};
+ghost use Rattle.std.specs.Prelude.{◌≡◌, ◌⊎◌, ℕ, List, IfOk, IfErr, IfSome, IfNone, Some, slice_get};
+ghost use Rattle.std.specs.Bool.{OnTrue, OnFalse};
 ghost use Rattle.yaml_definitions.specs.model.Event.{Event as PlainEvent};
 ghost use Rattle.yaml_definitions.specs.model.Limits.{open_limit};
 ghost use Rattle.yaml_definitions.specs.grammar.Characters.{c-tag};
@@ -12,7 +12,7 @@ ghost use Rattle.yaml_text.specs.Placed.{IsPlaced};
 ghost use Rattle.yaml_text.specs.Source.{text_of};
 ghost use Rattle.yaml_read.specs.Decided.{HasNoReading};
 ghost use Rattle.yaml_text.specs.EventModel.{event_of};
-ghost use Rattle.review_places.specs.Trace.{TraceHolds, shape_of};
+ghost use Rattle.review_places.specs.Trace.{TraceHolds, IsTagAt, shape_of};
 
 use std::alloc::Global;
 use std::borrow::CowStr;
@@ -52,6 +52,25 @@ pub(crate) struct Noted {
     /// How many events there were when the note was made.
     seen: u32,
     pub(crate) note: Note,
+}
+
+impl Noted {
+    ghost use Rattle.review_places.specs.Trace.{IsTagNote};
+
+    /// The offset of a tag, if it was noted for this event and begins there in a text.
+    fn tag_of(self, text: &[u8], event: usize) -> Option<usize>
+        ensures tag { IfSome result (IsTagNote self text.now event) }
+        ensures none { IfNone result ((at : ℕ) → IsTagNote self text.now event at → ⊥) }
+    {
+        let Note::Tag { at } = self.note else {
+            return None;
+        };
+        if self.event as usize == event && begins_tag(text, at as usize) {
+            Some(at as usize)
+        } else {
+            None
+        }
+    }
 }
 
 /// The events of a stream in order, each with the offset at which its own text begins, which four bytes hold: a text has at most
@@ -238,14 +257,12 @@ impl Trace {
 
     /// The offset of the tag of the node that an event begins, in the text that was read. It has one there that is not `!` alone.
     pub fn tag_offset(&self, text: &[u8], event: usize) -> Option<usize>
-        ensures { IfSome result (λ at. slice_get text.now at ≡ Some c-tag) }
+        ensures tag { IfSome result (IsTagAt self.now text.now event) }
+        ensures none { IfNone result ((at : ℕ) → IsTagAt self.now text.now event at → ⊥) }
     {
-        for noted in &self.notes {
-            if let Note::Tag { at } = noted.note
-                && noted.event as usize == event
-                && begins_tag(text, at as usize)
-            {
-                return Some(at as usize);
+        'notes: for noted in &self.notes {
+            if let Some(at) = noted.tag_of(text, event) {
+                return Some(at);
             }
         }
         None
@@ -311,7 +328,8 @@ fn short(at: usize) -> Result<u32, Fault>
 
 /// Whether a tag begins at this offset: with `!` (YAML 1.2.2, 6.9.1).
 fn begins_tag(text: &[u8], at: usize) -> bool
-    ensures { OnTrue result (slice_get text.now at ≡ Some c-tag) }
+    ensures tag { OnTrue result (slice_get text.now at ≡ Some c-tag) }
+    ensures none { OnFalse result (slice_get text.now at ≡ Some c-tag → ⊥) }
 {
     at < text.len() && text[at] == b'!'
 }

@@ -1,12 +1,14 @@
 use Rattle.std.specs.Prelude.{IfSome}
-use Rattle.std.proofs.Common.{subst}
-use Rattle.review_places.specs.Seats.{LeadsDown}
-use Rattle.review_places.proofs.SeatLaws.{one_further}
+use Rattle.std.proofs.Common.{sym, ◌∙◌, ap, subst}
+use Rattle.review_places.specs.Layout.{event_below}
+use Rattle.review_places.specs.Seats.{both_of, LeadsDown}
+use Rattle.review_places.proofs.SeatLaws.{no-event}
 use Rattle.review_places.proofs.finder.Finder.further.Goals as goal
 
-pub returns-in-Some-below-clause-leads : goal.returns-in-Some-below-clause-leads
-returns-in-Some-below-clause-leads c =
+pub returns-in-None-clause-none : goal.returns-in-None-clause-none
+returns-in-None-clause-none c =
     let old = c.args.self.now in
     let part = c.in-Some.part in
-    let d = subst (λ z. IfSome z (λ p. LeadsDown old.both.now old.stream.hand c.args.step c.args.node p.0 p.1)) c.in-Some.is c.in_ok-part.ensures.down in
-    λ path l. one_further old c.step_down.new.self path c.args.step c.args.node part.0 c.args.event part.1 c.in-Some-below.below c.in_ok-part.ensures.same l d c.in-Some-below.ensures
+    let d = subst (λ z. IfSome z (λ p. LeadsDown (both_of old) old.stream.hand c.args.step c.args.node p.0 p.1)) c.in-Some.is c.in_ok-part.ensures.down in
+    let e = ap (λ z. event_below z c.args.event part.1) (sym c.in_ok-part.ensures.same.layout) ∙ sym c.in-None.ensures in
+    λ are. no-event (both_of old) old.stream old.layout c.args.step c.args.node part.0 c.args.event part.1 are d e
