@@ -1,5 +1,5 @@
 //! Nodes as values of JSON (RFC 8259).
-ghost use Rattle.std.specs.Prelude.{◌≡◌, ◌++◌, ◌∷◌, ◌&&◌, [], map, not, bytes_eq, codes, string_bytes, OnOk, IfOk, IfSome, IfErr};
+ghost use Rattle.std.specs.Prelude.{◌≡◌, ◌++◌, ◌∷◌, ◌-◌, ◌&&◌, [], length, map, not, bytes_eq, codes, string_bytes, OnOk, IfOk, IfSome, IfErr};
 ghost use Rattle.yaml_definitions.specs.model.Tree.{scalar};
 ghost use Rattle.yaml_definitions.specs.model.Tag.{str_tag, seq_tag, map_tag};
 ghost use Rattle.yaml_definitions.specs.model.Order.{arranged};
@@ -8,6 +8,7 @@ ghost use Rattle.yaml_graph.specs.GraphView.{tree};
 ghost use Rattle.yaml_rank.specs.RankModel.{key_pair};
 ghost use Rattle.yaml_rank.specs.RanksView.{RanksAre};
 ghost use Rattle.yaml_show_scalar.specs.Texts.{written};
+ghost use Rattle.review_values.specs.Budget.{room_left};
 ghost use Rattle.review_values.specs.Values.{comma, scalar_json, scalar_has_json, IsName, Says, SaysKey, SaysItems, SaysEntries, IsValueOf};
 
 use crate::room::Room;
@@ -209,11 +210,12 @@ pub fn value_text(
 ) -> Result<Option<String>, Fault>
     requires ranked { RanksAre both.now.graph both.now.ranks }
     ensures ok { IfOk result (λ text. IfSome text (λ json. IsValueOf (tree both.now.graph id.0) (string_bytes json))) }
+    ensures room { IfOk result (λ text. IfSome text (λ json. room_left room.new ≡ room_left room.old - length (string_bytes json))) }
     ensures err { IfErr result (λ fault. fault ≡ Fault.OutOfMemory) }
 {
     let mut out = Out::new(alloc, room.next());
     let answer = put_value(both, id, LEVELS, &mut out);
-    room.take(out.text.len());
+    room.take(out.text.as_str().len());
     match answer {
         Ok(()) => {}
         Err(Unsaid::Stopped(Stop::OutOfMemory)) => return Err(Fault::OutOfMemory),
