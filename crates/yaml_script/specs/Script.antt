@@ -9,6 +9,12 @@ use Rattle.yaml_script.specs.declared.script.Edit.TheVariants.{Kept, Removed, Ad
 abbrev pub content : Piece → List ℕ
 content p = p.line.now ++ (p.spaces.now ++ cond p.has_end (10 ∷ []) [])
 
+-- the lines agree in each of their parts
+pub record AreSame (p q : Piece) : Type 0 where
+  pub line : p.line.now ≡ q.line.now
+  pub spaces : p.spaces.now ≡ q.spaces.now
+  pub has_end : p.has_end ≡ q.has_end
+
 -- what the left text has of an edit, and what the right one has
 abbrev pub left_part : Edit → List ℕ
 left_part (Kept p) = content p

@@ -18,12 +18,14 @@ pub struct Piece<'t> {
 }
 
 impl Piece<'_> {
-    ghost use Rattle.std.specs.Prelude.{◌≡◌, true};
-    ghost use Rattle.yaml_script.specs.Script.{content};
+    ghost use Rattle.std.specs.Prelude.{◌≡◌, true, false};
+    ghost use Rattle.yaml_script.specs.Script.{content, AreSame};
 
     /// Whether two lines are equal.
     pub fn is_same(&self, other: &Piece<'_>) -> bool
-        ensures { result ≡ true → content self.now ≡ content other.now }
+        ensures content { result ≡ true → content self.now ≡ content other.now }
+        ensures yes { result ≡ true → AreSame self.now other.now }
+        ensures no { result ≡ false → AreSame self.now other.now → ⊥ }
     {
         self.has_end == other.has_end && self.line == other.line && self.spaces == other.spaces
     }
