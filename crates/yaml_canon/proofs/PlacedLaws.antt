@@ -2,12 +2,13 @@
 use Rattle.std.proofs.Common.{◌≡◌, ◌+◌, ℕ, inl, inr, List, drop, ◌∙◌, ap, subst}
 use Rattle.std.specs.Prelude.{Result, Ok, Err, Option, Some, None, IfErr, MatchResult, slice_get}
 use Rattle.std.specs.Str.{chars, IsCharBoundary}
+use Rattle.yaml_definitions.specs.grammar.Characters.{s-tab, c-escape, c-directive, c-tag}
 use Rattle.yaml_definitions.specs.model.Limits.{text_limit}
 use Rattle.yaml_definitions.specs.model.Serial.{Document}
 use Rattle.yaml_definitions.specs.model.Text.{mark_len}
 use Rattle.yaml_definitions.specs.model.Tree.{Tree}
 use Rattle.yaml_text.specs.Place.{place}
-use Rattle.yaml_text.specs.Placed.{IsPlaced, IsOffset, IsOffsetOf}
+use Rattle.yaml_text.specs.Placed.{IsPlaced, IsOffset, IsOffsetOf, IsOffsetOfLongKey, BeginsLongKey}
 use Rattle.yaml_text.specs.Refused.{RefusesText}
 use Rattle.yaml_text.specs.Source.{bytes_of, mark_of}
 use Rattle.yaml_text.specs.declared.chars.Chars.{Chars}
@@ -19,14 +20,14 @@ use Rattle.yaml_graph.specs.declared.graph.Graph.{Graph}
 use Rattle.yaml_canon.specs.Comparing.{RefusesDocuments}
 use Rattle.yaml_spell.specs.Documents.{RefusesArranged}
 use Rattle.yaml_text.specs.Gathering.{Gathers, GatherFails}
-use Rattle.yaml_canon.specs.FaultPlaces.{IsPlaceIn, TellsPlace, TellsSidesPlace, TellsReadPlace}
+use Rattle.yaml_canon.specs.FaultPlaces.{anything, character, long_key, IsPlaceIn, TellsPlace, TellsSidesPlace, TellsReadPlace}
 use Rattle.yaml_text.specs.declared.side.Side.{Side}
 use Rattle.yaml_text.specs.declared.side.Side.TheVariants.{Left, Right}
 
 -- ---- the reader's places
 
 module _ (bytes : List ℕ) (source : Chars) (e : bytes_of source ≡ drop (mark_len bytes) bytes) (m : mark_of source ≡ mark_len bytes) where
-  offset_in : (at : ℕ) → IsOffset source at → IsPlaceIn bytes (at, None)
+  offset_in : (at : ℕ) → IsOffset source at → IsPlaceIn bytes (at, anything)
   offset_in at (border, is_border, offset) = record {
     border = border;
     is_border = subst (λ z. IsCharBoundary z border) e is_border;
@@ -34,7 +35,7 @@ module _ (bytes : List ℕ) (source : Chars) (e : bytes_of source ≡ drop (mark
     stands = tt;
   }
 
-  offset_of_in : (c at : ℕ) → IsOffsetOf source c at → IsPlaceIn bytes (at, Some c)
+  offset_of_in : (c at : ℕ) → IsOffsetOf source c at → IsPlaceIn bytes (at, character c)
   offset_of_in c at (border, is_border, stands, offset) = record {
     border = border;
     is_border = subst (λ z. IsCharBoundary z border) e is_border;
@@ -42,15 +43,23 @@ module _ (bytes : List ℕ) (source : Chars) (e : bytes_of source ≡ drop (mark
     stands = subst (λ z. slice_get (chars z) (place z border) ≡ Some c) e stands;
   }
 
+  long_key_in : (at : ℕ) → IsOffsetOfLongKey source at → IsPlaceIn bytes (at, long_key)
+  long_key_in at (border, is_border, begins, offset) = record {
+    border = border;
+    is_border = subst (λ z. IsCharBoundary z border) e is_border;
+    offset = offset ∙ ap (λ n. n + border) m;
+    stands = subst (λ z. BeginsLongKey (chars z) (place z border)) e begins;
+  }
+
   pub placed_in : (fault : Fault) → IsPlaced source fault → TellsPlace bytes fault
   placed_in (faults.Syntax at) h = offset_in at h
-  placed_in (faults.Tab at) h = offset_of_in 9 at h
-  placed_in (faults.KeyTooLong at) h = offset_in at h
+  placed_in (faults.Tab at) h = offset_of_in s-tab at h
+  placed_in (faults.KeyTooLong at) h = long_key_in at h
   placed_in (faults.TooDeep at) h = offset_in at h
-  placed_in (faults.BadEscape at) h = offset_of_in 92 at h
-  placed_in (faults.BadDirective at) h = offset_of_in 37 at h
-  placed_in (faults.UnknownHandle at) h = offset_of_in 33 at h
-  placed_in (faults.BadTag at) h = offset_of_in 33 at h
+  placed_in (faults.BadEscape at) h = offset_of_in c-escape at h
+  placed_in (faults.BadDirective at) h = offset_of_in c-directive at h
+  placed_in (faults.UnknownHandle at) h = offset_of_in c-tag at h
+  placed_in (faults.BadTag at) h = offset_of_in c-tag at h
   placed_in _ h = tt
 
 -- ---- the faults that are none of the reader's

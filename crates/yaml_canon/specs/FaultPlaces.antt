@@ -1,10 +1,11 @@
 -- The input offsets that the faults 4 to 11 name.
 use Rattle.std.specs.Prelude.{◌≡◌, ◌+◌, ℕ, List, Option, Some, None, IfSome, drop, slice_get}
 use Rattle.std.specs.Str.{chars, IsCharBoundary}
-use Rattle.yaml_definitions.specs.grammar.Characters.{c-directive, c-escape, c-tag}
+use Rattle.yaml_definitions.specs.grammar.Characters.{s-tab, c-directive, c-escape, c-tag}
 use Rattle.yaml_definitions.specs.model.Limits.{text_limit}
 use Rattle.yaml_definitions.specs.model.Text.{mark_len}
 use Rattle.yaml_text.specs.Place.{place}
+use Rattle.yaml_text.specs.Placed.{BeginsLongKey}
 use Rattle.yaml_text.specs.declared.fault.Fault.{Fault}
 use Rattle.yaml_text.specs.declared.fault.Fault.TheVariants.{Syntax, Tab, KeyTooLong, TooDeep, BadEscape, BadDirective, UnknownHandle, BadTag}
 use Rattle.yaml_text.specs.declared.counted.Counted.{Counted}
@@ -12,24 +13,35 @@ use Rattle.yaml_text.specs.Gathering.{Gathers}
 use Rattle.yaml_text.specs.declared.side.Side.{Side}
 use Rattle.yaml_text.specs.declared.side.Side.TheVariants.{Left, Right}
 
--- the offset that a fault of reading names, and the character that stands there: a tab, a `\`, a `%` or a `!` where it is one of these
-abbrev pub told_place : Fault → Option (ℕ × Option ℕ)
-told_place (Syntax at) = Some (at, None)
-told_place (Tab at) = Some (at, Some 9)
-told_place (KeyTooLong at) = Some (at, None)
-told_place (TooDeep at) = Some (at, None)
-told_place (BadEscape at) = Some (at, Some c-escape)
-told_place (BadDirective at) = Some (at, Some c-directive)
-told_place (UnknownHandle at) = Some (at, Some c-tag)
-told_place (BadTag at) = Some (at, Some c-tag)
+-- what stands at a place of a text: any character or the end, this character, or a key that is too long
+pub data Standing : Type 0 where
+  anything : Standing
+  character : ℕ → Standing
+  long_key : Standing
+
+abbrev pub StandsAt : Standing → List ℕ → ℕ → Type 0
+StandsAt anything cs i = Unit {0}
+StandsAt (character c) cs i = slice_get cs i ≡ Some c
+StandsAt long_key cs i = BeginsLongKey cs i
+
+-- the offset that a fault of reading names, and what stands there: a tab, a key that is too long, a `\`, a `%` or a `!` where it is one of these
+abbrev pub told_place : Fault → Option (ℕ × Standing)
+told_place (Syntax at) = Some (at, anything)
+told_place (Tab at) = Some (at, character s-tab)
+told_place (KeyTooLong at) = Some (at, long_key)
+told_place (TooDeep at) = Some (at, anything)
+told_place (BadEscape at) = Some (at, character c-escape)
+told_place (BadDirective at) = Some (at, character c-directive)
+told_place (UnknownHandle at) = Some (at, character c-tag)
+told_place (BadTag at) = Some (at, character c-tag)
 told_place _ = None
 
--- The offset is that of a border between characters behind the byte order mark, or the text's end, and this character stands there.
-pub record IsPlaceIn (bytes : List ℕ) (told : ℕ × Option ℕ) : Type 0 where
+-- The offset is that of a border between characters behind the byte order mark, or the text's end, and this stands there.
+pub record IsPlaceIn (bytes : List ℕ) (told : ℕ × Standing) : Type 0 where
   pub border : ℕ
   pub is_border : IsCharBoundary (drop (mark_len bytes) bytes) border
   pub offset : told.0 ≡ mark_len bytes + border
-  pub stands : IfSome told.1 (λ c. slice_get (chars (drop (mark_len bytes) bytes)) (place (drop (mark_len bytes) bytes) border) ≡ Some c)
+  pub stands : StandsAt told.1 (chars (drop (mark_len bytes) bytes)) (place (drop (mark_len bytes) bytes) border)
 
 -- a fault of 4 to 11 names such a place of the bytes
 abbrev pub TellsPlace : List ℕ → Fault → Type 0
