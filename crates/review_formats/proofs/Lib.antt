@@ -1,3 +1,4 @@
+pub mod ChangeLaws
 mod EscapeLaws
-mod PieceLaws
+pub mod PieceLaws
 mod SarifLaws

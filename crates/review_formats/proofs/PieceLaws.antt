@@ -1,6 +1,7 @@
 -- Pieces, one behind the other.
-use Rattle.std.proofs.Common.{◌≡◌, ℕ, ◌+◌, ◌<◌, ◌≤◌, List, ◌∷◌, ◌++◌, drop, length, get_or, sym, ◌∙◌, ap, add-one}
-use Rattle.std.specs.List.{flat_map}
+use Rattle.std.proofs.Common.{◌≡◌, ℕ, ◌+◌, ◌<◌, ◌≤◌, List, [], ◌∷◌, ◌++◌, map, drop, length, get_or, sym, ◌∙◌, ap, add-one}
+use Rattle.std.specs.Prelude.{Result, Ok, Err, OnOk}
+use Rattle.std.specs.List.{flat_map, push}
 use Rattle.std.proofs.Math.Seq.{drop-cons}
 use Rattle.std.proofs.Math.ListN.{drop_of_length-le}
 use Rattle.std.proofs.lemmas.List.{append_assoc, append-nil}
@@ -39,3 +40,18 @@ three_put o a b c e f g h k l = two_put o a c e (f ++ g) h (two_put a b c f g k 
 
 pub four_put : (o a b c d e f g i : List ℕ) → a ≡ o ++ e → b ≡ a ++ f → c ≡ b ++ g → d ≡ c ++ i → d ≡ o ++ (e ++ (f ++ (g ++ i)))
 four_put o a b c d e f g i h k l m = two_put o a d e (f ++ (g ++ i)) h (three_put a b c d f g i k l m)
+
+-- a text behind another one, where it is written
+pub then_ok : {X E : Type 0} (r : Result X E) (o a b e f : List ℕ) → a ≡ o ++ e → OnOk r (b ≡ a ++ f) → OnOk r (b ≡ o ++ (e ++ f))
+then_ok (Ok x) o a b e f h k = two_put o a b e f h k
+then_ok (Err x) o a b e f h k = tt
+
+-- ---- what a walk has yielded, of which one more is written
+
+pub yield_next : {X Y : Type 0} (f : Y → List ℕ) (v : X → Y) (xs : List X) (x : X) (o a b : List ℕ) → a ≡ o ++ flat_map f (map v xs) → b ≡ a ++ f (v x) → b ≡ o ++ flat_map f (map v (push xs x))
+yield_next f v xs x o a b h k =
+    k ∙ ap (λ z. z ++ f (v x)) h ∙ append_assoc o (flat_map f (map v xs)) (f (v x)) ∙ ap (λ z. o ++ z) (sym (flat_pushed f v xs x))
+  where
+    flat_pushed : {X Y : Type 0} (f : Y → List ℕ) (v : X → Y) (xs : List X) (x : X) → flat_map f (map v (push xs x)) ≡ flat_map f (map v xs) ++ f (v x)
+    flat_pushed f v [] x = append-nil (f (v x))
+    flat_pushed f v (y ∷ xs) x = ap (λ z. f (v y) ++ z) (flat_pushed f v xs x) ∙ sym (append_assoc (f (v y)) (flat_map f (map v xs)) (f (v x)))

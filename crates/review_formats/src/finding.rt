@@ -1,6 +1,6 @@
 //! What is found in files.
 ghost use Rattle.std.specs.Prelude.{◌≡◌, option_map, string_bytes};
-ghost use Rattle.review_formats.specs.Findings.{sign_word, sign_mark, sign_says, are_whole};
+ghost use Rattle.review_formats.specs.Findings.{sign_word, sign_mark, sign_says, are_whole, count_of};
 
 use yaml_place::Place;
 
@@ -120,16 +120,18 @@ pub struct Findings {
 
 impl Findings {
     /// How many places are listed.
-    pub(crate) fn count(&self) -> usize {
+    pub fn count(&self) -> usize
+        ensures { result ≡ count_of self.now.parts.items }
+    {
         let mut count: usize = 0;
-        for part in &self.parts {
+        'parts: for part in &self.parts {
             count = count.saturating_add(part.list.len());
         }
         count
     }
 
     /// Whether all that was found is listed.
-    pub(crate) fn is_whole(&self) -> bool
+    pub fn is_whole(&self) -> bool
         ensures { result ≡ are_whole self.now.parts.items }
     {
         self.parts.iter().all(|part| part.whole)

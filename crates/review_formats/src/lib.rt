@@ -1,6 +1,7 @@
 //! What is found in files as a page of HTML, as Markdown, as SARIF, and as GitHub's annotations.
 #![tactic(auto)]
 
+pub mod changes;
 pub mod escape;
 pub mod finding;
 pub mod github;
