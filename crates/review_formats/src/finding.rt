@@ -1,5 +1,5 @@
 //! What is found in files.
-ghost use Rattle.std.specs.Prelude.{◌≡◌, option_map, string_bytes};
+ghost use Rattle.std.specs.Prelude.{◌≡◌};
 ghost use Rattle.review_formats.specs.Findings.{sign_word, sign_mark, sign_says, are_whole, count_of};
 
 use yaml_place::Place;
@@ -135,15 +135,5 @@ impl Findings {
         ensures { result ≡ are_whole self.now.parts.items }
     {
         self.parts.iter().all(|part| part.whole)
-    }
-}
-
-/// The text, if there is one.
-pub(crate) fn text_of(text: &Option<String>) -> Option<&str>
-    ensures { option_map (λ told. told.now) result ≡ option_map string_bytes text.now }
-{
-    match text {
-        Some(text) => Some(text.as_str()),
-        None => None,
     }
 }

@@ -3,19 +3,21 @@ use Rattle.std.specs.Prelude.{◌≡◌, ℕ, List, [], ◌∷◌, None, true, c
 use Rattle.review_args.specs.declared.words.Page.{Page}
 use Rattle.review_args.specs.declared.words.Page.TheVariants.{Html, Markdown, Sarif, Github}
 use Rattle.review_formats.specs.Github.{github_text}
+use Rattle.review_formats.specs.Markdown.{markdown_text}
 use Rattle.review_formats.specs.Sarif.{sarif_text}
 use Rattle.review_formats.specs.declared.finding.Finding.{Finding}
 use Rattle.review_formats.specs.declared.finding.Findings.{Findings}
 use Rattle.review_formats.specs.declared.finding.Part.{Part}
+use Rattle.review_html.specs.Html.{IsHtml}
 use Rattle.review_reports.specs.declared.reports.Kind.{Kind}
 use Rattle.review_reports.specs.declared.reports.Kind.TheVariants.{Faults, Warnings}
 
--- The text of annotations or of a log. Of a page of HTML and of tables nothing is said here.
+-- The text of annotations, of a log, of tables or of a page of HTML.
 abbrev pub IsPageText : Page → Findings → List ℕ → Type 0
 IsPageText Github found text = text ≡ github_text found
 IsPageText Sarif found text = text ≡ sarif_text found
-IsPageText Markdown found text = Unit {0}
-IsPageText Html found text = Unit {0}
+IsPageText Markdown found text = text ≡ markdown_text found
+IsPageText Html found text = IsHtml found text
 
 -- the command that finds this
 abbrev pub command_word : Kind → List ℕ

@@ -1,7 +1,7 @@
 //! How the page looks.
 
 /// What the page begins with. It may load nothing and run nothing.
-pub(crate) const HEAD: &str = "<!DOCTYPE html>
+pub const HEAD: &str = "<!DOCTYPE html>
 <html lang=\"en\">
 <head>
 <meta charset=\"utf-8\">
@@ -11,7 +11,7 @@ pub(crate) const HEAD: &str = "<!DOCTYPE html>
 ";
 
 /// The style, light or dark as the reader's system is, in one column where there is no room for two.
-pub(crate) const STYLE: &str =
+pub const STYLE: &str =
     ":root{color-scheme:light dark;--back:#fff;--fore:#1f2328;--dim:#59636e;--edge:#d1d9e0;--box:#f6f8fa;--left:#a40e26;--left-back:#ffebe9;--right:#116329;--right-back:#dafbe1;--changed:#7d4e00;--moved:#0550ae}
 @media (prefers-color-scheme:dark){:root{--back:#0d1117;--fore:#e6edf3;--dim:#9198a1;--edge:#3d444d;--box:#151b23;--left:#ff9492;--left-back:#3c1618;--right:#6fdd8b;--right-back:#12361f;--changed:#e3b341;--moved:#79c0ff}}
 *{box-sizing:border-box}

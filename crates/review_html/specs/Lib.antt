@@ -1,0 +1,5 @@
+pub mod Headings
+pub mod Html
+pub mod Lines
+pub mod Sides
+pub mod Texts

@@ -1,0 +1,276 @@
+//! The lines of a file, with links from those that differ.
+ghost use Rattle.std.specs.Prelude.{◌≡◌, ◌++◌, List, ℕ, map, take, string_bytes, IfOk, IfErr, OnOk};
+ghost use Rattle.std.specs.List.{enumerate_from};
+ghost use Rattle.review_formats.specs.Changes.{without_last};
+ghost use Rattle.review_html.specs.Lines.{line_parts, file_lines, IsFront, line_begin, line_link, line_end, line_front, line_text, ShowsLine, ShowsLines, ShowsFiles};
+ghost use Rattle.review_html.specs.Texts.{AreTexts};
+
+use crate::heading::text;
+use crate::side::Side;
+use crate::sides::{left_of, right_of};
+use review_formats::changes::without_end;
+use review_formats::piece::{Piece, put_pieces};
+use review_formats::{Finding, Part, Shown};
+use std::alloc::Global;
+use yaml_place::Place;
+use yaml_text::fault::Fault;
+
+/// Of a file of so many lines, all are shown.
+const FEW: usize = 400;
+
+/// How many lines are shown before and behind one that differs.
+const AROUND: usize = 3;
+
+/// How many characters of a line are shown. A line of as many bytes is shown whole.
+const WIDE: usize = 400;
+
+/// The place of a finding on a side.
+fn place_on(finding: &Finding, side: Side) -> Option<Place> {
+    match &finding.sides {
+        Some(sides) if side.is_left => sides.left_place,
+        Some(sides) => sides.right_place,
+        None => None,
+    }
+}
+
+/// Of each line the number of the first finding at it, or 0. The lines count from 0. Before the list there are so many findings.
+fn marks_of(
+    alloc: Global,
+    lines: usize,
+    side: Side,
+    list: &[Finding],
+    before: usize,
+) -> Result<Vec<usize>, Fault>
+    ensures err { IfErr result (λ fault. fault ≡ Fault.OutOfMemory) }
+{
+    let mut marks = vec![in alloc; 0usize; lines]?;
+    for (number, finding) in list.iter().enumerate() {
+        let Some(place) = place_on(finding, side) else {
+            continue;
+        };
+        if let Some(mark) = marks.get_mut(place.line.saturating_sub(1)) {
+            if *mark == 0 {
+                *mark = number.saturating_add(before).saturating_add(1);
+            }
+        }
+    }
+    Ok(marks)
+}
+
+/// Whether a line is near one with a mark.
+fn is_near(marks: &[usize], at: usize) -> bool {
+    let from = at.saturating_sub(AROUND);
+    let to = at.saturating_add(AROUND).saturating_add(1).min(marks.len());
+    match marks.get(from..to) {
+        Some(near) => near.iter().any(|mark| *mark > 0),
+        None => false,
+    }
+}
+
+/// As much of a line as is shown.
+fn front(line: &str) -> &str
+    ensures { IsFront line.now result.now }
+{
+    if line.len() <= WIDE {
+        return line;
+    }
+    match line.char_indices().nth(WIDE) {
+        Some((at, _)) => start_to(line, at),
+        None => line,
+    }
+}
+
+/// The start of a text up to a byte; all of it where no character starts there.
+fn start_to(text: &str, at: usize) -> &str
+    ensures { (count : ℕ) × (result.now ≡ take count text.now) }
+{
+    match text.split_at_checked(at) {
+        Some((start, _)) => start,
+        None => text,
+    }
+}
+
+/// What a line begins with, by the number of a finding at it or 0.
+fn line_begin(mark: usize) -> &'static str
+    ensures { result.now ≡ line_begin mark }
+{
+    if mark > 0 {
+        "<li class=\"marked\" id=\""
+    } else {
+        "<li id=\""
+    }
+}
+
+/// Writes the link from a line to the finding at it, if there is one.
+fn put_link(out: &mut String, mark: usize) -> Result<(), Fault>
+    ensures ok { OnOk result (string_bytes out.new ≡ string_bytes out.old ++ line_link mark) }
+    ensures err { IfErr result (λ fault. fault ≡ Fault.OutOfMemory) }
+{
+    if mark > 0 {
+        put_pieces(
+            out,
+            &[
+                Piece::Raw("<a href=\"#d"),
+                Piece::Number(mark),
+                Piece::Raw("\" title=\"to what differs here\">"),
+            ],
+        )
+    } else {
+        Ok(())
+    }
+}
+
+/// What a line ends with.
+fn line_end(mark: usize) -> &'static str
+    ensures { result.now ≡ line_end mark }
+{
+    if mark > 0 { "</a></li>\n" } else { "</li>\n" }
+}
+
+/// Writes the front of a line: its number.
+#[tactic(auto, using(review_formats::proofs::PieceLaws::three_put))]
+fn put_front(out: &mut String, side: Side, number: usize, mark: usize) -> Result<(), Fault>
+    ensures ok { OnOk result (string_bytes out.new ≡ string_bytes out.old ++ line_front side number mark) }
+    ensures err { IfErr result (λ fault. fault ≡ Fault.OutOfMemory) }
+{
+    out.push_str(line_begin(mark))?;
+    side.put_line_id(out, number)?;
+    put_pieces(
+        out,
+        &[
+            Piece::Raw("\" value=\""),
+            Piece::Number(number),
+            Piece::Raw("\">"),
+        ],
+    )
+}
+
+/// Writes a line: its number, which leads to the first finding at it if there is one, and its text.
+#[tactic(auto, using(review_formats::proofs::PieceLaws::three_put))]
+fn put_line(out: &mut String, side: Side, at: usize, mark: usize, line: &str) -> Result<(), Fault>
+    ensures ok { OnOk result (string_bytes out.new ≡ string_bytes out.old ++ line_text side at mark line.now) }
+    ensures err { IfErr result (λ fault. fault ≡ Fault.OutOfMemory) }
+{
+    put_front(out, side, at.saturating_add(1), mark)?;
+    put_link(out, mark)?;
+    put_pieces(
+        out,
+        &[
+            Piece::Raw("<code>"),
+            text(line),
+            Piece::Raw("</code>"),
+            Piece::Raw(line_end(mark)),
+        ],
+    )
+}
+
+/// The line without the carriage return at its end.
+fn without_return(line: &str) -> &str
+    ensures { result.now ≡ without_last 13 line.now }
+{
+    match line.strip_suffix('\r') {
+        Some(front) => front,
+        None => line,
+    }
+}
+
+/// Adds the parts of a line that CR ends.
+fn add_parts<'a>(lines: &mut Vec<&'a str>, line: &'a str) -> Result<(), Fault>
+    ensures ok { OnOk result (map (λ one. one.now) lines.new.items ≡ map (λ one. one.now) lines.old.items ++ line_parts line.now) }
+    ensures err { IfErr result (λ fault. fault ≡ Fault.OutOfMemory) }
+{
+    'parts: for part in without_return(line).split('\r') {
+        lines.push(part)?;
+    }
+    Ok(())
+}
+
+/// The lines of a text.
+fn split_lines(alloc: Global, content: &str) -> Result<Vec<&str>, Fault>
+    ensures ok { IfOk result (λ lines. map (λ one. one.now) lines.items ≡ file_lines content.now) }
+    ensures err { IfErr result (λ fault. fault ≡ Fault.OutOfMemory) }
+{
+    let mut lines = Vec::new(alloc);
+    'lines: for line in without_end(content).split('\n') {
+        add_parts(&mut lines, line)?;
+    }
+    Ok(lines)
+}
+
+/// Writes a line, if all are shown or it is near what differs.
+fn put_shown(
+    out: &mut String,
+    side: Side,
+    at: usize,
+    line: &str,
+    marks: &[usize],
+) -> Result<(), Fault>
+    ensures ok { OnOk result ((text : List ℕ) × ShowsLine side (at, line.now) text × (string_bytes out.new ≡ string_bytes out.old ++ text)) }
+    ensures err { IfErr result (λ fault. fault ≡ Fault.OutOfMemory) }
+{
+    if marks.len() <= FEW || is_near(marks, at) {
+        let mark = marks.get(at).copied().unwrap_or(0);
+        put_line(out, side, at, mark, front(line))
+    } else {
+        Ok(())
+    }
+}
+
+/// Writes lines, each if it is shown.
+fn put_all(out: &mut String, side: Side, lines: &[&str], marks: &[usize]) -> Result<(), Fault>
+    ensures ok { OnOk result ((text : List ℕ) × AreTexts (ShowsLine side) (enumerate_from 0 (map (λ one. one.now) lines.now)) text × (string_bytes out.new ≡ string_bytes out.old ++ text)) }
+    ensures err { IfErr result (λ fault. fault ≡ Fault.OutOfMemory) }
+{
+    'lines: for (at, line) in lines.iter().enumerate() {
+        put_shown(out, side, at, line, marks)?;
+    }
+    Ok(())
+}
+
+/// Writes the lines of a file, or those that are near what differs. Before the list there are so many findings.
+fn put_lines(
+    alloc: Global,
+    out: &mut String,
+    side: Side,
+    shown: &Shown,
+    list: &[Finding],
+    before: usize,
+) -> Result<(), Fault>
+    ensures ok { OnOk result ((text : List ℕ) × ShowsLines side shown.now text × (string_bytes out.new ≡ string_bytes out.old ++ text)) }
+    ensures err { IfErr result (λ fault. fault ≡ Fault.OutOfMemory) }
+{
+    let lines = split_lines(alloc, &shown.text)?;
+    let marks = marks_of(alloc, lines.len(), side, list, before)?;
+    put_pieces(
+        out,
+        &[
+            Piece::Raw("<div><h2><code>"),
+            text(&shown.name),
+            Piece::Raw("</code></h2>\n<ol class=\"lines\">\n"),
+        ],
+    )?;
+    put_all(out, side, &lines, &marks)?;
+    out.push_str("</ol></div>\n")?;
+    Ok(())
+}
+
+/// Writes the lines of the two files around what differs, if they are shown. Before the part of this number there are so many findings.
+pub(crate) fn put_files(
+    alloc: Global,
+    out: &mut String,
+    part: &Part,
+    number: usize,
+    before: usize,
+) -> Result<(), Fault>
+    ensures ok { OnOk result ((text : List ℕ) × ShowsFiles number part.now.shown text × (string_bytes out.new ≡ string_bytes out.old ++ text)) }
+    ensures err { IfErr result (λ fault. fault ≡ Fault.OutOfMemory) }
+{
+    let Some((left, right)) = &part.shown else {
+        return Ok(());
+    };
+    out.push_str("<section class=\"files\"><div class=\"both\">\n")?;
+    put_lines(alloc, out, left_of(number), left, &part.list, before)?;
+    put_lines(alloc, out, right_of(number), right, &part.list, before)?;
+    out.push_str("</div></section>\n")?;
+    Ok(())
+}
