@@ -147,6 +147,6 @@ page_put found a b d e f g h i j k p0 p1 p2 p3 p4 p5 p6 p7 w p9 =
       w.0,
       w.1,
       two_put a b k HEAD.now r2 p1 (two_put b d k (title_text found) r3 p2 (two_put d e k STYLE.now r4 p3 (two_put e f k (codes "</style>\n</head>\n<body>\n") r5 p4 (two_put f g k (header_text found) r6 p5
-      (two_put g h k (links_text found.parts.items) r7 p6 (two_put h i k (codes "<main>\n") r8 p7 (two_put i j k w.0 end w.2 p9)))))))
-      ∙ ap (λ z. z ++ page_text found w.0) p0,
+          (two_put g h k (links_text found.parts.items) r7 p6 (two_put h i k (codes "<main>\n") r8 p7 (two_put i j k w.0 end w.2 p9)))))))
+          ∙ ap (λ z. z ++ page_text found w.0) p0,
     )
