@@ -9,6 +9,7 @@ from lib.crates import crates_of
 from lib.mutants import counted, judging
 from lib.mutants.mutant import Mutant, faults_of, mutants_of, texts_of
 from lib.mutants.recorded import line_of, told_by
+from lib.mutants.run import known_mutants
 from lib.mutants.said import Refusal, Said
 
 MUTANTS = load("tools/mutants")
@@ -88,6 +89,10 @@ class OfTheRepository(unittest.TestCase):
 
     def test_there_are_mutants(self):
         self.assertGreater(sum(len(mutants_of(TOP, crate)) for crate in crates_of(TOP)), 600)
+
+    def test_known_ones_are_there(self):
+        labels = {f"{it.crate}/{it.name}" for crate in crates_of(TOP) for it in mutants_of(TOP, crate)}
+        self.assertLessEqual(known_mutants(TOP, labels), labels)
 
 
 class OfACrate(unittest.TestCase):
