@@ -1,2 +1,3 @@
+mod AgainLaws
 mod FaultLaws
 mod WarnLaws

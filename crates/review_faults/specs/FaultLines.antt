@@ -1,5 +1,5 @@
 -- What is told of a fault of a file, and where.
-use Rattle.std.specs.Prelude.{◌≡◌, ◌<◌, ◌≤◌, ◌+◌, ◌-◌, ℕ, Bool, true, false, List, [], ◌∷◌, ◌++◌, length, drop, Option, Some, None, IfSome, option_map, codes}
+use Rattle.std.specs.Prelude.{◌≡◌, ◌<◌, ◌≤◌, ◌+◌, ◌-◌, ℕ, Bool, true, false, List, [], ◌∷◌, ◌++◌, length, drop, Option, Some, None, IfSome, MatchOption, option_map, codes}
 use Rattle.std.specs.Fmt.{decimal}
 use Rattle.yaml_definitions.specs.model.Text.{mark_len}
 use Rattle.yaml_text.specs.Fault.{fault_number, fault_name}
@@ -13,6 +13,7 @@ use Rattle.review_text.specs.Terminal.{terminal}
 use Rattle.review_text.specs.Objects.{count_data, text_data, said_data, object_line}
 use Rattle.review_text.specs.declared.json.Said.TheVariants as said
 use Rattle.serde_json.specs.Data.{Data}
+use Rattle.review_faults.specs.EventPlaces.{IsEventSpot}
 
 -- ---- where
 
@@ -42,25 +43,30 @@ names_event (faults.TooHigh document) = true
 names_event (faults.EqualKeys node first second) = true
 names_event _ = false
 
+-- the text behind a byte order mark
+abbrev pub text_in : List ℕ → List ℕ
+text_in bytes = drop (mark_len bytes) bytes
+
 -- the line and the column of an offset of a text; none of one behind its end
 abbrev pub IsPlaceAt : List ℕ → ℕ → Option Place → Type 0
 IsPlaceAt text at (Some place) = (at ≤ length text) × IsPlace text at place.line place.column
 IsPlaceAt text at None = length text < at
 
--- where a fault that names no offset of the input is told to be: some offset of the text, and nowhere if it names no event
-pub record IsSomewhere (text : List ℕ) (at : ℕ) (place : Option Place) (fault : Fault) : Type 0 where
-  pub placed : IfSome place (λ p. (at ≤ length text) × IsPlace text at p.line p.column)
+-- Where a fault that names no offset of the input is told to be: at the offset at which a fault of an event is shown, if it is one of the text. Another fault is told to be nowhere.
+pub record IsSomewhere (bytes : List ℕ) (at : ℕ) (place : Option Place) (fault : Fault) : Type 0 where
+  pub placed : IfSome place (λ p. (at ≤ length (text_in bytes)) × IsPlace (text_in bytes) at p.line p.column)
   pub nowhere : names_event fault ≡ false → place ≡ None
+  pub event : names_event fault ≡ true → (found : Option ℕ) × IsEventSpot bytes fault found × MatchOption found (place ≡ None) (λ o. (at ≡ o) × IsPlaceAt (text_in bytes) at place)
 
--- Of a text behind a byte order mark of so many bytes, the place that is told is that of the fault's offset.
-abbrev pub IsSpot : List ℕ → ℕ → Fault → Option ℕ → ℕ → Option Place → Type 0
-IsSpot text mark fault (Some offset) at place = (at ≡ offset - mark) × IsPlaceAt text at place
-IsSpot text mark fault None at place = IsSomewhere text at place fault
+-- The place that is told is that of the fault's offset, which counts a byte order mark.
+abbrev pub IsSpot : List ℕ → Fault → Option ℕ → ℕ → Option Place → Type 0
+IsSpot bytes fault (Some offset) at place = (at ≡ offset - mark_len bytes) × IsPlaceAt (text_in bytes) at place
+IsSpot bytes fault None at place = IsSomewhere bytes at place fault
 
 -- the same of the offset alone, if there is one
-abbrev pub HasOffset : ℕ → Fault → Option ℕ → Option ℕ → Type 0
-HasOffset mark fault (Some offset) at = at ≡ Some (offset - mark)
-HasOffset mark fault None at = names_event fault ≡ false → at ≡ None
+abbrev pub HasOffset : List ℕ → Fault → Option ℕ → Option ℕ → Type 0
+HasOffset bytes fault (Some offset) at = at ≡ Some (offset - mark_len bytes)
+HasOffset bytes fault None at = (names_event fault ≡ false → at ≡ None) × (names_event fault ≡ true → IsEventSpot bytes fault at)
 
 -- ---- a line
 
@@ -115,5 +121,5 @@ IsForm form.Json name fault place byte text = IsObject name fault place (option_
 pub record TellsFault (form : Form) (name bytes : List ℕ) (fault : Fault) (text : List ℕ) : Type 0 where
   pub place : Option Place
   pub at : ℕ
-  pub spot : IsSpot (drop (mark_len bytes) bytes) (mark_len bytes) fault (offset_in fault) at place
+  pub spot : IsSpot bytes fault (offset_in fault) at place
   pub is : IsForm form name fault place (mark_len bytes + at) text

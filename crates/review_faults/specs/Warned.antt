@@ -8,7 +8,6 @@ use Rattle.yaml_definitions.specs.grammar.Reading.{Reads}
 use Rattle.yaml_text.specs.EventModel.{event_of}
 use Rattle.yaml_text.specs.declared.event.Event as code
 use Rattle.yaml_place.specs.LineModel.{IsPlace}
-use Rattle.yaml_place.specs.declared.place.Place.{Place}
 use Rattle.review_args.specs.declared.words.Form.{Form}
 use Rattle.review_args.specs.declared.words.Form.TheVariants as form
 use Rattle.review_text.specs.Objects.{count_data, text_data, object_line}

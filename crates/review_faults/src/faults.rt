@@ -1,6 +1,9 @@
 //! Where in a file a fault is.
-ghost use Rattle.std.specs.Prelude.{◌≡◌, ◌≤◌, ◌+◌, ◌++◌, ℕ, List, drop, length, option_map, IfSome, IfOk, OnOk, string_bytes};
+ghost use Rattle.std.specs.Prelude.{◌≡◌, ◌≤◌, ◌+◌, ◌++◌, ℕ, List, drop, length, option_map, IfSome, IfOk, IfErr, OnOk, string_bytes};
 ghost use Rattle.yaml_definitions.specs.model.Text.{mark_len};
+ghost use Rattle.review_faults.specs.Again.{CannotRead, CannotTell};
+ghost use Rattle.review_places.specs.Trace.{shapes_in};
+ghost use Rattle.review_faults.specs.EventPlaces.{IsEventOf, IsShownAt, IsEventSpot};
 ghost use Rattle.review_faults.specs.FaultLines.{offset_in, names_event, HasOffset, IsPlaceAt, IsSpot, head, place_part, called, byte_part, BeginsLine, line_of, column_of, IsObject, TellsFault};
 
 use review_args::Form;
@@ -60,7 +63,9 @@ pub(crate) struct Told {
 
 impl Told {
     /// What is said of the fault in this text.
-    pub(crate) fn words(&self, alloc: Global, fault: Fault, text: &[u8]) -> Result<String, Fault> {
+    pub(crate) fn words(&self, alloc: Global, fault: Fault, text: &[u8]) -> Result<String, Fault>
+        ensures err { IfErr result (λ fault. fault ≡ Fault.OutOfMemory) }
+    {
         match &self.words {
             Some(words) => Ok(words.clone()?),
             None => words_of(alloc, fault, text, self.at),
@@ -104,12 +109,25 @@ fn names_event(fault: Fault) -> bool
     )
 }
 
+/// An event, if there is one, and beside it that of the first of two equal keys.
+fn beside(event: Option<usize>, first: Option<usize>) -> Option<(usize, Option<usize>)>
+    ensures { option_map (λ told. told.0) result ≡ event }
+{
+    match event {
+        Some(event) => Some((event, first)),
+        None => None,
+    }
+}
+
 /// The event at which a fault without an offset is, and that of the first of two equal keys.
 fn events_in(
     alloc: Global,
     fault: Fault,
     trace: &Trace,
-) -> Result<Option<(usize, Option<usize>)>, Fault> {
+) -> Result<Option<(usize, Option<usize>)>, Fault>
+    ensures event { IfOk result (λ told. IsEventOf (shapes_in trace.now.events.items) fault (option_map (λ t. t.0) told)) }
+    ensures err { IfErr result (λ fault. fault ≡ Fault.OutOfMemory) }
+{
     match fault {
         Fault::UndefinedAlias(event)
         | Fault::CyclicAlias(event)
@@ -119,13 +137,13 @@ fn events_in(
         | Fault::FloatRange(event) => Ok(Some((event, None))),
         Fault::TooHigh(document) => {
             let layout = lay_out(alloc, trace)?;
-            Ok(layout.root(document).map(|event| (event, None)))
+            Ok(beside(layout.root(document), None))
         }
         Fault::EqualKeys(node, first, second) => {
             let layout = lay_out(alloc, trace)?;
             let one = layout.part(node, first.saturating_mul(2));
             let other = layout.part(node, second.saturating_mul(2));
-            Ok(other.map(|event| (event, one)))
+            Ok(beside(other, one))
         }
         _ => Ok(None),
     }
@@ -133,7 +151,9 @@ fn events_in(
 
 /// The offset at which a fault of this event is shown: that of the node's tag where the tag is what is wrong, else that of its own
 /// text.
-fn offset_of(fault: Fault, text: &[u8], trace: &Trace, event: usize) -> Option<usize> {
+fn offset_of(fault: Fault, text: &[u8], trace: &Trace, event: usize) -> Option<usize>
+    ensures { IsShownAt trace.now text.now fault event result }
+{
     match fault {
         Fault::WrongKind(_) | Fault::BadContent(_) => match trace.tag_offset(text, event) {
             Some(at) => Some(at),
@@ -148,7 +168,9 @@ fn event_words(
     alloc: Global,
     fault: Fault,
     event: Option<&Event<'_>>,
-) -> Result<Option<String>, Fault> {
+) -> Result<Option<String>, Fault>
+    ensures err { IfErr result (λ fault. fault ≡ Fault.OutOfMemory) }
+{
     match (fault, event) {
         (Fault::WrongKind(_) | Fault::BadContent(_), Some(event)) => {
             let mut words = String::new(alloc);
@@ -160,7 +182,11 @@ fn event_words(
 }
 
 /// The spot of a fault of an event: one more reading of the text.
-fn spot_of_event(alloc: Global, bytes: &[u8], fault: Fault) -> Result<Spot, Fault> {
+#[tactic(auto, using(crate::proofs::AgainLaws::text_refused, crate::proofs::AgainLaws::reading_refused, crate::proofs::AgainLaws::memory_alone))]
+fn spot_of_event(alloc: Global, bytes: &[u8], fault: Fault) -> Result<Spot, Fault>
+    ensures ok { IfOk result (λ spot. IsEventSpot bytes.now fault spot.at) }
+    ensures err { IfErr result (CannotRead bytes.now) }
+{
     let source = Chars::read(bytes)?;
     let trace = trace_of(alloc, &source)?;
     let Some((number, first)) = events_in(alloc, fault, &trace)? else {
@@ -183,8 +209,10 @@ fn spot_of_event(alloc: Global, bytes: &[u8], fault: Fault) -> Result<Spot, Faul
 }
 
 /// The spot of a fault.
+#[tactic(auto, using(crate::proofs::AgainLaws::event_told))]
 fn find_spot(alloc: Global, bytes: &[u8], fault: Fault) -> Result<Spot, Fault>
-    ensures { IfOk result (λ spot. HasOffset (mark_len bytes.now) fault (offset_in fault) spot.at) }
+    ensures ok { IfOk result (λ spot. HasOffset bytes.now fault (offset_in fault) spot.at) }
+    ensures err { IfErr result (CannotTell bytes.now fault) }
 {
     match offset_in(fault) {
         Some(at) => Ok(Spot::at(Some(at.saturating_sub(mark_len(bytes))))),
@@ -210,15 +238,12 @@ pub(crate) fn place_of(text: &[u8], at: usize) -> Option<Place>
 }
 
 /// The lines and columns of a fault's spot in the text behind the byte order mark.
-pub(crate) fn find_told(
-    alloc: Global,
-    bytes: &[u8],
-    text: &[u8],
-    fault: Fault,
-) -> Result<Told, Fault>
-    ensures placed { IfOk result (λ told. IsSpot text.now (mark_len bytes.now) fault (offset_in fault) told.at told.place) }
+pub(crate) fn find_told(alloc: Global, bytes: &[u8], fault: Fault) -> Result<Told, Fault>
+    ensures placed { IfOk result (λ told. IsSpot bytes.now fault (offset_in fault) told.at told.place) }
+    ensures err { IfErr result (CannotTell bytes.now fault) }
 {
     let spot = find_spot(alloc, bytes, fault)?;
+    let text = unmarked(bytes);
     let first = match spot.first {
         Some(at) => place_of(text, at),
         None => None,
@@ -243,7 +268,8 @@ pub(crate) fn find_told(
 
 /// Writes a line and a column, if there are.
 fn put_place(out: &mut String, place: Option<Place>) -> Result<(), Fault>
-    ensures { OnOk result (string_bytes out.new ≡ string_bytes out.old ++ place_part place) }
+    ensures ok { OnOk result (string_bytes out.new ≡ string_bytes out.old ++ place_part place) }
+    ensures err { IfErr result (λ fault. fault ≡ Fault.OutOfMemory) }
 {
     if let Some(place) = place {
         let line = place.line;
@@ -255,7 +281,8 @@ fn put_place(out: &mut String, place: Option<Place>) -> Result<(), Fault>
 
 /// Writes what comes before a message: the file, and the line and the column if there are.
 pub fn put_head(out: &mut String, name: &str, place: Option<Place>) -> Result<(), Fault>
-    ensures { OnOk result (string_bytes out.new ≡ string_bytes out.old ++ head name.now place) }
+    ensures ok { OnOk result (string_bytes out.new ≡ string_bytes out.old ++ head name.now place) }
+    ensures err { IfErr result (λ fault. fault ≡ Fault.OutOfMemory) }
 {
     put_shown(out, name)?;
     put_place(out, place)?;
@@ -265,7 +292,8 @@ pub fn put_head(out: &mut String, name: &str, place: Option<Place>) -> Result<()
 
 /// Writes the number and the name of a fault.
 fn put_called(out: &mut String, fault: Fault) -> Result<(), Fault>
-    ensures { OnOk result (string_bytes out.new ≡ string_bytes out.old ++ called fault) }
+    ensures ok { OnOk result (string_bytes out.new ≡ string_bytes out.old ++ called fault) }
+    ensures err { IfErr result (λ fault. fault ≡ Fault.OutOfMemory) }
 {
     let number = fault.number();
     let word = fault.name();
@@ -275,7 +303,8 @@ fn put_called(out: &mut String, fault: Fault) -> Result<(), Fault>
 
 /// Writes an offset of the input, if there is a place.
 fn put_byte(out: &mut String, place: Option<Place>, byte: usize) -> Result<(), Fault>
-    ensures { OnOk result (string_bytes out.new ≡ string_bytes out.old ++ byte_part place byte) }
+    ensures ok { OnOk result (string_bytes out.new ≡ string_bytes out.old ++ byte_part place byte) }
+    ensures err { IfErr result (λ fault. fault ≡ Fault.OutOfMemory) }
 {
     if place.is_some() {
         write!(out, " at byte {byte}")?;
@@ -291,7 +320,9 @@ fn explained(
     text: &[u8],
     fault: Fault,
     told: &Told,
-) -> Result<String, Fault> {
+) -> Result<String, Fault>
+    ensures err { IfErr result (λ fault. fault ≡ Fault.OutOfMemory) }
+{
     let mut out = String::new(alloc);
     if let Some(path) = &told.path {
         put_visible(&mut out, path)?;
@@ -327,7 +358,8 @@ fn put_lines(
     told: &Told,
 ) -> Result<(), Fault>
     requires { IfSome told.now.place (λ _. told.now.at ≤ length (drop (mark_len bytes.now) bytes.now)) }
-    ensures { OnOk result ((text : List ℕ) × (string_bytes out.new ≡ string_bytes out.old ++ text) × BeginsLine name.now fault told.now.place (mark_len bytes.now + told.now.at) text) }
+    ensures ok { OnOk result ((text : List ℕ) × (string_bytes out.new ≡ string_bytes out.old ++ text) × BeginsLine name.now fault told.now.place (mark_len bytes.now + told.now.at) text) }
+    ensures err { IfErr result (λ fault. fault ≡ Fault.OutOfMemory) }
 {
     put_head(out, name, told.place)?;
     put_called(out, fault)?;
@@ -379,7 +411,8 @@ fn put_members<'t>(
     told: &'t Told,
     byte: Option<usize>,
 ) -> Result<(), Fault>
-    ensures { OnOk result ((text : List ℕ) × (string_bytes out.new ≡ string_bytes out.old ++ text) × IsObject name.now fault told.now.place byte text) }
+    ensures ok { OnOk result ((text : List ℕ) × (string_bytes out.new ≡ string_bytes out.old ++ text) × IsObject name.now fault told.now.place byte text) }
+    ensures err { IfErr result (λ fault. fault ≡ Fault.OutOfMemory) }
 {
     let members = [
         ("file", Said::Text(Some(name))),
@@ -406,7 +439,8 @@ fn put_json(
     told: &Told,
 ) -> Result<(), Fault>
     requires { IfSome told.now.place (λ _. told.now.at ≤ length (drop (mark_len bytes.now) bytes.now)) }
-    ensures { OnOk result ((text : List ℕ) × (string_bytes out.new ≡ string_bytes out.old ++ text) × IsObject name.now fault told.now.place (option_map (λ _. mark_len bytes.now + told.now.at) told.now.place) text) }
+    ensures ok { OnOk result ((text : List ℕ) × (string_bytes out.new ≡ string_bytes out.old ++ text) × IsObject name.now fault told.now.place (option_map (λ _. mark_len bytes.now + told.now.at) told.now.place) text) }
+    ensures err { IfErr result (λ fault. fault ≡ Fault.OutOfMemory) }
 {
     let words = told.words(alloc, fault, unmarked(bytes))?;
     put_members(
@@ -421,6 +455,10 @@ fn put_json(
 }
 
 /// Writes what is told of a fault: its number and its name, and where it is.
+///
+/// # Errors
+/// `OutOfMemory`. For a fault of an event the bytes are read again; of bytes that the reader rejects, the reader's.
+#[tactic(auto, using(crate::proofs::AgainLaws::memory_told))]
 pub fn put_fault(
     alloc: Global,
     out: &mut String,
@@ -429,9 +467,10 @@ pub fn put_fault(
     fault: Fault,
     form: Form,
 ) -> Result<(), Fault>
-    ensures { OnOk result ((text : List ℕ) × (string_bytes out.new ≡ string_bytes out.old ++ text) × TellsFault form name.now bytes.now fault text) }
+    ensures ok { OnOk result ((text : List ℕ) × (string_bytes out.new ≡ string_bytes out.old ++ text) × TellsFault form name.now bytes.now fault text) }
+    ensures err { IfErr result (CannotTell bytes.now fault) }
 {
-    let told = find_told(alloc, bytes, unmarked(bytes), fault)?;
+    let told = find_told(alloc, bytes, fault)?;
     match form {
         Form::Line => put_lines(alloc, out, name, bytes, fault, &told),
         Form::Json => put_json(alloc, out, name, bytes, fault, &told),

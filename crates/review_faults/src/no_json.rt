@@ -1,4 +1,9 @@
 //! Where in a file a node is that JSON cannot express.
+ghost use Rattle.std.specs.Prelude.{◌≡◌, ◌++◌, ℕ, List, drop, IfOk, IfErr, OnOk, string_bytes};
+ghost use Rattle.yaml_definitions.specs.model.Text.{mark_len};
+ghost use Rattle.review_faults.specs.Again.{CannotRead};
+ghost use Rattle.review_faults.specs.NoJson.{IsOfText, BeginsSomewhere};
+
 use crate::faults::{place_of, put_head};
 use review_places::places::unmarked;
 use review_places::trace::{Trace, trace_of};
@@ -8,6 +13,7 @@ use review_text::put_visible;
 use std::alloc::Global;
 use std::collections::BTreeMap;
 use yaml_core::scalar::resolve;
+use yaml_place::Place;
 use yaml_read::read_events;
 use yaml_text::chars::Chars;
 use yaml_text::core_tag;
@@ -82,7 +88,9 @@ fn value_of(
     alloc: Global,
     event: &Event<'_>,
     named: &BTreeMap<&str, Value>,
-) -> Result<Option<Value>, Fault> {
+) -> Result<Option<Value>, Fault>
+    ensures err { IfErr result (λ fault. fault ≡ Fault.OutOfMemory) }
+{
     match event {
         Event::Scalar {
             tag,
@@ -123,7 +131,9 @@ fn anchor_of<'e>(event: &'e Event<'_>) -> Option<&'e str> {
 }
 
 /// The number and the path of the first event whose node JSON cannot express, and why.
-fn find_lack(alloc: Global, events: &[Event<'_>]) -> Result<Option<(usize, String, Lack)>, Fault> {
+fn find_lack(alloc: Global, events: &[Event<'_>]) -> Result<Option<(usize, String, Lack)>, Fault>
+    ensures err { IfErr result (λ fault. fault ≡ Fault.OutOfMemory) }
+{
     let mut trail = Trail::new(alloc);
     let mut named = BTreeMap::new(alloc);
     for (at, event) in events.iter().enumerate() {
@@ -153,26 +163,67 @@ fn offset_of(lack: Lack, text: &[u8], trace: &Trace, event: usize) -> Option<usi
     }
 }
 
-/// Writes where in a file the first node is that JSON cannot express, and why: position, path, words, the source line and a caret.
-pub fn put_no_json(alloc: Global, out: &mut String, name: &str, bytes: &[u8]) -> Result<(), Fault> {
-    let source = Chars::read(bytes)?;
-    let events = read_events(alloc, &source)?;
-    let Some((event, path, lack)) = find_lack(alloc, &events)? else {
-        put_head(out, name, None)?;
-        out.push_str("JSON cannot express this file\n")?;
-        return Ok(());
-    };
-    let text = unmarked(bytes);
-    let trace = trace_of(alloc, &source)?;
-    let offset = offset_of(lack, text, &trace, event);
-    let place = offset.and_then(|at| place_of(text, at));
-    put_head(out, name, place)?;
-    put_visible(out, &path)?;
+/// The place of an offset, if there is one.
+#[tactic(auto, using(crate::proofs::AgainLaws::some_place))]
+fn placed(text: &[u8], offset: Option<usize>) -> Option<Place>
+    ensures { IsOfText text.now result }
+{
+    match offset {
+        Some(at) => place_of(text, at),
+        None => None,
+    }
+}
+
+/// What is said of a node behind its place: its path, what JSON cannot express of it, the source line and a caret.
+fn explained(
+    alloc: Global,
+    text: &[u8],
+    path: &str,
+    lack: Lack,
+    offset: Option<usize>,
+) -> Result<String, Fault>
+    ensures err { IfErr result (λ fault. fault ≡ Fault.OutOfMemory) }
+{
+    let mut out = String::new(alloc);
+    put_visible(&mut out, path)?;
     out.push_str(": ")?;
     out.push_str(lack.words())?;
     out.push('\n')?;
     if let Some(at) = offset {
-        put_source_line(alloc, out, text, at)?;
+        put_source_line(alloc, &mut out, text, at)?;
     }
+    Ok(out)
+}
+
+/// Where in a file the first node is that JSON cannot express, and what is said of it.
+#[tactic(auto, using(crate::proofs::AgainLaws::text_refused, crate::proofs::AgainLaws::reading_refused, crate::proofs::AgainLaws::memory_alone))]
+fn told(alloc: Global, bytes: &[u8]) -> Result<(Option<Place>, String), Fault>
+    ensures placed { IfOk result (λ told. IsOfText (drop (mark_len bytes.now) bytes.now) told.0) }
+    ensures err { IfErr result (CannotRead bytes.now) }
+{
+    let source = Chars::read(bytes)?;
+    let events = read_events(alloc, &source)?;
+    let Some((event, path, lack)) = find_lack(alloc, &events)? else {
+        return Ok((None, "JSON cannot express this file\n".to_string(alloc)?));
+    };
+    let text = unmarked(bytes);
+    let trace = trace_of(alloc, &source)?;
+    let offset = offset_of(lack, text, &trace, event);
+    let more = explained(alloc, text, path.as_str(), lack, offset)?;
+    Ok((placed(text, offset), more))
+}
+
+/// Writes where in a file the first node is that JSON cannot express, and why: position, path, words, the source line and a caret.
+///
+/// # Errors
+/// `OutOfMemory`; of bytes that the reader rejects, the reader's.
+#[tactic(auto, using(crate::proofs::AgainLaws::memory_alone))]
+pub fn put_no_json(alloc: Global, out: &mut String, name: &str, bytes: &[u8]) -> Result<(), Fault>
+    ensures ok { OnOk result ((line : List ℕ) × (string_bytes out.new ≡ string_bytes out.old ++ line) × BeginsSomewhere name.now (drop (mark_len bytes.now) bytes.now) line) }
+    ensures err { IfErr result (CannotRead bytes.now) }
+{
+    let (place, more) = told(alloc, bytes)?;
+    put_head(out, name, place)?;
+    out.push_str(more.as_str())?;
     Ok(())
 }

@@ -1,6 +1,7 @@
 //! A fault of a file by its parts.
-ghost use Rattle.std.specs.Prelude.{drop, IfOk};
+ghost use Rattle.std.specs.Prelude.{◌≡◌, drop, IfOk, IfErr};
 ghost use Rattle.yaml_definitions.specs.model.Text.{mark_len};
+ghost use Rattle.review_faults.specs.Again.{CannotTell};
 ghost use Rattle.review_faults.specs.Spotted.{IsSpotted};
 
 use crate::faults::{Told, find_told};
@@ -23,7 +24,9 @@ pub struct Spotted {
 }
 
 /// The path, with escapes for the characters that a terminal would not show.
-fn path_of(alloc: Global, told: &Told) -> Result<Option<String>, Fault> {
+fn path_of(alloc: Global, told: &Told) -> Result<Option<String>, Fault>
+    ensures err { IfErr result (λ fault. fault ≡ Fault.OutOfMemory) }
+{
     let Some(path) = &told.path else {
         return Ok(None);
     };
@@ -33,7 +36,9 @@ fn path_of(alloc: Global, told: &Told) -> Result<Option<String>, Fault> {
 }
 
 /// The source line of a place, if there is one.
-fn line_of(alloc: Global, text: &[u8], told: &Told) -> Result<Option<String>, Fault> {
+fn line_of(alloc: Global, text: &[u8], told: &Told) -> Result<Option<String>, Fault>
+    ensures err { IfErr result (λ fault. fault ≡ Fault.OutOfMemory) }
+{
     if told.place.is_none() {
         return Ok(None);
     }
@@ -43,11 +48,16 @@ fn line_of(alloc: Global, text: &[u8], told: &Told) -> Result<Option<String>, Fa
 }
 
 /// Where in a file a fault of it is, and what is said of it.
+///
+/// # Errors
+/// `OutOfMemory`. For a fault of an event the bytes are read again; of bytes that the reader rejects, the reader's.
+#[tactic(auto, using(crate::proofs::AgainLaws::memory_told))]
 pub fn spot_fault(alloc: Global, bytes: &[u8], fault: Fault) -> Result<Spotted, Fault>
-    ensures { IfOk result (λ spotted. IsSpotted bytes.now fault spotted.place) }
+    ensures ok { IfOk result (λ spotted. IsSpotted bytes.now fault spotted.place) }
+    ensures err { IfErr result (CannotTell bytes.now fault) }
 {
     let text = unmarked(bytes);
-    let told = find_told(alloc, bytes, text, fault)?;
+    let told = find_told(alloc, bytes, fault)?;
     Ok(Spotted {
         place: told.place,
         path: path_of(alloc, &told)?,

@@ -1,7 +1,8 @@
 //! What tools of YAML 1.1 read otherwise in a file.
-ghost use Rattle.std.specs.Prelude.{◌≡◌, ◌≤◌, ◌++◌, ◌∷◌, ◌&&◌, [], flat_map, length, nat_lt, option_map, take, IfOk, OnOk, IfSome, Some, string_bytes};
+ghost use Rattle.std.specs.Prelude.{◌≡◌, ◌≤◌, ◌++◌, ◌∷◌, ◌&&◌, [], flat_map, length, nat_lt, option_map, take, IfOk, IfErr, OnOk, IfSome, Some, string_bytes};
 ghost use Rattle.yaml_text.specs.EventModel.{event_of};
 ghost use Rattle.yaml_place.specs.LineModel.{IsPlace};
+ghost use Rattle.review_faults.specs.Again.{CannotRead};
 ghost use Rattle.review_faults.specs.Warned.{is_word, plain_text, asked_text, TellsOlder, FindsWarned, text_in, AreWarnings, ListsWarnings, warning_line, warning_object, warning_text, warnings_text};
 
 use crate::faults::put_head;
@@ -75,6 +76,7 @@ fn add(found: &mut Warned, warning: (usize, Older), room: usize) -> Result<(), F
     requires few { length found.old.list.items ≤ room }
     ensures list { OnOk result (found.new.list.items ≡ take room (found.old.list.items ++ (warning ∷ []))) }
     ensures whole { OnOk result (found.new.whole ≡ (found.old.whole && nat_lt (length found.old.list.items) room)) }
+    ensures err { IfErr result (λ fault. fault ≡ Fault.OutOfMemory) }
 {
     if found.list.len() < room {
         found.list.push(warning)?;
@@ -91,7 +93,8 @@ fn find_warned(
     allowed: &[&str],
     room: usize,
 ) -> Result<Warned, Fault>
-    ensures { IfOk result (λ found. FindsWarned allowed.now room events.now found.list.items found.whole) }
+    ensures ok { IfOk result (λ found. FindsWarned allowed.now room events.now found.list.items found.whole) }
+    ensures err { IfErr result (λ fault. fault ≡ Fault.OutOfMemory) }
 {
     let mut found = Warned {
         list: Vec::new(alloc),
@@ -141,6 +144,7 @@ fn go_on(text: &[u8], from: usize, place: Place, to: usize) -> Place
 fn warning_of(alloc: Global, text: &str, older: &Older, place: Place) -> Result<Warning, Fault>
     ensures text { IfOk result (λ warning. string_bytes warning.text ≡ text.now) }
     ensures place { IfOk result (λ warning. warning.place ≡ place) }
+    ensures err { IfErr result (λ fault. fault ≡ Fault.OutOfMemory) }
 {
     Ok(Warning {
         place,
@@ -168,7 +172,8 @@ fn told(
     source: &[u8],
     found: &[(usize, Older)],
 ) -> Result<Vec<Warning>, Fault>
-    ensures { IfOk result (λ list. AreWarnings events.now source.now found.now list.items) }
+    ensures ok { IfOk result (λ list. AreWarnings events.now source.now found.now list.items) }
+    ensures err { IfErr result (λ fault. fault ≡ Fault.OutOfMemory) }
 {
     let mut list = Vec::new(alloc);
     let mut at = 0;
@@ -186,13 +191,18 @@ fn told(
 }
 
 /// What YAML 1.1 reads otherwise in a file that is not refused, but for plain scalars that are one of these words: at most so many.
+///
+/// # Errors
+/// `OutOfMemory`; of bytes that the reader rejects, the reader's.
+#[tactic(auto, using(crate::proofs::AgainLaws::text_refused, crate::proofs::AgainLaws::reading_refused, crate::proofs::AgainLaws::memory_alone))]
 pub fn list_warnings(
     alloc: Global,
     bytes: &[u8],
     allowed: &[&str],
     room: usize,
 ) -> Result<Warnings, Fault>
-    ensures { IfOk result (ListsWarnings bytes.now allowed.now room) }
+    ensures ok { IfOk result (ListsWarnings bytes.now allowed.now room) }
+    ensures err { IfErr result (CannotRead bytes.now) }
 {
     let source = Chars::read(bytes)?;
     let events = read_events(alloc, &source)?;
@@ -206,7 +216,8 @@ pub fn list_warnings(
 
 /// Writes the line of a warning.
 fn put_line(out: &mut String, name: &str, warning: &Warning) -> Result<(), Fault>
-    ensures { OnOk result (string_bytes out.new ≡ string_bytes out.old ++ warning_line name.now warning.now) }
+    ensures ok { OnOk result (string_bytes out.new ≡ string_bytes out.old ++ warning_line name.now warning.now) }
+    ensures err { IfErr result (λ fault. fault ≡ Fault.OutOfMemory) }
 {
     put_head(out, name, Some(warning.place))?;
     out.push_str("warning: ")?;
@@ -224,7 +235,8 @@ fn put_json<'t>(
     name: &'t str,
     warning: &'t Warning,
 ) -> Result<(), Fault>
-    ensures { OnOk result (string_bytes out.new ≡ string_bytes out.old ++ warning_object name.now warning.now) }
+    ensures ok { OnOk result (string_bytes out.new ≡ string_bytes out.old ++ warning_object name.now warning.now) }
+    ensures err { IfErr result (λ fault. fault ≡ Fault.OutOfMemory) }
 {
     let members = [
         ("file", Said::Text(Some(name))),
@@ -244,7 +256,8 @@ fn put_warning(
     warning: &Warning,
     form: Form,
 ) -> Result<(), Fault>
-    ensures { OnOk result (string_bytes out.new ≡ string_bytes out.old ++ warning_text form name.now warning.now) }
+    ensures ok { OnOk result (string_bytes out.new ≡ string_bytes out.old ++ warning_text form name.now warning.now) }
+    ensures err { IfErr result (λ fault. fault ≡ Fault.OutOfMemory) }
 {
     match form {
         Form::Line => put_line(out, name, warning),
@@ -260,7 +273,8 @@ fn put_list(
     list: &[Warning],
     form: Form,
 ) -> Result<(), Fault>
-    ensures { OnOk result (string_bytes out.new ≡ string_bytes out.old ++ flat_map (warning_text form name.now) list.now) }
+    ensures ok { OnOk result (string_bytes out.new ≡ string_bytes out.old ++ flat_map (warning_text form name.now) list.now) }
+    ensures err { IfErr result (λ fault. fault ≡ Fault.OutOfMemory) }
 {
     for warning in list {
         put_warning(alloc, out, name, warning, form)?;
@@ -276,7 +290,8 @@ pub fn put_warnings(
     warnings: &Warnings,
     form: Form,
 ) -> Result<(), Fault>
-    ensures { OnOk result (string_bytes out.new ≡ string_bytes out.old ++ warnings_text form name.now warnings.now.list.items warnings.now.whole) }
+    ensures ok { OnOk result (string_bytes out.new ≡ string_bytes out.old ++ warnings_text form name.now warnings.now.list.items warnings.now.whole) }
+    ensures err { IfErr result (λ fault. fault ≡ Fault.OutOfMemory) }
 {
     put_list(alloc, out, name, &warnings.list, form)?;
     if !warnings.whole {

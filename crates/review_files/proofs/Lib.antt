@@ -1,2 +1,3 @@
 mod LineLaws
+pub mod MemoryLaws
 mod ToldLaws

@@ -1,19 +1,13 @@
 -- What is told of files that are not read or are rejected.
-use Rattle.std.proofs.Common.{◌≡◌, ℕ, List, ◌++◌, codes, refl, inr, ◌∙◌, ap}
-use Rattle.std.proofs.lemmas.List.{append_assoc}
+use Rattle.std.proofs.Common.{◌≡◌, ℕ, List, ◌++◌, refl, inr, ap}
 use Rattle.yaml_text.specs.declared.fault.Fault.{Fault}
 use Rattle.yaml_text.specs.declared.side.Side.{Side}
 use Rattle.yaml_canon.specs.Claims.{CanonicalRefuses}
 use Rattle.yaml_canon.specs.FaultPlaces.{TellsPlace}
-use Rattle.review_text.specs.Terminal.{terminal}
 use Rattle.review_args.specs.declared.words.Form.{Form}
 use Rattle.review_faults.specs.FaultLines.{TellsFault}
-use Rattle.review_files.specs.Told.{TellsName, TellsFaults, TellsBoth, TellsNotCompared, no_memory, side_name}
+use Rattle.review_files.specs.Told.{TellsFaults, TellsBoth, TellsNotCompared, no_memory, side_name}
 use Rattle.review_files.specs.declared.rejected.Named.{Named}
-
--- what stands behind a file's name
-pub behind_name : (name more : List ℕ) → TellsName name ((codes "yamlreview: " ++ (terminal name ++ codes ": ")) ++ more)
-behind_name name more = (more, append_assoc (codes "yamlreview: ") (terminal name ++ codes ": ") more ∙ ap (λ z. codes "yamlreview: " ++ z) (append_assoc (terminal name) (codes ": ") more))
 
 -- bytes that are rejected
 pub refused_bytes : (form : Form) (name bytes : List ℕ) (fault : Fault) (text : List ℕ) → CanonicalRefuses bytes fault → TellsPlace bytes fault → TellsFault form name bytes fault text → TellsFaults form name bytes text 2

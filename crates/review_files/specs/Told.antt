@@ -1,15 +1,15 @@
 -- What is told of files that are not read or are rejected.
-use Rattle.std.specs.Prelude.{◌≡◌, ◌⊎◌, ◌≤◌, ℕ, max, List, [], ◌++◌, Result, Ok, Err, Vec, codes}
+use Rattle.std.specs.Prelude.{◌≡◌, ◌⊎◌, ◌≤◌, ℕ, max, List, [], ◌++◌, Result, Ok, Err, Vec}
 use Rattle.std.specs.declared.alloc.Global.{Global}
 use Rattle.yaml_text.specs.declared.fault.Fault.{Fault}
-use Rattle.yaml_text.specs.declared.fault.Fault.TheVariants.{TooLong}
+use Rattle.yaml_text.specs.declared.fault.Fault.TheVariants.{TooLong, OutOfMemory}
 use Rattle.yaml_text.specs.declared.side.Side.{Side}
 use Rattle.yaml_text.specs.declared.side.Side.TheVariants.{Left, Right}
 use Rattle.yaml_canon.specs.Claims.{IsCanonicalText, CanonicalRefuses}
 use Rattle.yaml_canon.specs.FaultPlaces.{TellsPlace}
-use Rattle.review_text.specs.Terminal.{terminal}
 use Rattle.review_args.specs.declared.words.Form.{Form}
 use Rattle.review_faults.specs.FaultLines.{TellsFault}
+use Rattle.review_files.specs.Lines.{fault_line, unread_line}
 use Rattle.review_files.specs.Statuses.{unread_status}
 use Rattle.review_files.specs.declared.rejected.Named.{Named}
 use Rattle.review_files.specs.declared.unread.Unread.{Unread}
@@ -31,13 +31,9 @@ TellsFaults form name bytes text status = (IsAccepted bytes × ((text ≡ []) ×
 
 -- ---- one file
 
--- a line of the program that begins with a file's name
-abbrev pub TellsName : List ℕ → List ℕ → Type 0
-TellsName name text = (more : List ℕ) × (text ≡ codes "yamlreview: " ++ (terminal name ++ (codes ": " ++ more)))
-
 -- of a file that is not read: one with more bytes than a text may have is rejected, as others are for their bytes
 abbrev pub TellsUnread : Form → List ℕ → Unread → List ℕ → ℕ → Type 0
-TellsUnread form name why text status = ((why ≡ unread.Fault TooLong) × TellsFault form name [] TooLong text × (status ≡ 2)) ⊎ (TellsName name text × (status ≡ unread_status why))
+TellsUnread form name why text status = ((why ≡ unread.Fault TooLong) × TellsFault form name [] TooLong text × (status ≡ 2)) ⊎ ((text ≡ unread_line name why) × (status ≡ unread_status why))
 
 -- What reading a file gave. Of its bytes the same is told as `faults` tells.
 abbrev pub TellsAnswer : Form → List ℕ → Result (Vec ℕ Global) Unread → List ℕ → ℕ → Type 0
@@ -64,7 +60,7 @@ side_name Right left right = right.name.now
 
 -- the line of a file for which memory is refused
 abbrev pub no_memory : List ℕ → List ℕ
-no_memory name = (codes "yamlreview: " ++ (terminal name ++ codes ": ")) ++ codes "21 OutOfMemory\n"
+no_memory name = fault_line name OutOfMemory
 
 -- Of two files that are read and not compared: what is told of both or, if neither is rejected, that memory is refused for one of them.
 abbrev pub TellsNotCompared : Form → Named → Named → Side → List ℕ → ℕ → Type 0

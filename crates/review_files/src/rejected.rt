@@ -1,8 +1,8 @@
 //! Files that are not read, or are rejected.
-ghost use Rattle.std.specs.Prelude.{◌≡◌, ◌++◌, ℕ, List, IfOk, string_bytes};
+ghost use Rattle.std.specs.Prelude.{◌≡◌, ◌++◌, ℕ, List, IfOk, IfErr, string_bytes};
 ghost use Rattle.review_files.specs.Told.{TellsUnread, TellsFile, TellsBoth, TellsNotCompared};
 
-use crate::telling::{put_no_memory, put_unread};
+use crate::telling::{put_fault_line, put_unread};
 use crate::unread::{Unread, greater};
 use review_args::Form;
 use review_compare::fault_of;
@@ -24,6 +24,7 @@ pub struct Named<'n> {
 }
 
 /// Writes why a file is not read, and answers the status. A file that is too long is rejected, as others are by their bytes.
+#[tactic(auto, using(crate::proofs::MemoryLaws::unnamed_memory))]
 pub fn put_no_bytes(
     alloc: Global,
     out: &mut String,
@@ -31,7 +32,8 @@ pub fn put_no_bytes(
     unread: Unread,
     form: Form,
 ) -> Result<u8, Fault>
-    ensures { IfOk result (λ status. (text : List ℕ) × (string_bytes out.new ≡ string_bytes out.old ++ text) × TellsUnread form name.now unread text status) }
+    ensures ok { IfOk result (λ status. (text : List ℕ) × (string_bytes out.new ≡ string_bytes out.old ++ text) × TellsUnread form name.now unread text status) }
+    ensures err { IfErr result (λ fault. fault ≡ Fault.OutOfMemory) }
 {
     match unread {
         Unread::Fault(Fault::TooLong) => {
@@ -39,20 +41,22 @@ pub fn put_no_bytes(
             Ok(REJECTED)
         }
         unread => {
-            put_unread(alloc, out, name, unread)?;
+            put_unread(out, name, unread)?;
             Ok(unread.status())
         }
     }
 }
 
 /// Writes why a file is not read or is rejected, if it is, and answers the status.
+#[tactic(auto, using(crate::proofs::MemoryLaws::rejected_memory))]
 pub fn put_rejection(
     alloc: Global,
     out: &mut String,
     file: Named<'_>,
     form: Form,
 ) -> Result<u8, Fault>
-    ensures { IfOk result (λ status. (text : List ℕ) × (string_bytes out.new ≡ string_bytes out.old ++ text) × TellsFile form file.entry text status) }
+    ensures ok { IfOk result (λ status. (text : List ℕ) × (string_bytes out.new ≡ string_bytes out.old ++ text) × TellsFile form file.entry text status) }
+    ensures err { IfErr result (λ fault. fault ≡ Fault.OutOfMemory) }
 {
     let bytes = match file.answer {
         Ok(bytes) => bytes,
@@ -75,7 +79,8 @@ pub fn put_rejections(
     right: Named<'_>,
     form: Form,
 ) -> Result<u8, Fault>
-    ensures { IfOk result (λ status. (text : List ℕ) × (string_bytes out.new ≡ string_bytes out.old ++ text) × TellsBoth form left.entry right.entry text status) }
+    ensures ok { IfOk result (λ status. (text : List ℕ) × (string_bytes out.new ≡ string_bytes out.old ++ text) × TellsBoth form left.entry right.entry text status) }
+    ensures err { IfErr result (λ fault. fault ≡ Fault.OutOfMemory) }
 {
     let first = put_rejection(alloc, out, left, form)?;
     let second = put_rejection(alloc, out, right, form)?;
@@ -92,7 +97,8 @@ pub fn put_not_compared(
     side: Side,
     form: Form,
 ) -> Result<u8, Fault>
-    ensures { IfOk result (λ status. (text : List ℕ) × (string_bytes out.new ≡ string_bytes out.old ++ text) × TellsNotCompared form left.entry right.entry side text status) }
+    ensures ok { IfOk result (λ status. (text : List ℕ) × (string_bytes out.new ≡ string_bytes out.old ++ text) × TellsNotCompared form left.entry right.entry side text status) }
+    ensures err { IfErr result (λ fault. fault ≡ Fault.OutOfMemory) }
 {
     let status = put_rejections(alloc, out, left, right, form)?;
     if status != DONE {
@@ -102,6 +108,6 @@ pub fn put_not_compared(
         Side::Left => left.name,
         Side::Right => right.name,
     };
-    put_no_memory(out, name)?;
+    put_fault_line(out, name, Fault::OutOfMemory)?;
     Ok(REJECTED)
 }

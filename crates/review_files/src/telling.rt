@@ -1,10 +1,9 @@
 //! The lines of standard error.
-ghost use Rattle.std.specs.Prelude.{◌≡◌, ◌++◌, ℕ, List, true, OnOk, codes, string_bytes};
+ghost use Rattle.std.specs.Prelude.{◌≡◌, ◌++◌, ℕ, List, true, OnOk, IfErr, codes, string_bytes};
 ghost use Rattle.std.specs.Io.KnownBytes.{Appends};
-ghost use Rattle.review_text.specs.Terminal.{terminal};
-ghost use Rattle.review_files.specs.Lines.{TakesLine, bare_line, TellsNoWords};
-ghost use Rattle.review_files.specs.Told.{TellsName, no_memory};
+ghost use Rattle.review_files.specs.Lines.{TakesLine, line_front, fault_line, unread_line, bare_line, TellsNoWords};
 ghost use Rattle.review_files.specs.Statuses.{fault_status, unread_status};
+ghost use Rattle.review_files.specs.declared.unread.Unread.TheVariants.{CannotOpen};
 
 use crate::unread::{Unread, fault_status};
 use review_text::put_shown;
@@ -12,6 +11,7 @@ use std::alloc::Global;
 use std::io::Write;
 use yaml_args::WordsFault;
 use yaml_message::message_of;
+use yaml_sum::reason::Reason;
 use yaml_text::fault::Fault;
 
 /// The status where the words, a file or a stream cannot be used.
@@ -22,9 +22,6 @@ const FRONT: &str = "yamlreview: ";
 
 /// What is wrong with the program's own words.
 const NO_WORDS: &str = "yamlreview: usage: the words cannot be read\n";
-
-/// What is said of a file for which memory is refused.
-const NO_MEMORY: &str = "21 OutOfMemory\n";
 
 /// Writes a text, and answers whether the writer took all of it.
 fn put_piece<E: Write>(text: &str, err: &mut E) -> bool
@@ -78,7 +75,8 @@ pub fn tell_usage<E: Write>(line: &str, err: &mut E) -> u8
 
 /// Writes what the line of a file begins with: the program's name and the file's, with `?` for what of it a terminal would not print.
 fn put_front(out: &mut String, name: &str) -> Result<(), Fault>
-    ensures { OnOk result (string_bytes out.new ≡ string_bytes out.old ++ (codes "yamlreview: " ++ (terminal name.now ++ codes ": "))) }
+    ensures ok { OnOk result (string_bytes out.new ≡ string_bytes out.old ++ line_front name.now) }
+    ensures err { IfErr result (λ fault. fault ≡ Fault.OutOfMemory) }
 {
     out.push_str(FRONT)?;
     put_shown(out, name)?;
@@ -86,62 +84,49 @@ fn put_front(out: &mut String, name: &str) -> Result<(), Fault>
     Ok(())
 }
 
-/// Writes what the line of a file begins with, and these two texts.
-fn put_name_line(out: &mut String, name: &str, words: &str, more: &str) -> Result<(), Fault>
-    ensures { OnOk result ((text : List ℕ) × (string_bytes out.new ≡ string_bytes out.old ++ text) × TellsName name.now text) }
+/// Writes the line of a fault of a file that has no place in it.
+pub fn put_fault_line(out: &mut String, name: &str, fault: Fault) -> Result<(), Fault>
+    ensures ok { OnOk result (string_bytes out.new ≡ string_bytes out.old ++ fault_line name.now fault) }
+    ensures err { IfErr result (λ fault. fault ≡ Fault.OutOfMemory) }
 {
+    let words = message_of(fault);
     put_front(out, name)?;
-    out.push_str(words)?;
-    out.push_str(more)?;
+    out.push_str(words.as_str())?;
+    out.push_str("\n")?;
     Ok(())
 }
 
-/// Writes the line of a fault of a file that has no place in it.
-pub fn put_fault_line(
-    alloc: Global,
-    out: &mut String,
-    name: &str,
-    fault: Fault,
-) -> Result<(), Fault>
-    ensures { OnOk result ((text : List ℕ) × (string_bytes out.new ≡ string_bytes out.old ++ text) × TellsName name.now text) }
-{
-    let line = format!(in alloc; "{fault}\n")?;
-    put_name_line(out, name, "", line.as_str())
-}
-
-/// Writes the line of a file for which memory is refused.
-pub(crate) fn put_no_memory(out: &mut String, name: &str) -> Result<(), Fault>
-    ensures { OnOk result (string_bytes out.new ≡ string_bytes out.old ++ no_memory name.now) }
+/// Writes the line of a file that cannot be opened.
+fn put_closed(out: &mut String, name: &str, why: Reason) -> Result<(), Fault>
+    ensures ok { OnOk result (string_bytes out.new ≡ string_bytes out.old ++ unread_line name.now (CannotOpen why)) }
+    ensures err { IfErr result (λ fault. fault ≡ Fault.OutOfMemory) }
 {
     put_front(out, name)?;
-    out.push_str(NO_MEMORY)?;
+    out.push_str("cannot open: ")?;
+    out.push_str(why.words())?;
+    out.push_str("\n")?;
     Ok(())
 }
 
 /// Writes the line of a file that is not read.
-pub(crate) fn put_unread(
-    alloc: Global,
-    out: &mut String,
-    name: &str,
-    unread: Unread,
-) -> Result<(), Fault>
-    ensures { OnOk result ((text : List ℕ) × (string_bytes out.new ≡ string_bytes out.old ++ text) × TellsName name.now text) }
+pub(crate) fn put_unread(out: &mut String, name: &str, unread: Unread) -> Result<(), Fault>
+    ensures ok { OnOk result (string_bytes out.new ≡ string_bytes out.old ++ unread_line name.now unread) }
+    ensures err { IfErr result (λ fault. fault ≡ Fault.OutOfMemory) }
 {
     match unread {
-        Unread::CannotOpen(why) => {
-            let line = format!(in alloc; "{}\n", why.words())?;
-            put_name_line(out, name, "cannot open: ", line.as_str())
-        }
-        Unread::Fault(fault) => put_fault_line(alloc, out, name, fault),
+        Unread::CannotOpen(why) => put_closed(out, name, why),
+        Unread::Fault(fault) => put_fault_line(out, name, fault),
     }
 }
 
-/// Tells that a list cannot be opened, or why a file is not read, and answers the status.
+/// Tells that a list cannot be opened, or why a file is not read, and answers the status. Where memory is refused the status alone is
+/// left to tell it.
 pub fn tell_unread<E: Write>(alloc: Global, name: &str, unread: Unread, err: &mut E) -> u8
-    ensures { result ≡ unread_status unread }
+    ensures status { result ≡ unread_status unread }
+    ensures told { TakesLine E.contents err.old err.new (unread_line name.now unread) }
 {
     let mut line = String::new(alloc);
-    if put_unread(alloc, &mut line, name, unread).is_ok() {
+    if put_unread(&mut line, name, unread).is_ok() {
         put_line(&line, err);
     }
     unread.status()

@@ -1,18 +1,19 @@
-use Rattle.std.proofs.Common.{◌∙◌, drop, subst}
+use Rattle.std.proofs.Common.{◌∙◌, drop, subst, rules}
 use Rattle.yaml_definitions.specs.grammar.Reading.{Reads}
 use Rattle.yaml_definitions.specs.model.Text.{mark_len}
 use Rattle.yaml_text.specs.Source.{text_of}
 use Rattle.review_faults.specs.Warned.{AllWarned, AreWarnings}
+use Rattle.review_faults.proofs.AgainLaws.{reading_refused}
 use Rattle.review_faults.proofs.warn.list_warnings.Goals as goal
 
-pub returns : goal.returns
+pub returns-clause-ok : goal.returns-clause-ok
 unfolding Reads
-returns c =
+returns-clause-ok c =
     let bytes = c.args.bytes.now in
     let events = c.in_ok-events.events.items in
     let list = c.in_ok-told.field-0.items in
-    let f = c.in_ok-found.ensures in
-    let read = subst (λ z. AreWarnings z c.unmarked.result.now c.deref-3.result.now list) c.deref-2.ensures.value c.in_ok-told.ensures in
+    let f = c.in_ok-found.ensures.ok in
+    let read = subst (λ z. AreWarnings z c.unmarked.result.now c.deref-3.result.now list) c.deref-2.ensures.value c.in_ok-told.ensures.ok in
     let bare = subst (λ z. AreWarnings events z c.deref-3.result.now list) c.unmarked.ensures read in
     record {
       all = f.all;
@@ -24,3 +25,8 @@ returns c =
       };
       whole = f.are_all;
     }
+
+pub returns-in_err-events-clause-err : goal.returns-in_err-events-clause-err
+returns-in_err-events-clause-err c =
+    let f = reading_refused c.args.bytes.now _ c.in_err-events.field-0.0 c.in_ok-source.ensures.read c.in_err-events.ensures.decides in
+    search (rules, f)
