@@ -1,2 +1,3 @@
 mod StepLaws
+mod UnsaidLaws
 mod ValueLaws

@@ -23,7 +23,7 @@ module _ {X : Type 0} (f : X → Tree) (xs : List X) where
       (o ++ (items_left i ++ codes "]") ≡ old ++ (codes "[" ++ (items_left 0 ++ codes "]")))
       × (items_have_json (trees (map f (drop i xs))) ≡ true → items_have_json (trees (map f xs)) ≡ true)
 
-  items_split : (i : ℕ) (d : X) → i < length xs → items_left i ≡ comma i ++ (value_json (f (get_or xs i d)) ++ items_left (i + 1))
+  pub items_split : (i : ℕ) (d : X) → i < length xs → items_left i ≡ comma i ++ (value_json (f (get_or xs i d)) ++ items_left (i + 1))
   items_split i d l =
       ap (λ z. items_json i (trees (map f z))) (drop_next xs i d l)
       ∙ ap (λ z. comma i ++ (value_json (f (get_or xs i d)) ++ items_json z (trees (map f (drop (i + 1) xs))))) (sym (add-one i))
@@ -60,7 +60,7 @@ module _ {X : Type 0} (f : X → Tree × Tree) (xs : List X) where
       (o ++ (entries_left i ++ codes "}") ≡ old ++ (codes "{" ++ (entries_left 0 ++ codes "}")))
       × (entries_have_json (pairs (map f (drop i xs))) ≡ true → entries_have_json (pairs (map f xs)) ≡ true)
 
-  entries_split : (i : ℕ) (d : X) → i < length xs → entries_left i ≡ comma i ++ (name_json (f (get_or xs i d)).0 ++ (codes ":" ++ (value_json (f (get_or xs i d)).1 ++ entries_left (i + 1))))
+  pub entries_split : (i : ℕ) (d : X) → i < length xs → entries_left i ≡ comma i ++ (name_json (f (get_or xs i d)).0 ++ (codes ":" ++ (value_json (f (get_or xs i d)).1 ++ entries_left (i + 1))))
   entries_split i d l =
       ap (λ z. entries_json i (pairs (map f z))) (drop_next xs i d l)
       ∙ ap (λ z. comma i ++ (name_json (f (get_or xs i d)).0 ++ (codes ":" ++ (value_json (f (get_or xs i d)).1 ++ entries_json z (pairs (map f (drop (i + 1) xs))))))) (sym (add-one i))

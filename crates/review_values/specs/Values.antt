@@ -1,13 +1,16 @@
 -- Nodes as values of JSON (RFC 8259). A tree has its pairs in the order of their keys.
-use Rattle.std.specs.Prelude.{◌≡◌, ℕ, zero, suc, Bool, true, false, not, ◌&&◌, ◌||◌, cond, List, [], ◌++◌, bytes_eq, codes}
-use Rattle.yaml_definitions.specs.model.Tree.{Tree, Trees, Pairs, scalar, sequence, mapping, end, item, done, entry}
+use Rattle.std.specs.Prelude.{◌≡◌, ◌⊎◌, ◌≤◌, ◌<◌, ℕ, zero, suc, Bool, true, false, not, ◌&&◌, ◌||◌, cond, List, [], ◌++◌, length, bytes_eq, codes}
+use Rattle.yaml_definitions.specs.model.Tree.{Tree, Trees, Pairs, scalar, sequence, mapping, end, item, done, entry, height}
 use Rattle.yaml_definitions.specs.model.Tag.{str_tag, float_tag, seq_tag, map_tag}
 use Rattle.yaml_definitions.specs.model.Order.{arranged}
 use Rattle.yaml_json.specs.Json.{IsJson}
 use Rattle.yaml_show_scalar.specs.Escapes.{quoted}
 use Rattle.yaml_show_scalar.specs.declared.escapes.Language.TheVariants.{Json}
 use Rattle.yaml_show_scalar.specs.Numbers.{is_in_words, float_text}
+use Rattle.yaml_show_scalar.specs.Stops.{Stops}
 use Rattle.yaml_show_scalar.specs.Tags.{is_resolved}
+use Rattle.review_values.specs.declared.unsaid.Unsaid.{Unsaid}
+use Rattle.review_values.specs.declared.unsaid.Unsaid.TheVariants.{Stopped, NoValue}
 
 -- a comma, but not before the first part
 abbrev pub comma : ℕ → List ℕ
@@ -86,6 +89,21 @@ SaysItems ts old new = (new ≡ old ++ (codes "[" ++ (items_json 0 ts ++ codes "
 
 abbrev pub SaysEntries : Pairs → List ℕ → List ℕ → Type 0
 SaysEntries ps old new = (new ≡ old ++ (codes "{" ++ (entries_json 0 ps ++ codes "}"))) × (entries_have_json ps ≡ true)
+
+-- ---- what is not
+
+-- What an error says of a text that was to be written where so many levels are left: JSON does not have it, or it has more levels; or it has more bytes than the limit, or memory is refused.
+abbrev pub Unsays : Bool → ℕ → ℕ → ℕ → List ℕ → Unsaid → Type 0
+Unsays has high left limit text NoValue = (has ≡ false) ⊎ (left ≤ high)
+Unsays has high left limit text (Stopped stop) = Stops limit text stop
+
+-- Why a tree has no value: JSON does not have it, it has 100 levels or more inside it, or its text has more bytes than there is room for. Or the text is no JSON, of which no tree is known.
+abbrev pub HasNoValue : Tree → ℕ → Type 0
+HasNoValue t room =
+    (has_json (arranged t) ≡ false)
+    ⊎ ((100 ≤ height (arranged t))
+    ⊎ ((room < length (value_json (arranged t)))
+    ⊎ (IsJson (value_json (arranged t)) → ⊥)))
 
 -- The text is the JSON of a tree that JSON has.
 pub record IsValueOf (t : Tree) (text : List ℕ) : Type 0 where

@@ -1,15 +1,16 @@
 //! Nodes as values of JSON (RFC 8259).
-ghost use Rattle.std.specs.Prelude.{◌≡◌, ◌++◌, ◌∷◌, ◌-◌, ◌&&◌, [], length, map, not, bytes_eq, codes, string_bytes, OnOk, IfOk, IfSome, IfErr};
-ghost use Rattle.yaml_definitions.specs.model.Tree.{scalar};
+ghost use Rattle.std.specs.Prelude.{◌≡◌, ◌++◌, ◌∷◌, ◌+◌, ◌-◌, ◌&&◌, [], false, length, map, min, not, bytes_eq, codes, string_bytes, OnOk, IfOk, IfSome, IfNone, IfErr};
+ghost use Rattle.yaml_definitions.specs.model.Tree.{scalar, height, heights, heights_of_pairs};
 ghost use Rattle.yaml_definitions.specs.model.Tag.{str_tag, seq_tag, map_tag};
 ghost use Rattle.yaml_definitions.specs.model.Order.{arranged};
 ghost use Rattle.yaml_graph.specs.TreeLists.{trees, pairs};
 ghost use Rattle.yaml_graph.specs.GraphView.{tree};
 ghost use Rattle.yaml_rank.specs.RankModel.{key_pair};
 ghost use Rattle.yaml_rank.specs.RanksView.{RanksAre};
+ghost use Rattle.yaml_show_scalar.specs.Stops.{limit_of, Stops};
 ghost use Rattle.yaml_show_scalar.specs.Texts.{written};
-ghost use Rattle.review_values.specs.Budget.{room_left};
-ghost use Rattle.review_values.specs.Values.{comma, scalar_json, scalar_has_json, IsName, Says, SaysKey, SaysItems, SaysEntries, IsValueOf};
+ghost use Rattle.review_values.specs.Budget.{room_left, one_value};
+ghost use Rattle.review_values.specs.Values.{comma, scalar_json, scalar_has_json, is_string, name_json, value_json, items_json, entries_json, has_json, items_have_json, entries_have_json, IsName, Says, SaysKey, SaysItems, SaysEntries, Unsays, HasNoValue, IsValueOf};
 
 use crate::room::Room;
 use crate::unsaid::Unsaid;
@@ -38,7 +39,9 @@ fn has_value(tag: &str, content: &str) -> bool
 /// Writes a scalar that JSON has.
 #[tactic(auto, unfolding(crate::specs::Values::scalar_json, yaml_definitions::specs::model::Tag::core_tag))]
 fn put_written(out: &mut Out, tag: &str, content: &str) -> Result<(), Stop>
-    ensures { OnOk result (written out.new ≡ written out.old ++ scalar_json tag.now content.now) }
+    ensures ok { OnOk result (written out.new ≡ written out.old ++ scalar_json tag.now content.now) }
+    ensures limit { limit_of out.new ≡ limit_of out.old }
+    ensures err { IfErr result (Stops (limit_of out.old) (written out.old ++ scalar_json tag.now content.now)) }
 {
     if tag == core_tag::STR {
         return put_json_string(out, content);
@@ -51,7 +54,9 @@ fn put_written(out: &mut Out, tag: &str, content: &str) -> Result<(), Stop>
 
 /// Writes a scalar, if JSON has it.
 fn put_scalar(out: &mut Out, tag: &str, content: &str) -> Result<(), Unsaid>
-    ensures { OnOk result (Says (scalar tag.now content.now) (written out.old) (written out.new)) }
+    ensures ok { OnOk result (Says (scalar tag.now content.now) (written out.old) (written out.new)) }
+    ensures limit { limit_of out.new ≡ limit_of out.old }
+    ensures err { IfErr result (Unsays (scalar_has_json tag.now content.now) 0 1 (limit_of out.old) (written out.old ++ scalar_json tag.now content.now)) }
 {
     if !has_value(tag, content) {
         return Err(Unsaid::NoValue);
@@ -62,7 +67,9 @@ fn put_scalar(out: &mut Out, tag: &str, content: &str) -> Result<(), Unsaid>
 
 /// Writes a comma, but not before the first part.
 fn put_comma(out: &mut Out, place: usize) -> Result<(), Stop>
-    ensures { OnOk result (written out.new ≡ written out.old ++ comma place) }
+    ensures ok { OnOk result (written out.new ≡ written out.old ++ comma place) }
+    ensures limit { limit_of out.new ≡ limit_of out.old }
+    ensures err { IfErr result (Stops (limit_of out.old) (written out.old ++ comma place)) }
 {
     if place == 0 {
         return Ok(());
@@ -97,7 +104,8 @@ fn is_mapping(tag: &str) -> bool
 /// The content of a key that is a string.
 fn name_of<'b>(both: &'b Both<'_>, key: NodeId) -> Option<&'b str>
     requires ranked { RanksAre both.now.graph both.now.ranks }
-    ensures { IfSome result (λ name. IsName (arranged (tree both.now.graph key.0)) name.now) }
+    ensures some { IfSome result (λ name. IsName (arranged (tree both.now.graph key.0)) name.now) }
+    ensures none { IfNone result (is_string (arranged (tree both.now.graph key.0)) ≡ false) }
 {
     let Some(node) = both.node(key) else {
         return None;
@@ -118,7 +126,9 @@ fn name_of<'b>(both: &'b Both<'_>, key: NodeId) -> Option<&'b str>
 #[tactic(auto, using(crate::proofs::ValueLaws::key_says))]
 fn put_key(both: &Both<'_>, key: NodeId, out: &mut Out) -> Result<(), Unsaid>
     requires ranked { RanksAre both.now.graph both.now.ranks }
-    ensures { OnOk result (SaysKey (arranged (tree both.now.graph key.0)) (written out.old) (written out.new)) }
+    ensures ok { OnOk result (SaysKey (arranged (tree both.now.graph key.0)) (written out.old) (written out.new)) }
+    ensures limit { limit_of out.new ≡ limit_of out.old }
+    ensures err { IfErr result (Unsays (is_string (arranged (tree both.now.graph key.0))) 0 1 (limit_of out.old) (written out.old ++ (name_json (arranged (tree both.now.graph key.0)) ++ codes ":"))) }
 {
     let Some(name) = name_of(both, key) else {
         return Err(Unsaid::NoValue);
@@ -132,7 +142,9 @@ fn put_key(both: &Both<'_>, key: NodeId, out: &mut Out) -> Result<(), Unsaid>
 #[cycle(value)]
 fn put_value(both: &Both<'_>, id: NodeId, left: u16, out: &mut Out) -> Result<(), Unsaid>
     requires { RanksAre both.now.graph both.now.ranks }
-    ensures { OnOk result (Says (arranged (tree both.now.graph id.0)) (written out.old) (written out.new)) }
+    ensures ok { OnOk result (Says (arranged (tree both.now.graph id.0)) (written out.old) (written out.new)) }
+    ensures limit { limit_of out.new ≡ limit_of out.old }
+    ensures err { IfErr result (Unsays (has_json (arranged (tree both.now.graph id.0))) (height (arranged (tree both.now.graph id.0))) left (limit_of out.old) (written out.old ++ value_json (arranged (tree both.now.graph id.0)))) }
 {
     let Some(node) = both.node(id) else {
         return Err(Unsaid::NoValue);
@@ -164,7 +176,9 @@ fn put_value(both: &Both<'_>, id: NodeId, left: u16, out: &mut Out) -> Result<()
 #[cycle(value)]
 fn put_items(both: &Both<'_>, items: &[NodeId], left: u16, out: &mut Out) -> Result<(), Unsaid>
     requires ranked { RanksAre both.now.graph both.now.ranks }
-    ensures { OnOk result (SaysItems (trees (map (λ i. arranged (tree both.now.graph i.0)) items.now)) (written out.old) (written out.new)) }
+    ensures ok { OnOk result (SaysItems (trees (map (λ i. arranged (tree both.now.graph i.0)) items.now)) (written out.old) (written out.new)) }
+    ensures limit { limit_of out.new ≡ limit_of out.old }
+    ensures err { IfErr result (Unsays (items_have_json (trees (map (λ i. arranged (tree both.now.graph i.0)) items.now))) (heights (trees (map (λ i. arranged (tree both.now.graph i.0)) items.now))) (left + 1) (limit_of out.old) (written out.old ++ (codes "[" ++ (items_json 0 (trees (map (λ i. arranged (tree both.now.graph i.0)) items.now)) ++ codes "]")))) }
 {
     out.put("[")?;
     for (place, item) in items.iter().enumerate() {
@@ -184,7 +198,9 @@ fn put_entries(
     out: &mut Out,
 ) -> Result<(), Unsaid>
     requires ranked { RanksAre both.now.graph both.now.ranks }
-    ensures { OnOk result (SaysEntries (pairs (map (key_pair both.now.graph) entries.now)) (written out.old) (written out.new)) }
+    ensures ok { OnOk result (SaysEntries (pairs (map (key_pair both.now.graph) entries.now)) (written out.old) (written out.new)) }
+    ensures limit { limit_of out.new ≡ limit_of out.old }
+    ensures err { IfErr result (Unsays (entries_have_json (pairs (map (key_pair both.now.graph) entries.now))) (heights_of_pairs (pairs (map (key_pair both.now.graph) entries.now))) (left + 1) (limit_of out.old) (written out.old ++ (codes "{" ++ (entries_json 0 (pairs (map (key_pair both.now.graph) entries.now)) ++ codes "}")))) }
 {
     out.put("{")?;
     for (place, entry) in entries.iter().enumerate() {
@@ -210,6 +226,7 @@ pub fn value_text(
 ) -> Result<Option<String>, Fault>
     requires ranked { RanksAre both.now.graph both.now.ranks }
     ensures ok { IfOk result (λ text. IfSome text (λ json. IsValueOf (tree both.now.graph id.0) (string_bytes json))) }
+    ensures none { IfOk result (λ text. IfNone text (HasNoValue (tree both.now.graph id.0) (min (room_left room.old) one_value))) }
     ensures room { IfOk result (λ text. IfSome text (λ json. room_left room.new ≡ room_left room.old - length (string_bytes json))) }
     ensures err { IfErr result (λ fault. fault ≡ Fault.OutOfMemory) }
 {

@@ -43,8 +43,8 @@ abbrev pub fault_of : Stop → Fault
 fault_of stops.TooLong = TextTooLong
 fault_of stops.OutOfMemory = OutOfMemory
 
--- what an error of `show_json` says of the bytes: `NoJson`, that JSON does not have all of their documents; `Unlike`, that it has them
+-- what an error of `show_json` says of the bytes: `NoJson`, that they mean documents not all of which JSON has; `Unlike`, that it has them
 abbrev pub JsonRefuses : List ℕ → Unshown → Type 0
 JsonRefuses bytes (Rejected fault) = LinesRefuse bytes fault
-JsonRefuses bytes NoJson = (f : List Tree) → Means bytes f → all_have_json f ≡ false
-JsonRefuses bytes Unlike = (f : List Tree) → Means bytes f → all_have_json f ≡ true
+JsonRefuses bytes NoJson = (f : List Tree) × Means bytes f × (all_have_json f ≡ false)
+JsonRefuses bytes Unlike = (f : List Tree) × Means bytes f × (all_have_json f ≡ true)

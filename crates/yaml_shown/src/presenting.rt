@@ -94,6 +94,7 @@ fn unwritten(why: Unwritten) -> Unshown
 #[tactic(auto, using(crate::proofs::ShownLaws::refused_lines))]
 pub(crate) fn written_lines(alloc: Global, bytes: &[u8]) -> Result<Vec<String>, Unshown>
     ensures lines { IfOk result (λ lines. (f : List Tree) → Means bytes.now f → AreTheirs f (map string_bytes lines.items)) }
+    ensures means { IfOk result (λ lines. (f : List Tree) × Means bytes.now f) }
     ensures refused { IfErr result (JsonRefuses bytes.now) }
 {
     let Ok(forests) = forest_of_both(alloc, bytes, b"") else {

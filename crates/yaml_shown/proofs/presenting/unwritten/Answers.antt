@@ -10,4 +10,4 @@ pub returns-in-Stopped : goal.returns-in-Stopped
 returns-in-Stopped c = λ bytes f m h o. subst (LinesRefuse bytes) (sym c.stopped.ensures) (stop_lines bytes f c.in-Stopped.stop m (subst (Overruns text_limit (lines_text f)) c.in-Stopped.is o))
 
 pub returns-in-NoJson : goal.returns-in-NoJson
-returns-in-NoJson c = λ bytes f m h o g n. subst (λ z. Lacks (all_have_json g) z) c.in-NoJson.is (h g n)
+returns-in-NoJson c = λ bytes f m h o. (f, m, subst (λ z. Lacks (all_have_json f) z) c.in-NoJson.is (h f m))

@@ -13,6 +13,11 @@ returns-in-Ok-json_lines-clause-lines c = λ f m.
     let lines = map string_bytes c.in-Ok-json_lines.lines.items in
     of_meant (λ z. AreTheirs z lines) c.args.bytes.now f has.mean.lefts has.mean.rights _ has.mean.left_means has.mean.right_means (c.in-Some.ensures.trees c.args.bytes.now [] has) (theirs _ lines c.in-Ok-json_lines.ensures.ok) m
 
+pub returns-in-Ok-json_lines-clause-means : goal.returns-in-Ok-json_lines-clause-means
+returns-in-Ok-json_lines-clause-means c =
+    let has = c.in-Ok.ensures.both in
+    (has.mean.lefts, has.mean.left_means)
+
 pub returns-clause-refused : goal.returns-clause-refused
 returns-clause-refused c =
     let has = c.in-Ok.ensures.both in

@@ -19,7 +19,11 @@ returns-clause-lines c =
     }
 
 pub returns-then-not-branch-clause-refused : goal.returns-then-not-branch-clause-refused
-returns-then-not-branch-clause-refused c = λ f m. (c.in_ok-lines.ensures.lines f m).has
+returns-then-not-branch-clause-refused c =
+    let m = c.in_ok-lines.ensures.means in
+    (m.0, m.1, (c.in_ok-lines.ensures.lines m.0 m.1).has)
 
 pub returns-then-not-branch-2-clause-refused : goal.returns-then-not-branch-2-clause-refused
-returns-then-not-branch-2-clause-refused c = λ f m. (c.in_ok-lines.ensures.lines f m).has
+returns-then-not-branch-2-clause-refused c =
+    let m = c.in_ok-lines.ensures.means in
+    (m.0, m.1, (c.in_ok-lines.ensures.lines m.0 m.1).has)
