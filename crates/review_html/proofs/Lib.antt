@@ -1,1 +1,2 @@
+mod MarkLaws
 mod TextLaws

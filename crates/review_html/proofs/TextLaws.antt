@@ -1,6 +1,6 @@
 -- Texts, one behind the other, of which one more is written.
 use Rattle.std.proofs.Common.{◌≡◌, ◌<◌, ◌≤◌, ℕ, ◌+◌, ◌-◌, ◌^◌, List, [], ◌∷◌, ◌++◌, map, drop, length, get_or, refl, sym, ◌∙◌, ap, subst}
-use Rattle.std.specs.Prelude.{min, Option, Some, Result, Ok, Err, OnOk, codes, string_bytes}
+use Rattle.std.specs.Prelude.{min, Some, Result, Ok, Err, OnOk, codes, string_bytes}
 use Rattle.std.specs.Borrow.{Bor}
 use Rattle.std.specs.List.{flat_map, enumerate_from}
 use Rattle.std.proofs.Math.ListN.{drop_of_length-le}
@@ -15,6 +15,7 @@ use Rattle.review_formats.specs.declared.finding.Shown.{Shown}
 use Rattle.review_html.specs.Headings.{file_front}
 use Rattle.review_html.specs.Html.{title_text, header_text, links_text, numbered, number_by, sections_text, IsPartText, page_text, IsHtml}
 use Rattle.review_html.specs.Lines.{file_lines, ShowsLine, ShowsLines, ShowsFiles}
+use Rattle.review_html.specs.Marks.{AreMarks}
 use Rattle.review_html.specs.Sides.{left_of, right_of}
 use Rattle.review_html.specs.Texts.{AreTexts}
 use Rattle.review_html.specs.declared.side.Side.{Side}
@@ -96,24 +97,24 @@ pub on_ok : {X E A B : Type 0} (r : Result X E) → (A → B) → OnOk r A → O
 on_ok (Ok x) f a = f a
 on_ok (Err e) f a = tt
 
-pub lines_put : (side : Side) (shown : Shown) (lines : List (List ℕ)) (o a b e : List ℕ) → lines ≡ file_lines (string_bytes shown.text)
+pub lines_put : (side : Side) (list : List Finding) (before : ℕ) (shown : Shown) (lines : List (List ℕ)) (marks : List ℕ) (o a b e : List ℕ) → lines ≡ file_lines (string_bytes shown.text) → AreMarks side before list (length lines) marks
     → a ≡ o ++ (codes "<div><h2><code>" ++ (escaped Html (string_bytes shown.name) ++ codes "</code></h2>\n<ol class=\"lines\">\n"))
-    → ((text : List ℕ) × AreTexts (ShowsLine side) (enumerate_from 0 lines) text × (b ≡ a ++ text)) → e ≡ b ++ codes "</ol></div>\n"
-    → (text : List ℕ) × ShowsLines side shown text × (e ≡ o ++ text)
-lines_put side shown lines o a b e hl ha w he =
+    → ((text : List ℕ) × AreTexts (ShowsLine side marks) (enumerate_from 0 lines) text × (b ≡ a ++ text)) → e ≡ b ++ codes "</ol></div>\n"
+    → (text : List ℕ) × ShowsLines side list before shown text × (e ≡ o ++ text)
+lines_put side list before shown lines marks o a b e hl hm ha w he =
     let name = escaped Html (string_bytes shown.name) in
     let begin = codes "<div><h2><code>" in
-    let list = codes "</code></h2>\n<ol class=\"lines\">\n" in
+    let begun = codes "</code></h2>\n<ol class=\"lines\">\n" in
     let end = codes "</ol></div>\n" in (
-      begin ++ (name ++ (list ++ (w.0 ++ end))),
-      (w.0, subst (λ z. AreTexts (ShowsLine side) (enumerate_from 0 z) w.0) hl w.1, refl),
-      three_put o a b e (begin ++ (name ++ list)) w.0 end ha w.2 he ∙ ap (λ z. o ++ (begin ++ z)) (append_assoc name list (w.0 ++ end)),
+      begin ++ (name ++ (begun ++ (w.0 ++ end))),
+      (marks, subst (λ z. AreMarks side before list (length z) marks) hl hm, w.0, subst (λ z. AreTexts (ShowsLine side marks) (enumerate_from 0 z) w.0) hl w.1, refl),
+      three_put o a b e (begin ++ (name ++ begun)) w.0 end ha w.2 he ∙ ap (λ z. o ++ (begin ++ z)) (append_assoc name begun (w.0 ++ end)),
     )
 
-pub files_put : (number : ℕ) (left right : Shown) (o a b d e : List ℕ) → a ≡ o ++ codes "<section class=\"files\"><div class=\"both\">\n"
-    → ((text : List ℕ) × ShowsLines (left_of number) left text × (b ≡ a ++ text)) → ((text : List ℕ) × ShowsLines (right_of number) right text × (d ≡ b ++ text)) → e ≡ d ++ codes "</div></section>\n"
-    → (text : List ℕ) × ShowsFiles number (Some (left, right)) text × (e ≡ o ++ text)
-files_put number left right o a b d e ha v w he =
+pub files_put : (number : ℕ) (list : List Finding) (before : ℕ) (left right : Shown) (o a b d e : List ℕ) → a ≡ o ++ codes "<section class=\"files\"><div class=\"both\">\n"
+    → ((text : List ℕ) × ShowsLines (left_of number) list before left text × (b ≡ a ++ text)) → ((text : List ℕ) × ShowsLines (right_of number) list before right text × (d ≡ b ++ text)) → e ≡ d ++ codes "</div></section>\n"
+    → (text : List ℕ) × ShowsFiles number list before (Some (left, right)) text × (e ≡ o ++ text)
+files_put number list before left right o a b d e ha v w he =
     let begin = codes "<section class=\"files\"><div class=\"both\">\n" in
     let end = codes "</div></section>\n" in (
       begin ++ (v.0 ++ (w.0 ++ end)),
@@ -122,14 +123,14 @@ files_put number left right o a b d e ha v w he =
     )
 
 pub part_put : (number before n : ℕ) (part : Part) (list : List Finding) (o a b e : List ℕ) → n ≡ number_by number part.name → list ≡ part.list.items
-    → a ≡ o ++ file_front number part.name → b ≡ a ++ sections_text n before list → ((text : List ℕ) × ShowsFiles n part.shown text × (e ≡ b ++ text))
+    → a ≡ o ++ file_front number part.name → b ≡ a ++ sections_text n before list → ((text : List ℕ) × ShowsFiles n part.list.items before part.shown text × (e ≡ b ++ text))
     → (text : List ℕ) × IsPartText (number, before, part) text × (e ≡ o ++ text)
 part_put number before n part list o a b e hn hl ha hb w =
     let m = number_by number part.name in
     let front = file_front number part.name in
     let sections = sections_text m before part.list.items in (
       front ++ (sections ++ w.0),
-      (w.0, subst (λ z. ShowsFiles z part.shown w.0) hn w.1, refl),
+      (w.0, subst (λ z. ShowsFiles z part.list.items before part.shown w.0) hn w.1, refl),
       three_put o a b e front sections w.0 ha (hb ∙ ap (λ z. a ++ sections_text z before list) hn ∙ ap (λ z. a ++ sections_text m before z) hl) w.2,
     )
 

@@ -1,5 +1,5 @@
 -- A page of HTML.
-use Rattle.std.specs.Prelude.{◌≡◌, ℕ, ◌+◌, ◌-◌, ◌^◌, ◌==◌, nat_lt, min, zero, suc, cond, List, [], ◌∷◌, ◌++◌, length, Option, Some, None, String, codes, string_bytes}
+use Rattle.std.specs.Prelude.{◌≡◌, ℕ, ◌+◌, ◌-◌, ◌^◌, nat_lt, min, zero, suc, cond, List, [], ◌∷◌, ◌++◌, length, Option, Some, None, String, codes, string_bytes}
 use Rattle.std.specs.declared.alloc.Global.{Global}
 use Rattle.std.specs.List.{flat_map, enumerate_from}
 use Rattle.std.specs.Fmt.{decimal}
@@ -91,7 +91,7 @@ sections_text number before list = flat_map (section_text number) (enumerate_fro
 -- a part: its name, a section for each finding, and the lines of its files
 abbrev pub IsPartText : ℕ × ℕ × Part → List ℕ → Type 0
 IsPartText (number, before, part) text =
-    (files : List ℕ) × ShowsFiles (number_by number part.name) part.shown files
+    (files : List ℕ) × ShowsFiles (number_by number part.name) part.list.items before part.shown files
     × (text ≡ file_front number part.name ++ (sections_text (number_by number part.name) before part.list.items ++ files))
 
 -- ---- the whole

@@ -1,11 +1,13 @@
 -- The lines of a file in a page of HTML.
-use Rattle.std.specs.Prelude.{◌≡◌, ◌⊎◌, ◌≤◌, ◌==◌, ℕ, zero, suc, List, [], ◌∷◌, ◌++◌, length, take, Option, Some, None, codes, string_bytes}
+use Rattle.std.specs.Prelude.{◌≡◌, ◌⊎◌, ◌≤◌, ◌==◌, ℕ, zero, suc, true, false, List, [], ◌++◌, length, get_or, take, Option, Some, None, codes, string_bytes}
 use Rattle.std.specs.List.{flat_map, slice_split, enumerate_from}
 use Rattle.std.specs.Fmt.{decimal}
 use Rattle.review_formats.specs.Changes.{without_last, without_end}
 use Rattle.review_formats.specs.Escaped.{escaped}
 use Rattle.review_formats.specs.declared.escape.Escape.TheVariants.{Html}
+use Rattle.review_formats.specs.declared.finding.Finding.{Finding}
 use Rattle.review_formats.specs.declared.finding.Shown.{Shown}
+use Rattle.review_html.specs.Marks.{AreMarks, is_shown}
 use Rattle.review_html.specs.Texts.{number_after, AreTexts}
 use Rattle.review_html.specs.Sides.{line_id, left_of, right_of}
 use Rattle.review_html.specs.declared.side.Side.{Side}
@@ -45,21 +47,24 @@ abbrev pub line_text : Side → ℕ → ℕ → List ℕ → List ℕ
 line_text side at mark front =
     line_front side (number_after at) mark ++ (line_link mark ++ (codes "<code>" ++ (escaped Html front ++ (codes "</code>" ++ line_end mark))))
 
--- a line is shown with its number, or not at all
-abbrev pub ShowsLine : Side → ℕ × List ℕ → List ℕ → Type 0
-ShowsLine side (at, line) text = (text ≡ []) ⊎ ((mark : ℕ) × (front : List ℕ) × IsFront line front × (text ≡ line_text side at mark front))
+-- a line is shown with its number, and leads to the finding of its mark, or it is not shown
+abbrev pub ShowsLine : Side → List ℕ → ℕ × List ℕ → List ℕ → Type 0
+ShowsLine side marks (at, line) text =
+    ((is_shown marks at ≡ false) × (text ≡ []))
+    ⊎ ((is_shown marks at ≡ true) × ((front : List ℕ) × IsFront line front × (text ≡ line_text side at (get_or marks at 0) front)))
 
 -- ---- a file
 
--- the name, and some lines in their order
-abbrev pub ShowsLines : Side → Shown → List ℕ → Type 0
-ShowsLines side shown text =
-    (lines : List ℕ) × AreTexts (ShowsLine side) (enumerate_from 0 (file_lines (string_bytes shown.text))) lines
+-- the name, and the lines that are shown in their order, with marks by a list before which there are so many findings
+abbrev pub ShowsLines : Side → List Finding → ℕ → Shown → List ℕ → Type 0
+ShowsLines side list before shown text =
+    (marks : List ℕ) × AreMarks side before list (length (file_lines (string_bytes shown.text))) marks
+    × (lines : List ℕ) × AreTexts (ShowsLine side marks) (enumerate_from 0 (file_lines (string_bytes shown.text))) lines
     × (text ≡ codes "<div><h2><code>" ++ (escaped Html (string_bytes shown.name) ++ (codes "</code></h2>\n<ol class=\"lines\">\n" ++ (lines ++ codes "</ol></div>\n"))))
 
 -- both files of the part of this number, if they are shown
-abbrev pub ShowsFiles : ℕ → Option (Shown × Shown) → List ℕ → Type 0
-ShowsFiles number None text = text ≡ []
-ShowsFiles number (Some files) text =
-    (left : List ℕ) × (right : List ℕ) × ShowsLines (left_of number) files.0 left × ShowsLines (right_of number) files.1 right
+abbrev pub ShowsFiles : ℕ → List Finding → ℕ → Option (Shown × Shown) → List ℕ → Type 0
+ShowsFiles number list before None text = text ≡ []
+ShowsFiles number list before (Some files) text =
+    (left : List ℕ) × (right : List ℕ) × ShowsLines (left_of number) list before files.0 left × ShowsLines (right_of number) list before files.1 right
     × (text ≡ codes "<section class=\"files\"><div class=\"both\">\n" ++ (left ++ (right ++ codes "</div></section>\n")))

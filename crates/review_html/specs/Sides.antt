@@ -1,5 +1,5 @@
 -- What a page of HTML has of a finding.
-use Rattle.std.specs.Prelude.{ℕ, zero, suc, ◌==◌, Bool, true, false, cond, List, [], ◌∷◌, ◌++◌, Option, Some, None, String, codes, string_bytes}
+use Rattle.std.specs.Prelude.{ℕ, zero, suc, ◌==◌, true, false, cond, List, [], ◌∷◌, ◌++◌, Option, Some, None, String, codes, string_bytes}
 use Rattle.std.specs.declared.alloc.Global.{Global}
 use Rattle.std.specs.List.{flat_map}
 use Rattle.std.specs.Fmt.{decimal}

@@ -1,8 +1,9 @@
 //! The lines of a file, with links from those that differ.
-ghost use Rattle.std.specs.Prelude.{◌≡◌, ◌++◌, List, ℕ, map, take, string_bytes, IfOk, IfErr, OnOk};
-ghost use Rattle.std.specs.List.{enumerate_from};
+ghost use Rattle.std.specs.Prelude.{◌≡◌, ◌++◌, List, ℕ, map, take, get_or, string_bytes, IfOk, IfErr, OnOk};
+ghost use Rattle.std.specs.List.{enumerate_from, list_any};
 ghost use Rattle.review_formats.specs.Changes.{without_last};
 ghost use Rattle.review_html.specs.Lines.{line_parts, file_lines, IsFront, line_begin, line_link, line_end, line_front, line_text, ShowsLine, ShowsLines, ShowsFiles};
+ghost use Rattle.review_html.specs.Marks.{place_on, SetsMark, AreMarks, is_marked, is_near, is_shown};
 ghost use Rattle.review_html.specs.Texts.{AreTexts};
 
 use crate::heading::text;
@@ -25,11 +26,30 @@ const AROUND: usize = 3;
 const WIDE: usize = 400;
 
 /// The place of a finding on a side.
-fn place_on(finding: &Finding, side: Side) -> Option<Place> {
+fn place_on(finding: &Finding, side: Side) -> Option<Place>
+    ensures { result ≡ place_on side finding.now }
+{
     match &finding.sides {
-        Some(sides) if side.is_left => sides.left_place,
-        Some(sides) => sides.right_place,
+        Some(sides) => {
+            if side.is_left {
+                sides.left_place
+            } else {
+                sides.right_place
+            }
+        }
         None => None,
+    }
+}
+
+/// Gives the line that a place is on this mark, if it is there and has none.
+fn set_mark(marks: &mut [usize], place: Option<Place>, mark: usize)
+    ensures { SetsMark marks.old place mark marks.new }
+{
+    if let Some(place) = place {
+        let at = place.line.saturating_sub(1);
+        if at < marks.len() && marks[at] == 0 {
+            marks[at] = mark;
+        }
     }
 }
 
@@ -41,30 +61,48 @@ fn marks_of(
     list: &[Finding],
     before: usize,
 ) -> Result<Vec<usize>, Fault>
+    ensures ok { IfOk result (λ marks. AreMarks side before list.now lines marks.items) }
     ensures err { IfErr result (λ fault. fault ≡ Fault.OutOfMemory) }
 {
     let mut marks = vec![in alloc; 0usize; lines]?;
-    for (number, finding) in list.iter().enumerate() {
-        let Some(place) = place_on(finding, side) else {
-            continue;
-        };
-        if let Some(mark) = marks.get_mut(place.line.saturating_sub(1)) {
-            if *mark == 0 {
-                *mark = number.saturating_add(before).saturating_add(1);
-            }
-        }
+    'findings: for (at, finding) in list.iter().enumerate() {
+        let number = before.saturating_add(at).saturating_add(1);
+        set_mark(&mut marks, place_on(finding, side), number);
     }
     Ok(marks)
 }
 
+/// Whether one of some lines has a mark.
+fn has_mark(marks: &[usize]) -> bool
+    ensures { result ≡ list_any is_marked marks.now }
+{
+    marks.iter().any(|mark| *mark > 0)
+}
+
 /// Whether a line is near one with a mark.
-fn is_near(marks: &[usize], at: usize) -> bool {
+fn is_near(marks: &[usize], at: usize) -> bool
+    ensures { result ≡ is_near marks.now at }
+{
     let from = at.saturating_sub(AROUND);
     let to = at.saturating_add(AROUND).saturating_add(1).min(marks.len());
     match marks.get(from..to) {
-        Some(near) => near.iter().any(|mark| *mark > 0),
+        Some(near) => has_mark(near),
         None => false,
     }
+}
+
+/// Whether a line is shown: all are, or it is near what differs.
+fn is_shown(marks: &[usize], at: usize) -> bool
+    ensures { result ≡ is_shown marks.now at }
+{
+    marks.len() <= FEW || is_near(marks, at)
+}
+
+/// The mark of a line.
+fn mark_at(marks: &[usize], at: usize) -> usize
+    ensures { result ≡ get_or marks.now at 0 }
+{
+    marks.get(at).copied().unwrap_or(0)
 }
 
 /// As much of a line as is shown.
@@ -197,7 +235,7 @@ fn split_lines(alloc: Global, content: &str) -> Result<Vec<&str>, Fault>
     Ok(lines)
 }
 
-/// Writes a line, if all are shown or it is near what differs.
+/// Writes a line, if it is shown.
 fn put_shown(
     out: &mut String,
     side: Side,
@@ -205,12 +243,11 @@ fn put_shown(
     line: &str,
     marks: &[usize],
 ) -> Result<(), Fault>
-    ensures ok { OnOk result ((text : List ℕ) × ShowsLine side (at, line.now) text × (string_bytes out.new ≡ string_bytes out.old ++ text)) }
+    ensures ok { OnOk result ((text : List ℕ) × ShowsLine side marks.now (at, line.now) text × (string_bytes out.new ≡ string_bytes out.old ++ text)) }
     ensures err { IfErr result (λ fault. fault ≡ Fault.OutOfMemory) }
 {
-    if marks.len() <= FEW || is_near(marks, at) {
-        let mark = marks.get(at).copied().unwrap_or(0);
-        put_line(out, side, at, mark, front(line))
+    if is_shown(marks, at) {
+        put_line(out, side, at, mark_at(marks, at), front(line))
     } else {
         Ok(())
     }
@@ -218,7 +255,7 @@ fn put_shown(
 
 /// Writes lines, each if it is shown.
 fn put_all(out: &mut String, side: Side, lines: &[&str], marks: &[usize]) -> Result<(), Fault>
-    ensures ok { OnOk result ((text : List ℕ) × AreTexts (ShowsLine side) (enumerate_from 0 (map (λ one. one.now) lines.now)) text × (string_bytes out.new ≡ string_bytes out.old ++ text)) }
+    ensures ok { OnOk result ((text : List ℕ) × AreTexts (ShowsLine side marks.now) (enumerate_from 0 (map (λ one. one.now) lines.now)) text × (string_bytes out.new ≡ string_bytes out.old ++ text)) }
     ensures err { IfErr result (λ fault. fault ≡ Fault.OutOfMemory) }
 {
     'lines: for (at, line) in lines.iter().enumerate() {
@@ -236,7 +273,7 @@ fn put_lines(
     list: &[Finding],
     before: usize,
 ) -> Result<(), Fault>
-    ensures ok { OnOk result ((text : List ℕ) × ShowsLines side shown.now text × (string_bytes out.new ≡ string_bytes out.old ++ text)) }
+    ensures ok { OnOk result ((text : List ℕ) × ShowsLines side list.now before shown.now text × (string_bytes out.new ≡ string_bytes out.old ++ text)) }
     ensures err { IfErr result (λ fault. fault ≡ Fault.OutOfMemory) }
 {
     let lines = split_lines(alloc, &shown.text)?;
@@ -262,7 +299,7 @@ pub(crate) fn put_files(
     number: usize,
     before: usize,
 ) -> Result<(), Fault>
-    ensures ok { OnOk result ((text : List ℕ) × ShowsFiles number part.now.shown text × (string_bytes out.new ≡ string_bytes out.old ++ text)) }
+    ensures ok { OnOk result ((text : List ℕ) × ShowsFiles number part.now.list.items before part.now.shown text × (string_bytes out.new ≡ string_bytes out.old ++ text)) }
     ensures err { IfErr result (λ fault. fault ≡ Fault.OutOfMemory) }
 {
     let Some((left, right)) = &part.shown else {

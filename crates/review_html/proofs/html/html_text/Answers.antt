@@ -1,4 +1,3 @@
-use Rattle.std.proofs.Common.{◌++◌, ◌∙◌, ap, subst}
 use Rattle.std.specs.String.{string_bytes}
 use Rattle.review_html.proofs.TextLaws.{page_put}
 use Rattle.review_html.proofs.html.html_text.Goals as goal

@@ -1,4 +1,4 @@
-use Rattle.std.proofs.Common.{◌≡◌, ◌+◌, ◌-◌, ◌^◌, ◌++◌, ◌∙◌, drop, get_or, length, ap, subst, arith, refl}
+use Rattle.std.proofs.Common.{◌+◌, ◌-◌, ◌^◌, ◌∙◌, drop, get_or, length, ap, subst, arith, refl}
 use Rattle.std.specs.Prelude.{min}
 use Rattle.std.specs.String.{string_bytes}
 use Rattle.review_html.specs.Html.{numbered, IsPartText}

@@ -5,7 +5,6 @@ use Rattle.std.specs.String.{string_bytes}
 use Rattle.review_html.specs.Headings.{front_text}
 use Rattle.review_html.specs.Html.{section_text}
 use Rattle.review_html.specs.Sides.{body_text}
-use Rattle.review_html.specs.Texts.{number_after}
 use Rattle.review_html.proofs.TextLaws.{flat_step, flat_done, enum_next, enum_done}
 use Rattle.review_html.proofs.html.put_sections.Goals as goal
 

@@ -6,4 +6,4 @@ use Rattle.review_html.proofs.TextLaws.{GoesOn}
 use Rattle.review_html.proofs.lines.put_all.Given as goal
 
 abbrev pub invariant-lines : goal.invariant-lines
-invariant-lines l = GoesOn (ShowsLine l.side) (enumerate_from 0 (map (λ one. one.now) l.fn.lines)) (string_bytes l.fn.out) (enumerate_from l.at (map (λ one. one.now) (drop l.at l.lines))) (string_bytes l.out)
+invariant-lines l = GoesOn (ShowsLine l.side l.marks) (enumerate_from 0 (map (λ one. one.now) l.fn.lines)) (string_bytes l.fn.out) (enumerate_from l.at (map (λ one. one.now) (drop l.at l.lines))) (string_bytes l.out)
