@@ -1,6 +1,6 @@
 -- Two files, and what is told of them.
 use Rattle.std.specs.Prelude.{IfOk, IfErr}
-use Rattle.std.proofs.Common.{◌≡◌, ◌⊎◌, ◌++◌, ℕ, Bool, List, [], Option, Result, Vec, codes, inl, inr, refl, sym, subst}
+use Rattle.std.proofs.Common.{◌≡◌, ℕ, Bool, List, [], Option, Result, Vec, inl, sym, subst}
 use Rattle.std.specs.declared.alloc.Global.{Global}
 use Rattle.yaml_canon.specs.Comparing.{Compares}
 use Rattle.yaml_command.specs.Shelves.{IsOf}

@@ -1,8 +1,7 @@
 -- What the words of git ask for (git(1), GIT_EXTERNAL_DIFF).
-use Rattle.std.specs.Prelude.{◌≡◌, ◌⊎◌, ℕ, Bool, true, false, List, [], ◌∷◌, ◌++◌, Option, Some, None, codes}
+use Rattle.std.specs.Prelude.{◌≡◌, ◌⊎◌, ℕ, Bool, true, false, List, [], ◌∷◌, Option, Some, None, codes}
 use Rattle.std.specs.Borrow.{Bor}
 use Rattle.review_git.specs.declared.asked.Side.{Side}
-use Rattle.review_git.specs.declared.asked.Pair.{Pair}
 use Rattle.review_git.specs.declared.asked.GitAsked.{GitAsked}
 use Rattle.review_git.specs.declared.asked.GitAsked.TheVariants.{Unmerged, Changed}
 

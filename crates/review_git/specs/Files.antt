@@ -1,5 +1,5 @@
 -- What is printed of the two files of a pair.
-use Rattle.std.specs.Prelude.{◌≡◌, ◌⊎◌, ◌==◌, ℕ, Bool, true, false, cond, List, [], ◌∷◌, ◌++◌, Option, Some, None, Result, Ok, IfOk, IfErr, Vec, codes, bytes_eq}
+use Rattle.std.specs.Prelude.{◌≡◌, ◌⊎◌, ◌==◌, ℕ, Bool, true, false, cond, List, [], ◌++◌, Option, Result, Ok, IfOk, IfErr, Vec, codes, bytes_eq}
 use Rattle.std.specs.Str.{IsUtf8}
 use Rattle.std.specs.List.{before_first}
 use Rattle.std.specs.declared.alloc.Global.{Global}

@@ -7,11 +7,12 @@ use Rattle.yaml_unified.specs.Unified.{AreHunks}
 use Rattle.yaml_shown.specs.Refused.{ShowRefuses}
 use Rattle.yaml_shown.specs.Shows.{Shows}
 use Rattle.review_text.specs.Terminal.{terminal}
+use Rattle.review_show.specs.Unshown.{TellsRejected}
 
--- What `show` writes of a file, of which nothing is printed yet; or it is rejected. How that is told is not said.
+-- What `show` writes of a file, of which nothing is printed yet; or it is rejected, and it is told why.
 abbrev pub IsShownFile : List ℕ → List ℕ → Option (List ℕ) → List ℕ → Type 0
 IsShownFile name bytes (Some shown) text = Shows bytes shown × (text ≡ [])
-IsShownFile name bytes None text = (fault : Fault) × ShowRefuses bytes fault
+IsShownFile name bytes None text = (fault : Fault) × ShowRefuses bytes fault × TellsRejected name bytes fault text
 
 -- the lines with the names of both sides
 abbrev pub side_lines : List ℕ → List ℕ → List ℕ

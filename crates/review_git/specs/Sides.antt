@@ -1,12 +1,11 @@
 -- The sides of a file, by what git passes of them.
-use Rattle.std.specs.Prelude.{◌≡◌, ◌⊎◌, ◌==◌, ℕ, Bool, true, not, cond, List, [], ◌∷◌, ◌++◌, Option, Some, None, codes, bytes_eq, eqb}
+use Rattle.std.specs.Prelude.{◌≡◌, ◌⊎◌, ◌==◌, ℕ, Bool, true, not, cond, List, [], ◌∷◌, ◌++◌, codes, bytes_eq, eqb}
 use Rattle.std.specs.List.{list_any, starts_with}
 use Rattle.std.specs.Str.Iter.{HasSubslice}
 use Rattle.review_text.specs.Terminal.{terminal}
 use Rattle.review_git.specs.declared.asked.Kind.{Kind}
 use Rattle.review_git.specs.declared.asked.Kind.TheVariants as kind
 use Rattle.review_git.specs.declared.asked.Side.{Side}
-use Rattle.review_git.specs.declared.asked.Pair.{Pair}
 
 -- what a side is: `.` is the mode of one that does not exist
 abbrev pub kind_of : List ℕ → Kind

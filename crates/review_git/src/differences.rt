@@ -1,5 +1,5 @@
 //! What two files have differently.
-ghost use Rattle.std.specs.Prelude.{◌≡◌, ◌++◌, ℕ, List, IfOk, OnOk, MatchOption, codes, string_bytes};
+ghost use Rattle.std.specs.Prelude.{◌≡◌, ◌++◌, ℕ, List, IfOk, OnOk, MatchOption, codes, string_bytes, IfErr};
 ghost use Rattle.review_args.specs.declared.words.Form.TheVariants.{Line};
 ghost use Rattle.review_files.specs.Named.{NotBothRead};
 ghost use Rattle.review_files.specs.Told.{TellsBoth};
@@ -31,7 +31,8 @@ pub(crate) fn named<'n>(name: &'n str, answer: &'n Result<Vec<u8>, Unread>) -> N
 
 /// A path as git labels it on one side.
 fn label(alloc: Global, side: &str, path: &str) -> Result<String, Fault>
-    ensures { IfOk result (λ name. string_bytes name ≡ side.now ++ path.now) }
+    ensures ok { IfOk result (λ name. string_bytes name ≡ side.now ++ path.now) }
+    ensures err { IfErr result (λ fault. fault ≡ Fault.OutOfMemory) }
 {
     let mut name = String::new(alloc);
     name.push_str(side)?;
@@ -41,7 +42,8 @@ fn label(alloc: Global, side: &str, path: &str) -> Result<String, Fault>
 
 /// The label of the right path, which a renamed file has anew.
 fn right_label(alloc: Global, pair: Pair<'_>) -> Result<String, Fault>
-    ensures { IfOk result (λ name. string_bytes name ≡ codes "b/" ++ right_path pair.entry) }
+    ensures ok { IfOk result (λ name. string_bytes name ≡ codes "b/" ++ right_path pair.entry) }
+    ensures err { IfErr result (λ fault. fault ≡ Fault.OutOfMemory) }
 {
     match pair.renamed {
         Some((path, _)) => label(alloc, "b/", path),
@@ -79,7 +81,8 @@ fn put_compared(
     first: &[u8],
     second: &[u8],
 ) -> Result<(), Fault>
-    ensures { OnOk result ((text : List ℕ) × (string_bytes out.new ≡ string_bytes out.old ++ text) × TellsDifferences left.entry right.entry first.now second.now text) }
+    ensures ok { OnOk result ((text : List ℕ) × (string_bytes out.new ≡ string_bytes out.old ++ text) × TellsDifferences left.entry right.entry first.now second.now text) }
+    ensures err { IfErr result (λ fault. fault ≡ Fault.OutOfMemory) }
 {
     match compare_sides(alloc, &lines_of(left.name, right.name), &[], first, second) {
         Ok(told) => out.push_str(&told.text)?,
@@ -110,7 +113,8 @@ pub(crate) fn put_unread(
     left: Named<'_>,
     right: Named<'_>,
 ) -> Result<(), Fault>
-    ensures { OnOk result ((text : List ℕ) × (string_bytes out.new ≡ string_bytes out.old ++ text) × ((status : ℕ) × TellsBoth Line left.entry right.entry text status)) }
+    ensures ok { OnOk result ((text : List ℕ) × (string_bytes out.new ≡ string_bytes out.old ++ text) × ((status : ℕ) × TellsBoth Line left.entry right.entry text status)) }
+    ensures err { IfErr result (λ fault. fault ≡ Fault.OutOfMemory) }
 {
     put_rejections(alloc, out, left, right, Form::Line)?;
     Ok(())
@@ -125,7 +129,8 @@ fn put_read(
     read: (&[u8], &[u8]),
     is_shown: bool,
 ) -> Result<(), Fault>
-    ensures { OnOk result ((text : List ℕ) × (string_bytes out.new ≡ string_bytes out.old ++ text) × TellsRead is_shown left.entry right.entry read.entry.0.now read.entry.1.now text) }
+    ensures ok { OnOk result ((text : List ℕ) × (string_bytes out.new ≡ string_bytes out.old ++ text) × TellsRead is_shown left.entry right.entry read.entry.0.now read.entry.1.now text) }
+    ensures err { IfErr result (λ fault. fault ≡ Fault.OutOfMemory) }
 {
     if is_shown {
         put_shown_lines(alloc, out, (left.name, read.0), (right.name, read.1))
@@ -142,7 +147,8 @@ fn put_files(
     right: Named<'_>,
     is_shown: bool,
 ) -> Result<(), Fault>
-    ensures { OnOk result ((text : List ℕ) × (string_bytes out.new ≡ string_bytes out.old ++ text) × TellsFiles is_shown left.entry right.entry text) }
+    ensures ok { OnOk result ((text : List ℕ) × (string_bytes out.new ≡ string_bytes out.old ++ text) × TellsFiles is_shown left.entry right.entry text) }
+    ensures err { IfErr result (λ fault. fault ≡ Fault.OutOfMemory) }
 {
     match both_of(left, right) {
         Some(read) => put_read(alloc, out, left, right, read, is_shown),
@@ -157,7 +163,8 @@ pub(crate) fn put_differences<S: Shelf>(
     out: &mut String,
     pair: Pair<'_>,
 ) -> Result<(), Fault>
-    ensures { OnOk result ((text : List ℕ) × (string_bytes out.new ≡ string_bytes out.old ++ text) × OfFiles (S.holds shelf.now) pair.entry text) }
+    ensures ok { OnOk result ((text : List ℕ) × (string_bytes out.new ≡ string_bytes out.old ++ text) × OfFiles (S.holds shelf.now) pair.entry text) }
+    ensures err { IfErr result (λ fault. fault ≡ Fault.OutOfMemory) }
 {
     let left_name = label(alloc, "a/", pair.path)?;
     let right_name = right_label(alloc, pair)?;
@@ -175,7 +182,8 @@ fn put_new_file<S: Shelf>(
     out: &mut String,
     pair: Pair<'_>,
 ) -> Result<(), Fault>
-    ensures { OnOk result ((text : List ℕ) × (string_bytes out.new ≡ string_bytes out.old ++ text) × OfNewFile (S.holds shelf.now) pair.entry text) }
+    ensures ok { OnOk result ((text : List ℕ) × (string_bytes out.new ≡ string_bytes out.old ++ text) × OfNewFile (S.holds shelf.now) pair.entry text) }
+    ensures err { IfErr result (λ fault. fault ≡ Fault.OutOfMemory) }
 {
     let name = right_label(alloc, pair)?;
     let answer = read_file(shelf, alloc, pair.right.file);
@@ -190,7 +198,8 @@ pub(crate) fn put_new<S: Shelf>(
     out: &mut String,
     pair: Pair<'_>,
 ) -> Result<(), Fault>
-    ensures { OnOk result ((text : List ℕ) × (string_bytes out.new ≡ string_bytes out.old ++ text) × IsNew (S.holds shelf.now) pair.entry text) }
+    ensures ok { OnOk result ((text : List ℕ) × (string_bytes out.new ≡ string_bytes out.old ++ text) × IsNew (S.holds shelf.now) pair.entry text) }
+    ensures err { IfErr result (λ fault. fault ≡ Fault.OutOfMemory) }
 {
     put_alone(out, "new file", pair.right)?;
     match pair.right.kind() {

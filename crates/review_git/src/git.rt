@@ -1,5 +1,5 @@
 //! What is printed of what git passes to an external diff.
-ghost use Rattle.std.specs.Prelude.{◌≡◌, ◌++◌, ℕ, List, IfOk, OnOk, string_bytes};
+ghost use Rattle.std.specs.Prelude.{◌≡◌, ◌++◌, ℕ, List, IfOk, OnOk, string_bytes, IfErr};
 ghost use Rattle.review_git.specs.Sides.{kind_of};
 ghost use Rattle.review_git.specs.Texts.{or_same, unmerged_text, OfKinds, OfBoth, OfSides, OfPair, WritesPair, GitWrites};
 
@@ -19,7 +19,8 @@ fn put_kinds<S: Shelf>(
     out: &mut String,
     pair: Pair<'_>,
 ) -> Result<(), Fault>
-    ensures { OnOk result ((text : List ℕ) × (string_bytes out.new ≡ string_bytes out.old ++ text) × OfKinds (S.holds shelf.now) (kind_of pair.entry.left.mode.now) (kind_of pair.entry.right.mode.now) pair.entry text) }
+    ensures ok { OnOk result ((text : List ℕ) × (string_bytes out.new ≡ string_bytes out.old ++ text) × OfKinds (S.holds shelf.now) (kind_of pair.entry.left.mode.now) (kind_of pair.entry.right.mode.now) pair.entry text) }
+    ensures err { IfErr result (λ fault. fault ≡ Fault.OutOfMemory) }
 {
     match (pair.left.kind(), pair.right.kind()) {
         (Kind::File, Kind::File) => put_differences(shelf, alloc, out, pair),
@@ -36,7 +37,8 @@ fn put_changed<S: Shelf>(
     out: &mut String,
     pair: Pair<'_>,
 ) -> Result<(), Fault>
-    ensures { OnOk result ((text : List ℕ) × (string_bytes out.new ≡ string_bytes out.old ++ text) × OfBoth (S.holds shelf.now) pair.entry text) }
+    ensures ok { OnOk result ((text : List ℕ) × (string_bytes out.new ≡ string_bytes out.old ++ text) × OfBoth (S.holds shelf.now) pair.entry text) }
+    ensures err { IfErr result (λ fault. fault ≡ Fault.OutOfMemory) }
 {
     put_modes(out, pair)?;
     put_renamed(out, pair)?;
@@ -53,7 +55,8 @@ fn put_pair<S: Shelf>(
     out: &mut String,
     pair: Pair<'_>,
 ) -> Result<(), Fault>
-    ensures { OnOk result ((text : List ℕ) × (string_bytes out.new ≡ string_bytes out.old ++ text) × OfSides (S.holds shelf.now) (kind_of pair.entry.left.mode.now) (kind_of pair.entry.right.mode.now) pair.entry text) }
+    ensures ok { OnOk result ((text : List ℕ) × (string_bytes out.new ≡ string_bytes out.old ++ text) × OfSides (S.holds shelf.now) (kind_of pair.entry.left.mode.now) (kind_of pair.entry.right.mode.now) pair.entry text) }
+    ensures err { IfErr result (λ fault. fault ≡ Fault.OutOfMemory) }
 {
     match pair.left.kind() {
         Kind::None => put_new(shelf, alloc, out, pair),
@@ -71,7 +74,8 @@ fn put_pair_or_same<S: Shelf>(
     out: &mut String,
     pair: Pair<'_>,
 ) -> Result<(), Fault>
-    ensures { OnOk result ((text : List ℕ) × (string_bytes out.new ≡ string_bytes out.old ++ text) × OfPair (S.holds shelf.now) pair.entry text) }
+    ensures ok { OnOk result ((text : List ℕ) × (string_bytes out.new ≡ string_bytes out.old ++ text) × OfPair (S.holds shelf.now) pair.entry text) }
+    ensures err { IfErr result (λ fault. fault ≡ Fault.OutOfMemory) }
 {
     let mut text = String::new(alloc);
     put_pair(shelf, alloc, &mut text, pair)?;
@@ -88,7 +92,8 @@ fn or_same(text: &str) -> &str
 
 /// What is printed of a path that is not merged.
 fn unmerged_text(alloc: Global, path: &str) -> Result<String, Fault>
-    ensures { IfOk result (λ text. string_bytes text ≡ unmerged_text path.now) }
+    ensures ok { IfOk result (λ text. string_bytes text ≡ unmerged_text path.now) }
+    ensures err { IfErr result (λ fault. fault ≡ Fault.OutOfMemory) }
 {
     let mut out = String::new(alloc);
     out.push_str("diff ")?;
@@ -99,7 +104,8 @@ fn unmerged_text(alloc: Global, path: &str) -> Result<String, Fault>
 
 /// What is printed of a changed file, from its name on.
 fn changed_text<S: Shelf>(shelf: &S, alloc: Global, pair: Pair<'_>) -> Result<String, Fault>
-    ensures { IfOk result (λ text. WritesPair (S.holds shelf.now) pair.entry (string_bytes text)) }
+    ensures ok { IfOk result (λ text. WritesPair (S.holds shelf.now) pair.entry (string_bytes text)) }
+    ensures err { IfErr result (λ fault. fault ≡ Fault.OutOfMemory) }
 {
     let mut out = String::new(alloc);
     put_name(&mut out, pair)?;
@@ -112,7 +118,8 @@ fn changed_text<S: Shelf>(shelf: &S, alloc: Global, pair: Pair<'_>) -> Result<St
 /// # Errors
 /// Want of memory.
 pub fn git_text<S: Shelf>(shelf: &S, alloc: Global, asked: GitAsked<'_>) -> Result<String, Fault>
-    ensures { IfOk result (λ text. GitWrites (S.holds shelf.now) asked.entry (string_bytes text)) }
+    ensures ok { IfOk result (λ text. GitWrites (S.holds shelf.now) asked.entry (string_bytes text)) }
+    ensures err { IfErr result (λ fault. fault ≡ Fault.OutOfMemory) }
 {
     match asked {
         GitAsked::Unmerged(path) => unmerged_text(alloc, path),

@@ -1,5 +1,5 @@
 //! The changed lines of what `show` writes of two files.
-ghost use Rattle.std.specs.Prelude.{◌≡◌, ◌++◌, ℕ, List, Some, IfOk, OnOk, option_map, codes, string_bytes};
+ghost use Rattle.std.specs.Prelude.{◌≡◌, ◌++◌, ℕ, List, Some, IfOk, IfErr, OnOk, option_map, codes, string_bytes};
 ghost use Rattle.review_git.specs.Shown.{IsShownFile, side_lines, TellsChanges, TellsShown};
 
 use review_show::put_unshown;
@@ -14,8 +14,10 @@ use yaml_unified::put_unified;
 const CONTEXT: usize = 3;
 
 /// What `show` writes of a file; none if it is rejected, and then it is written why.
+#[tactic(auto, using(review_show::proofs::MemoryLaws::shown_memory))]
 fn shown_of(alloc: Global, out: &mut String, file: (&str, &[u8])) -> Result<Option<String>, Fault>
-    ensures { IfOk result (λ shown. (text : List ℕ) × (string_bytes out.new ≡ string_bytes out.old ++ text) × IsShownFile file.entry.0.now file.entry.1.now (option_map string_bytes shown) text) }
+    ensures ok { IfOk result (λ shown. (text : List ℕ) × (string_bytes out.new ≡ string_bytes out.old ++ text) × IsShownFile file.entry.0.now file.entry.1.now (option_map string_bytes shown) text) }
+    ensures err { IfErr result (λ fault. fault ≡ Fault.OutOfMemory) }
 {
     match show(alloc, file.1) {
         Ok(text) => Ok(Some(text)),
@@ -31,7 +33,8 @@ fn shown_of(alloc: Global, out: &mut String, file: (&str, &[u8])) -> Result<Opti
 
 /// Writes the lines with the names of both sides.
 fn put_sides(out: &mut String, left: &str, right: &str) -> Result<(), Fault>
-    ensures { OnOk result (string_bytes out.new ≡ string_bytes out.old ++ side_lines left.now right.now) }
+    ensures ok { OnOk result (string_bytes out.new ≡ string_bytes out.old ++ side_lines left.now right.now) }
+    ensures err { IfErr result (λ fault. fault ≡ Fault.OutOfMemory) }
 {
     out.push_str("--- ")?;
     put_shown(out, left)?;
@@ -49,7 +52,8 @@ fn put_changes(
     old: &str,
     new: &str,
 ) -> Result<(), Fault>
-    ensures { OnOk result ((text : List ℕ) × (string_bytes out.new ≡ string_bytes out.old ++ text) × TellsChanges names.entry.0.now names.entry.1.now (Some old.now) (Some new.now) text) }
+    ensures ok { OnOk result ((text : List ℕ) × (string_bytes out.new ≡ string_bytes out.old ++ text) × TellsChanges names.entry.0.now names.entry.1.now (Some old.now) (Some new.now) text) }
+    ensures err { IfErr result (λ fault. fault ≡ Fault.OutOfMemory) }
 {
     if old == new {
         return Ok(());
@@ -68,7 +72,8 @@ fn put_both(
     old: &Option<String>,
     new: &Option<String>,
 ) -> Result<(), Fault>
-    ensures { OnOk result ((text : List ℕ) × (string_bytes out.new ≡ string_bytes out.old ++ text) × TellsChanges names.entry.0.now names.entry.1.now (option_map string_bytes old.now) (option_map string_bytes new.now) text) }
+    ensures ok { OnOk result ((text : List ℕ) × (string_bytes out.new ≡ string_bytes out.old ++ text) × TellsChanges names.entry.0.now names.entry.1.now (option_map string_bytes old.now) (option_map string_bytes new.now) text) }
+    ensures err { IfErr result (λ fault. fault ≡ Fault.OutOfMemory) }
 {
     match old {
         Some(old) => match new {
@@ -87,7 +92,8 @@ pub(crate) fn put_shown_lines(
     left: (&str, &[u8]),
     right: (&str, &[u8]),
 ) -> Result<(), Fault>
-    ensures { OnOk result ((text : List ℕ) × (string_bytes out.new ≡ string_bytes out.old ++ text) × TellsShown left.entry.0.now right.entry.0.now left.entry.1.now right.entry.1.now text) }
+    ensures ok { OnOk result ((text : List ℕ) × (string_bytes out.new ≡ string_bytes out.old ++ text) × TellsShown left.entry.0.now right.entry.0.now left.entry.1.now right.entry.1.now text) }
+    ensures err { IfErr result (λ fault. fault ≡ Fault.OutOfMemory) }
 {
     let old = shown_of(alloc, out, left)?;
     let new = shown_of(alloc, out, right)?;

@@ -1,5 +1,5 @@
 //! The lines before the differences: which file, which modes, which path it had.
-ghost use Rattle.std.specs.Prelude.{◌≡◌, ◌++◌, ℕ, List, OnOk, MatchBool, codes, string_bytes};
+ghost use Rattle.std.specs.Prelude.{◌≡◌, ◌++◌, ℕ, List, OnOk, MatchBool, codes, string_bytes, IfErr};
 ghost use Rattle.review_git.specs.Sides.{kind_note, mode_text, alone_line, modes_line, HasLine, IsChange};
 ghost use Rattle.review_git.specs.Heads.{name_line, IsRenamedLine};
 
@@ -18,7 +18,8 @@ const COPY_BEHIND: &str = "\ncopy from ";
 
 /// Writes the name of a pair.
 pub(crate) fn put_name(out: &mut String, pair: Pair<'_>) -> Result<(), Fault>
-    ensures { OnOk result (string_bytes out.new ≡ string_bytes out.old ++ name_line pair.entry) }
+    ensures ok { OnOk result (string_bytes out.new ≡ string_bytes out.old ++ name_line pair.entry) }
+    ensures err { IfErr result (λ fault. fault ≡ Fault.OutOfMemory) }
 {
     out.push_str("diff ")?;
     put_shown(out, pair.path)?;
@@ -43,7 +44,8 @@ fn note_of(kind: Kind) -> &'static str
 
 /// Writes a mode, and what it stands for where that is no file.
 fn put_mode(out: &mut String, side: Side<'_>) -> Result<(), Fault>
-    ensures { OnOk result (string_bytes out.new ≡ string_bytes out.old ++ mode_text side.entry.mode.now) }
+    ensures ok { OnOk result (string_bytes out.new ≡ string_bytes out.old ++ mode_text side.entry.mode.now) }
+    ensures err { IfErr result (λ fault. fault ≡ Fault.OutOfMemory) }
 {
     put_shown(out, side.mode)?;
     out.push_str(note_of(side.kind()))?;
@@ -52,7 +54,8 @@ fn put_mode(out: &mut String, side: Side<'_>) -> Result<(), Fault>
 
 /// Writes that a side is the only one, with its mode unless it is that of most files.
 pub(crate) fn put_alone(out: &mut String, words: &str, side: Side<'_>) -> Result<(), Fault>
-    ensures { OnOk result (string_bytes out.new ≡ string_bytes out.old ++ alone_line words.now side.entry.mode.now) }
+    ensures ok { OnOk result (string_bytes out.new ≡ string_bytes out.old ++ alone_line words.now side.entry.mode.now) }
+    ensures err { IfErr result (λ fault. fault ≡ Fault.OutOfMemory) }
 {
     out.push_str(words)?;
     if side.mode != PLAIN {
@@ -65,7 +68,8 @@ pub(crate) fn put_alone(out: &mut String, words: &str, side: Side<'_>) -> Result
 
 /// Writes which mode was changed, if one was.
 pub(crate) fn put_modes(out: &mut String, pair: Pair<'_>) -> Result<(), Fault>
-    ensures { OnOk result (string_bytes out.new ≡ string_bytes out.old ++ modes_line pair.entry.left.mode.now pair.entry.right.mode.now) }
+    ensures ok { OnOk result (string_bytes out.new ≡ string_bytes out.old ++ modes_line pair.entry.left.mode.now pair.entry.right.mode.now) }
+    ensures err { IfErr result (λ fault. fault ≡ Fault.OutOfMemory) }
 {
     if pair.left.mode == pair.right.mode {
         return Ok(());
@@ -98,7 +102,8 @@ fn words_of(lines: &str) -> &'static str
 
 /// Writes from which path a file was renamed or copied, if it was.
 pub(crate) fn put_renamed(out: &mut String, pair: Pair<'_>) -> Result<(), Fault>
-    ensures { OnOk result ((line : List ℕ) × (string_bytes out.new ≡ string_bytes out.old ++ line) × IsRenamedLine pair.entry line) }
+    ensures ok { OnOk result ((line : List ℕ) × (string_bytes out.new ≡ string_bytes out.old ++ line) × IsRenamedLine pair.entry line) }
+    ensures err { IfErr result (λ fault. fault ≡ Fault.OutOfMemory) }
 {
     let Some((_, lines)) = pair.renamed else {
         return Ok(());

@@ -1,5 +1,5 @@
 //! What a link or a submodule was and is.
-ghost use Rattle.std.specs.Prelude.{◌≡◌, ◌==◌, ◌++◌, ℕ, List, OnOk, string_bytes};
+ghost use Rattle.std.specs.Prelude.{◌≡◌, ◌==◌, ◌++◌, ℕ, List, OnOk, string_bytes, IfErr};
 ghost use Rattle.std.specs.List.{before_first};
 ghost use Rattle.yaml_definitions.specs.grammar.Characters.{b-line-feed};
 ghost use Rattle.review_git.specs.Files.{IsBehind, IsTarget, targets_line, TellsTargets, TellsBothTargets};
@@ -50,7 +50,8 @@ fn target_of(bytes: &[u8]) -> &str
 
 /// Writes what a link or a submodule was and is, if these are different.
 fn put_line(out: &mut String, words: &str, old: &str, new: &str) -> Result<(), Fault>
-    ensures { OnOk result (string_bytes out.new ≡ string_bytes out.old ++ targets_line words.now old.now new.now) }
+    ensures ok { OnOk result (string_bytes out.new ≡ string_bytes out.old ++ targets_line words.now old.now new.now) }
+    ensures err { IfErr result (λ fault. fault ≡ Fault.OutOfMemory) }
 {
     if old == new {
         return Ok(());
@@ -71,7 +72,8 @@ fn put_both(
     left: Named<'_>,
     right: Named<'_>,
 ) -> Result<(), Fault>
-    ensures { OnOk result ((text : List ℕ) × (string_bytes out.new ≡ string_bytes out.old ++ text) × TellsBothTargets words.now left.entry right.entry text) }
+    ensures ok { OnOk result ((text : List ℕ) × (string_bytes out.new ≡ string_bytes out.old ++ text) × TellsBothTargets words.now left.entry right.entry text) }
+    ensures err { IfErr result (λ fault. fault ≡ Fault.OutOfMemory) }
 {
     match both_of(left, right) {
         Some((first, second)) => put_line(out, words, target_of(first), target_of(second)),
@@ -87,7 +89,8 @@ pub(crate) fn put_targets<S: Shelf>(
     words: &str,
     pair: Pair<'_>,
 ) -> Result<(), Fault>
-    ensures { OnOk result ((text : List ℕ) × (string_bytes out.new ≡ string_bytes out.old ++ text) × OfTargets (S.holds shelf.now) words.now pair.entry text) }
+    ensures ok { OnOk result ((text : List ℕ) × (string_bytes out.new ≡ string_bytes out.old ++ text) × OfTargets (S.holds shelf.now) words.now pair.entry text) }
+    ensures err { IfErr result (λ fault. fault ≡ Fault.OutOfMemory) }
 {
     let left = read_file(shelf, alloc, pair.left.file);
     let right = read_file(shelf, alloc, pair.right.file);

@@ -194,6 +194,7 @@ fn line_of(
     requires ranked { RanksAre both.now.graph both.now.ranks }
     ensures one { IfOk result (TellsOne both.now asked.now difference.now) }
     ensures count { IfOk result (λ line. line.count ≡ count) }
+    ensures err { IfErr result (λ fault. fault ≡ Fault.OutOfMemory) }
 {
     let path = path_of(alloc, both, difference, asked.paths)?;
     let nodes = shown_both(alloc, both, difference, room_of(asked.whole), budget)?;
@@ -225,6 +226,7 @@ fn lines_with(
     requires level { length counts.now ≡ length list.now }
     ensures each { IfOk result (λ lines. TellsEach both.now asked.now list.now lines.items) }
     ensures counts { IfOk result (λ lines. map (λ line. line.count) lines.items ≡ counts.now) }
+    ensures err { IfErr result (λ fault. fault ≡ Fault.OutOfMemory) }
 {
     let mut lines = Vec::new(alloc);
     let mut budget = Budget::new();
@@ -252,6 +254,7 @@ pub(crate) fn lines_of(
     requires ranked { RanksAre both.now.graph both.now.ranks }
     ensures each { IfOk result (λ lines. TellsEach both.now asked.now list.now lines.items) }
     ensures folds { IfOk result (λ lines. Folds folds list.now (map (λ line. line.count) lines.items)) }
+    ensures err { IfErr result (λ fault. fault ≡ Fault.OutOfMemory) }
 {
     let counts = counts(alloc, folds, list, &places.causes)?;
     let lines = lines_with(alloc, both, list, asked, places, &counts)?;
@@ -309,7 +312,8 @@ fn text_of(
     found: &Found,
 ) -> Result<String, Fault>
     requires ranked { RanksAre both.now.graph both.now.ranks }
-    ensures { IfOk result (λ text. TellsFound both.now asked.now found.now (string_bytes text)) }
+    ensures ok { IfOk result (λ text. TellsFound both.now asked.now found.now (string_bytes text)) }
+    ensures err { IfErr result (λ fault. fault ≡ Fault.OutOfMemory) }
 {
     let traced = sides;
     let sides = if found.list.is_empty() { None } else { sides };
@@ -338,7 +342,8 @@ fn asked_text(
     found: &Found,
 ) -> Result<String, Fault>
     requires ranked { RanksAre both.now.graph both.now.ranks }
-    ensures { IfOk result (λ text. TellsAsked asked.now.lines both.now asked.now found.now (string_bytes text)) }
+    ensures ok { IfOk result (λ text. TellsAsked asked.now.lines both.now asked.now found.now (string_bytes text)) }
+    ensures err { IfErr result (λ fault. fault ≡ Fault.OutOfMemory) }
 {
     if asked.lines == 0 {
         return Ok(String::new(alloc));
@@ -357,6 +362,7 @@ fn told_text(
     requires ranked { RanksAre both.now.graph both.now.ranks }
     ensures lines { IfOk result (λ text. asked.now.stat ≡ false → TellsAsked asked.now.lines both.now asked.now found.now (string_bytes text)) }
     ensures counts { IfOk result (λ text. asked.now.stat ≡ true → string_bytes text ≡ stat_text asked.now found.now) }
+    ensures err { IfErr result (λ fault. fault ≡ Fault.OutOfMemory) }
 {
     if asked.stat {
         return stat_text(alloc, asked, found);
@@ -384,6 +390,7 @@ pub fn compare(
     requires ranked { RanksAre both.now.graph both.now.ranks }
     ensures text { IfOk result (λ told. TellsStreams both.now asked.now ignored.now told.same (string_bytes told.text)) }
     ensures same { IfOk result (λ told. ignored.now ≡ [] → ((told.same ≡ true) ↔ Alike (map (λ i. tree both.now.graph i.0) (take both.now.documents (roots_of both.now.graph))) (map (λ i. tree both.now.graph i.0) (drop both.now.documents (roots_of both.now.graph))))) }
+    ensures err { IfErr result (λ fault. fault ≡ Fault.OutOfMemory) }
 {
     let found = searched(alloc, both, asked, ignored, folds_moves(asked))?;
     let kept = kept(alloc, both, ignored, found, room_for(asked.lines))?;

@@ -1,5 +1,5 @@
 //! Where two streams differ, as a list.
-ghost use Rattle.std.specs.Prelude.{◌≡◌, ◌↔◌, true, map, take, drop, [], IfOk};
+ghost use Rattle.std.specs.Prelude.{◌≡◌, ◌↔◌, true, map, take, drop, [], IfOk, IfErr};
 ghost use Rattle.yaml_definitions.specs.model.Same.{Alike};
 ghost use Rattle.yaml_graph.specs.GraphView.{roots_of, tree};
 ghost use Rattle.yaml_rank.specs.RanksView.{RanksAre};
@@ -38,7 +38,8 @@ fn lines_listed(
     found: &Found,
 ) -> Result<Listed, Fault>
     requires ranked { RanksAre both.now.graph both.now.ranks }
-    ensures { IfOk result (ListsFound both.now asked.now found.now) }
+    ensures ok { IfOk result (ListsFound both.now asked.now found.now) }
+    ensures err { IfErr result (λ fault. fault ≡ Fault.OutOfMemory) }
 {
     let traced = sides;
     let sides = if found.list.is_empty() { None } else { sides };
@@ -66,6 +67,7 @@ pub fn list_differences(
     requires ranked { RanksAre both.now.graph both.now.ranks }
     ensures lists { IfOk result (ListsStreams both.now asked.now ignored.now) }
     ensures same { IfOk result (λ told. ignored.now ≡ [] → ((told.same ≡ true) ↔ Alike (map (λ i. tree both.now.graph i.0) (take both.now.documents (roots_of both.now.graph))) (map (λ i. tree both.now.graph i.0) (drop both.now.documents (roots_of both.now.graph))))) }
+    ensures err { IfErr result (λ fault. fault ≡ Fault.OutOfMemory) }
 {
     let found = searched(alloc, both, asked, ignored, false)?;
     let kept = kept(alloc, both, ignored, found, room_for(asked.lines))?;

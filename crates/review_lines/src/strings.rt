@@ -322,7 +322,8 @@ fn summary_of(alloc: Global, edits: &[Edit<'_>]) -> Result<String, Fault>
 
 /// The changed lines of an edit script as they are printed.
 fn lines_of(alloc: Global, edits: &[Edit<'_>], asked: &Diff<'_>) -> Result<String, Fault>
-    ensures { IfOk result (λ s. string_bytes s ≡ script_text asked.now.context asked.now.color edits.now) }
+    ensures ok { IfOk result (λ s. string_bytes s ≡ script_text asked.now.context asked.now.color edits.now) }
+    ensures err { IfErr result (λ fault. fault ≡ Fault.OutOfMemory) }
 {
     let mut text = String::new(alloc);
     put_script(&mut text, edits, asked.context, asked.color)?;
@@ -338,7 +339,8 @@ pub(crate) fn changed_lines(
     asked: &Diff<'_>,
     budget: &mut Budget,
 ) -> Result<Option<Changes>, Fault>
-    ensures { IfOk result (ShowsChanges both.now.graph asked.now.context asked.now.color difference.now) }
+    ensures ok { IfOk result (ShowsChanges both.now.graph asked.now.context asked.now.color difference.now) }
+    ensures err { IfErr result (λ fault. fault ≡ Fault.OutOfMemory) }
 {
     let Some((left, right)) = scalars_of(both, difference) else {
         return Ok(None);

@@ -75,11 +75,11 @@ pub record TellsEach (names : Names) (bytes : Bytes) (text : List ℕ) (status :
   pub is : text ≡ ((base ++ ours) ++ theirs) ++ result
   pub status_is : status ≡ max (max one two) (max three four)
 
--- It is told which are rejected. If none is, there is no memory to judge them.
+-- It is told which are rejected; or memory is refused, as where none is.
 abbrev pub TellsRejected : Names → Bytes → NoMerge → Type 0
 TellsRejected names bytes no.OneInput = ⊥
 TellsRejected names bytes (no.Told text status) = (told : ℕ) × TellsEach names bytes (string_bytes text) told × (0 < told) × (status ≡ max told 2)
-TellsRejected names bytes (no.Fault fault) = (fault ≡ OutOfMemory) ⊎ ((text : List ℕ) × TellsEach names bytes text 0)
+TellsRejected names bytes (no.Fault fault) = fault ≡ OutOfMemory
 
 -- ---- a merge of which it is not known whether there is one
 

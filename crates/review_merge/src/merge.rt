@@ -184,7 +184,8 @@ fn read_files<S: Shelf, R: Read>(
 
 /// Writes why a file of these bytes is rejected, if it is, and answers its status.
 fn put_one(alloc: Global, out: &mut String, name: &str, bytes: Vec<u8>) -> Result<u8, Fault>
-    ensures { IfOk result (λ status. (text : List ℕ) × (string_bytes out.new ≡ string_bytes out.old ++ text) × TellsFaults Line name.now bytes.items text status) }
+    ensures ok { IfOk result (λ status. (text : List ℕ) × (string_bytes out.new ≡ string_bytes out.old ++ text) × TellsFaults Line name.now bytes.items text status) }
+    ensures err { IfErr result (λ fault. fault ≡ Fault.OutOfMemory) }
 {
     let answer = Ok(bytes);
     let file = Named {
@@ -208,7 +209,8 @@ fn put_rejections(
     names: &Names<'_>,
     bytes: Bytes,
 ) -> Result<u8, Fault>
-    ensures { IfOk result (λ status. (text : List ℕ) × (string_bytes out.new ≡ string_bytes out.old ++ text) × TellsEach names.now bytes text status) }
+    ensures ok { IfOk result (λ status. (text : List ℕ) × (string_bytes out.new ≡ string_bytes out.old ++ text) × TellsEach names.now bytes text status) }
+    ensures err { IfErr result (λ fault. fault ≡ Fault.OutOfMemory) }
 {
     let base = put_one(alloc, out, names.base, bytes.base)?;
     let ours = put_one(alloc, out, names.ours, bytes.ours)?;
@@ -217,8 +219,9 @@ fn put_rejections(
     Ok(greater(greater(base, ours), greater(theirs, result)))
 }
 
-/// What is printed of files of which one is rejected. Where none is, as where memory is refused, the fault is reported.
-fn rejected(alloc: Global, names: &Names<'_>, bytes: Bytes, fault: Fault) -> NoMerge
+/// What is printed of files of which no merge is judged. Where each of them is accepted by itself, memory is refused for all, and that
+/// is what is reported.
+fn rejected(alloc: Global, names: &Names<'_>, bytes: Bytes) -> NoMerge
     ensures status { 2 ≤ no_merge_status result }
     ensures told { TellsRejected names.now bytes result }
 {
@@ -226,7 +229,7 @@ fn rejected(alloc: Global, names: &Names<'_>, bytes: Bytes, fault: Fault) -> NoM
     match put_rejections(alloc, &mut text, names, bytes) {
         Ok(status) => {
             if status == 0 {
-                NoMerge::Fault(fault)
+                NoMerge::Fault(Fault::OutOfMemory)
             } else {
                 NoMerge::Told(text, at_least(status))
             }
@@ -336,7 +339,7 @@ pub fn merge3<S: Shelf, R: Read, W: Write>(
     let given = names.result.is_some();
     let told = match told_of(alloc, &bytes, given, print) {
         Ok(told) => told,
-        Err(fault) => return Err(rejected(alloc, names, bytes, fault)),
+        Err(_) => return Err(rejected(alloc, names, bytes)),
     };
     let Some(answer) = told.answer else {
         return Err(too_many(alloc));

@@ -21,7 +21,7 @@ use Rattle.review_files.specs.Named.{ReadsNamed, ReadsNot}
 use Rattle.review_files.specs.Told.{IsAccepted}
 use Rattle.review_reports.specs.Reports.{HasNoText}
 use Rattle.review_reports.specs.Texts.{IsListText}
-use Rattle.review_files.specs.Statuses.{fault_status, unread_status}
+use Rattle.review_files.specs.Statuses.{unread_status}
 use Rattle.review_files.specs.declared.unread.Unread.{Unread}
 use Rattle.review_files.specs.declared.unread.Unread.TheVariants as unread
 use Rattle.review_reports.specs.declared.reports.Kind.{Kind}
@@ -74,12 +74,12 @@ FindsBytes kind name bytes list status =
 -- ---- what is written
 
 module _ {W : Type 0} (contents : W → Option (List ℕ)) where
-  -- What was found is written as text, and the status is that; or the output fails behind a beginning of it, or nothing is written because of a fault.
+  -- What was found is written as text, and the status is that; or the output fails behind a beginning of it, or nothing is written because memory is refused.
   abbrev pub WritesPage : Kind → Page → List Finding → Counted W → Counted W → ℕ → ℕ → Type 0
   WritesPage kind page list out end found status =
       ((text : List ℕ) × IsListText kind page list text × Printed contents out end text × (status ≡ found))
       ⊎ (((text : List ℕ) × IsListText kind page list text × Broken contents out end text × (status ≡ max found 3))
-      ⊎ ((fault : Fault) × (end ≡ out) × (status ≡ max found (fault_status fault))))
+      ⊎ ((end ≡ out) × (status ≡ max found 2)))
 
 -- ---- a file
 
@@ -109,4 +109,4 @@ module _ {R : Type 0} (holds : List ℕ → Option (List ℕ)) (remaining : R �
     abbrev pub TellsPage : Kind → Page → List (List ℕ) → R → R → Counted W → Counted W → ℕ → Type 0
     TellsPage kind page names old new out end status =
         ((list : List Finding) × (found : ℕ) × FindsFiles kind names old new list found × WritesPage contents kind page list out end found status)
-        ⊎ ((fault : Fault) × (end ≡ out) × (status ≡ fault_status fault))
+        ⊎ ((end ≡ out) × (status ≡ 2))

@@ -1,7 +1,7 @@
 -- What `faults` and `warn` tell of files.
 use Rattle.std.specs.Prelude.{◌≡◌, ◌⊎◌, ◌==◌, ◌&&◌, ℕ, max, not, nat_le, cond, List, [], ◌∷◌, length, Option}
 use Rattle.yaml_text.specs.declared.fault.Fault.{Fault}
-use Rattle.yaml_text.specs.declared.fault.Fault.TheVariants.{TooLong, WriteFault}
+use Rattle.yaml_text.specs.declared.fault.Fault.TheVariants.{TooLong, OutOfMemory, WriteFault}
 use Rattle.yaml_text.specs.declared.counted.Counted.{Counted}
 use Rattle.yaml_text.specs.Writers.{Printed, Broken}
 use Rattle.review_args.specs.declared.words.Form.{Form}
@@ -50,9 +50,9 @@ module _ {R : Type 0} (holds : List ℕ → Option (List ℕ)) (remaining : R �
       ((bytes : List ℕ) × ReadsNamed holds remaining name old new bytes × TellsBytes kind form name bytes text status)
       ⊎ (ReadsNot holds remaining name old new (unread.Fault TooLong) × TellsFault form name [] TooLong text × (status ≡ 2))
 
-  -- why there is nothing: it is not read, or no text is made, as where memory is refused
+  -- why there is nothing: it is not read, or memory is refused
   abbrev pub HasNoText : List ℕ → R → R → Unread → Type 0
-  HasNoText name old new why = ReadsNot holds remaining name old new why ⊎ ((fault : Fault) × (why ≡ unread.Fault fault))
+  HasNoText name old new why = ReadsNot holds remaining name old new why ⊎ (why ≡ unread.Fault OutOfMemory)
 
   module _ {W : Type 0} (contents : W → Option (List ℕ)) where
     -- ---- writing it

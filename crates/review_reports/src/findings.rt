@@ -2,6 +2,7 @@
 ghost use Rattle.std.specs.Prelude.{◌≡◌, ◌++◌, codes, option_map, IfOk, IfErr, OnOk, string_bytes};
 ghost use Rattle.review_text.specs.Hidden.{visible};
 ghost use Rattle.review_text.specs.Shown.{front};
+ghost use Rattle.review_faults.specs.Again.{CannotTell};
 ghost use Rattle.review_reports.specs.Differences.{sign_of, file_of, place_of, sides_text, message_text, AreSides, IsDifference, AreDifferences};
 ghost use Rattle.review_reports.specs.Pages.{IsFault, IsFoundWarning};
 
@@ -155,8 +156,13 @@ pub fn differences_found(
 }
 
 /// A fault of a file of this name and these bytes.
+///
+/// # Errors
+/// 21: memory is refused. For a fault of an event the bytes are read again; of bytes that the reader rejects, the reader's.
+#[tactic(auto, using(review_files::proofs::MemoryLaws::told_memory))]
 pub fn fault_found(alloc: Global, name: &str, bytes: &[u8], fault: Fault) -> Result<Finding, Fault>
-    ensures { IfOk result (IsFault name.now bytes.now fault) }
+    ensures ok { IfOk result (IsFault name.now bytes.now fault) }
+    ensures err { IfErr result (CannotTell bytes.now fault) }
 {
     let spotted = spot_fault(alloc, bytes, fault)?;
     Ok(Finding {
@@ -173,7 +179,8 @@ pub fn fault_found(alloc: Global, name: &str, bytes: &[u8], fault: Fault) -> Res
 
 /// What is said of a scalar that YAML 1.1 reads otherwise.
 fn warning_words(alloc: Global, warning: &Warning) -> Result<String, Fault>
-    ensures { IfOk result (λ s. string_bytes s ≡ visible (front 60 (string_bytes warning.now.text)) ++ (codes ": " ++ string_bytes warning.now.words)) }
+    ensures ok { IfOk result (λ s. string_bytes s ≡ visible (front 60 (string_bytes warning.now.text)) ++ (codes ": " ++ string_bytes warning.now.words)) }
+    ensures err { IfErr result (λ fault. fault ≡ Fault.OutOfMemory) }
 {
     let mut out = visible(alloc, front(&warning.text, CUT))?;
     out.push_str(": ")?;
@@ -183,7 +190,8 @@ fn warning_words(alloc: Global, warning: &Warning) -> Result<String, Fault>
 
 /// A scalar that YAML 1.1 reads otherwise.
 pub(crate) fn warning_found(alloc: Global, name: &str, warning: &Warning) -> Result<Finding, Fault>
-    ensures { IfOk result (IsFoundWarning name.now warning.now) }
+    ensures ok { IfOk result (IsFoundWarning name.now warning.now) }
+    ensures err { IfErr result (λ fault. fault ≡ Fault.OutOfMemory) }
 {
     Ok(Finding {
         rule: "yaml-1.1",

@@ -1,6 +1,7 @@
 //! The commands `faults` and `warn`, of which all that is found is written as a whole.
 ghost use Rattle.std.specs.Prelude.{◌≡◌, ◌<◌, ◌-◌, ◌^◌, ◌++◌, map, [], IfOk, IfErr, OnOk, string_bytes};
 ghost use Rattle.yaml_text.specs.CountedModel.{faults_of};
+ghost use Rattle.review_faults.specs.Again.{CannotRead, CannotTell};
 ghost use Rattle.review_reports.specs.Reports.{HasNoText};
 ghost use Rattle.review_reports.specs.Texts.{IsPageText, command_word, AreFound, IsListText};
 ghost use Rattle.review_reports.specs.Pages.{AreFoundWarnings, FindsWarnings, FindsAccepted, FindsFault, FindsBytes, HasFound, FindsFile, FindsFiles, WritesPage, TellsPage};
@@ -44,13 +45,18 @@ pub fn page_text(alloc: Global, page: Page, found: &Findings) -> Result<String, 
 }
 
 /// A fault of a file of this name and these bytes, as a list.
+///
+/// # Errors
+/// Those of `fault_found`.
+#[tactic(auto, using(review_files::proofs::MemoryLaws::told_memory))]
 pub fn fault_list(
     alloc: Global,
     name: &str,
     bytes: &[u8],
     fault: Fault,
 ) -> Result<Vec<Finding>, Fault>
-    ensures { IfOk result (λ list. FindsFault name.now bytes.now fault list.items) }
+    ensures ok { IfOk result (λ list. FindsFault name.now bytes.now fault list.items) }
+    ensures err { IfErr result (CannotTell bytes.now fault) }
 {
     let mut list = Vec::new(alloc);
     list.push(fault_found(alloc, name, bytes, fault)?)?;
@@ -59,7 +65,8 @@ pub fn fault_list(
 
 /// Warnings of a file, as they are found.
 fn warnings_found(alloc: Global, name: &str, warnings: &[Warning]) -> Result<Vec<Finding>, Fault>
-    ensures { IfOk result (λ list. AreFoundWarnings name.now warnings.now list.items) }
+    ensures ok { IfOk result (λ list. AreFoundWarnings name.now warnings.now list.items) }
+    ensures err { IfErr result (λ fault. fault ≡ Fault.OutOfMemory) }
 {
     let mut list = Vec::new(alloc);
     'warnings: for warning in warnings {
@@ -69,13 +76,15 @@ fn warnings_found(alloc: Global, name: &str, warnings: &[Warning]) -> Result<Vec
 }
 
 /// The warnings of a file that are asked for, and the status.
+#[tactic(auto, using(review_files::proofs::MemoryLaws::read_memory))]
 fn warned_list(
     alloc: Global,
     warn: &Warn<'_>,
     name: &str,
     bytes: &[u8],
 ) -> Result<(Vec<Finding>, u8), Fault>
-    ensures { IfOk result (λ told. FindsWarnings warn.now name.now bytes.now told.0.items told.1) }
+    ensures ok { IfOk result (λ told. FindsWarnings warn.now name.now bytes.now told.0.items told.1) }
+    ensures err { IfErr result (CannotRead bytes.now) }
 {
     let warnings = list_warnings(alloc, bytes, &warn.allowed, room_of(warn.lines))?;
     let status = warned_status(warn.is_strict, warnings.list.len() == 0);
@@ -86,13 +95,15 @@ fn warned_list(
 }
 
 /// What is found in a file that is accepted, and the status.
+#[tactic(auto, using(review_files::proofs::MemoryLaws::read_memory))]
 fn accepted_list(
     alloc: Global,
     kind: Kind<'_>,
     name: &str,
     bytes: &[u8],
 ) -> Result<(Vec<Finding>, u8), Fault>
-    ensures { IfOk result (λ told. FindsAccepted kind.entry name.now bytes.now told.0.items told.1) }
+    ensures ok { IfOk result (λ told. FindsAccepted kind.entry name.now bytes.now told.0.items told.1) }
+    ensures err { IfErr result (CannotRead bytes.now) }
 {
     match kind {
         Kind::Faults => Ok((Vec::new(alloc), DONE)),
@@ -101,13 +112,15 @@ fn accepted_list(
 }
 
 /// What is found in a file that was read, and the status.
+#[tactic(auto, using(review_files::proofs::MemoryLaws::rejected_memory, review_files::proofs::MemoryLaws::accepted_memory))]
 fn bytes_list(
     alloc: Global,
     kind: Kind<'_>,
     name: &str,
     bytes: &[u8],
 ) -> Result<(Vec<Finding>, u8), Fault>
-    ensures { IfOk result (λ told. FindsBytes kind.entry name.now bytes.now told.0.items told.1) }
+    ensures ok { IfOk result (λ told. FindsBytes kind.entry name.now bytes.now told.0.items told.1) }
+    ensures err { IfErr result (λ fault. fault ≡ Fault.OutOfMemory) }
 {
     match fault_of(alloc, bytes) {
         Some(fault) => Ok((fault_list(alloc, name, bytes, fault)?, REJECTED)),
@@ -116,6 +129,7 @@ fn bytes_list(
 }
 
 /// What is found in a file, and its status; or why nothing is.
+#[tactic(auto, using(review_files::proofs::MemoryLaws::unnamed_memory))]
 fn list_of<S: Shelf, R: Read>(
     shelf: &S,
     alloc: Global,
@@ -161,7 +175,8 @@ fn file_list<S: Shelf, R: Read, E: Write>(
 
 /// Adds what is found in a file to a list.
 fn add(list: &mut Vec<Finding>, mut more: Vec<Finding>) -> Result<(), Fault>
-    ensures { OnOk result (list.new.items ≡ list.old.items ++ more.items) }
+    ensures ok { OnOk result (list.new.items ≡ list.old.items ++ more.items) }
+    ensures err { IfErr result (λ fault. fault ≡ Fault.OutOfMemory) }
 {
     list.append(&mut more)?;
     Ok(())
@@ -176,7 +191,8 @@ fn files_list<S: Shelf, R: Read, E: Write>(
     input: &mut R,
     err: &mut E,
 ) -> Result<(Vec<Finding>, u8), Fault>
-    ensures { IfOk result (λ told. FindsFiles (S.holds shelf.now) R.remaining kind.entry (map (λ s. s.now) files.now) input.old input.new told.0.items told.1) }
+    ensures ok { IfOk result (λ told. FindsFiles (S.holds shelf.now) R.remaining kind.entry (map (λ s. s.now) files.now) input.old input.new told.0.items told.1) }
+    ensures err { IfErr result (λ fault. fault ≡ Fault.OutOfMemory) }
 {
     let mut list = Vec::new(alloc);
     let mut status = DONE;

@@ -1,6 +1,7 @@
 //! The commands `faults` and `warn`.
 ghost use Rattle.std.specs.Prelude.{◌≡◌, ◌<◌, ◌-◌, ◌^◌, ◌&&◌, not, cond, map, IfOk, IfErr, OnOk, string_bytes};
 ghost use Rattle.yaml_text.specs.CountedModel.{faults_of};
+ghost use Rattle.review_faults.specs.Again.{CannotRead, CannotTell};
 ghost use Rattle.review_faults.specs.FaultLines.{TellsFault};
 ghost use Rattle.review_reports.specs.Reports.{room_for, AddsWarnings, Adds, TellsBytes, HasText, HasNoText, TellsFile, CutsFile, TellsFiles};
 
@@ -48,6 +49,7 @@ pub(crate) fn warned_status(is_strict: bool, is_none: bool) -> u8
 }
 
 /// What is told of a fault of a file of these bytes.
+#[tactic(auto, using(review_files::proofs::MemoryLaws::told_memory))]
 fn fault_text(
     alloc: Global,
     name: &str,
@@ -55,7 +57,8 @@ fn fault_text(
     fault: Fault,
     form: Form,
 ) -> Result<String, Fault>
-    ensures { IfOk result (λ text. TellsFault form name.now bytes.now fault (string_bytes text)) }
+    ensures ok { IfOk result (λ text. TellsFault form name.now bytes.now fault (string_bytes text)) }
+    ensures err { IfErr result (CannotTell bytes.now fault) }
 {
     let mut text = String::new(alloc);
     put_fault(alloc, &mut text, name, bytes, fault, form)?;
@@ -63,6 +66,7 @@ fn fault_text(
 }
 
 /// The warnings of a file that are asked for, and the status.
+#[tactic(auto, using(review_files::proofs::MemoryLaws::read_memory))]
 fn warned_text(
     alloc: Global,
     warn: &Warn<'_>,
@@ -70,7 +74,8 @@ fn warned_text(
     bytes: &[u8],
     form: Form,
 ) -> Result<(String, u8), Fault>
-    ensures { IfOk result (λ told. AddsWarnings warn.now form name.now bytes.now (string_bytes told.0) told.1) }
+    ensures ok { IfOk result (λ told. AddsWarnings warn.now form name.now bytes.now (string_bytes told.0) told.1) }
+    ensures err { IfErr result (CannotRead bytes.now) }
 {
     let warnings = list_warnings(alloc, bytes, &warn.allowed, room_of(warn.lines))?;
     let status = warned_status(warn.is_strict, warnings.list.len() == 0);
@@ -83,6 +88,7 @@ fn warned_text(
 }
 
 /// What is told of a file that is accepted, and the status.
+#[tactic(auto, using(review_files::proofs::MemoryLaws::read_memory))]
 fn accepted_text(
     alloc: Global,
     kind: Kind<'_>,
@@ -90,7 +96,8 @@ fn accepted_text(
     bytes: &[u8],
     form: Form,
 ) -> Result<(String, u8), Fault>
-    ensures { IfOk result (λ told. Adds kind.entry form name.now bytes.now (string_bytes told.0) told.1) }
+    ensures ok { IfOk result (λ told. Adds kind.entry form name.now bytes.now (string_bytes told.0) told.1) }
+    ensures err { IfErr result (CannotRead bytes.now) }
 {
     match kind {
         Kind::Faults => Ok((String::new(alloc), DONE)),
@@ -99,6 +106,7 @@ fn accepted_text(
 }
 
 /// What is told of a file that was read, and the status.
+#[tactic(auto, using(review_files::proofs::MemoryLaws::rejected_memory, review_files::proofs::MemoryLaws::accepted_memory))]
 fn file_text(
     alloc: Global,
     kind: Kind<'_>,
@@ -106,7 +114,8 @@ fn file_text(
     bytes: &[u8],
     form: Form,
 ) -> Result<(String, u8), Fault>
-    ensures { IfOk result (λ told. TellsBytes kind.entry form name.now bytes.now (string_bytes told.0) told.1) }
+    ensures ok { IfOk result (λ told. TellsBytes kind.entry form name.now bytes.now (string_bytes told.0) told.1) }
+    ensures err { IfErr result (λ fault. fault ≡ Fault.OutOfMemory) }
 {
     match fault_of(alloc, bytes) {
         Some(fault) => Ok((fault_text(alloc, name, bytes, fault, form)?, REJECTED)),
@@ -115,6 +124,7 @@ fn file_text(
 }
 
 /// What is printed of a file, and its status; or why nothing is.
+#[tactic(auto, using(review_files::proofs::MemoryLaws::unnamed_memory))]
 fn told_of<S: Shelf, R: Read>(
     shelf: &S,
     alloc: Global,

@@ -1,1 +1,2 @@
+pub mod MemoryLaws
 mod ShowLaws

@@ -1,6 +1,7 @@
 -- What `show` does with files.
 use Rattle.std.specs.Prelude.{◌≡◌, ◌⊎◌, ℕ, Bool, true, false, not, ◌&&◌, max, cond, bytes_eq, List, [], ◌∷◌, ◌++◌, Option, codes}
 use Rattle.yaml_text.specs.declared.fault.Fault.{Fault}
+use Rattle.yaml_text.specs.declared.fault.Fault.TheVariants.{OutOfMemory}
 use Rattle.yaml_text.specs.declared.counted.Counted.{Counted}
 use Rattle.yaml_text.specs.Writers.{Printed}
 use Rattle.yaml_command.specs.Printing.{PrintFails}
@@ -45,9 +46,9 @@ shown_status is_check bytes text = cond (is_check && not (bytes_eq bytes text)) 
 -- ---- standard error
 
 module _ {E : Type 0} (told : E → Option (List ℕ)) where
-  -- that a fault of no file keeps the line from being made
+  -- that there is no memory for the line, with the status 2
   abbrev pub TellsBare : E → E → ℕ → Type 0
-  TellsBare before after status = (fault : Fault) × TakesLine told before after (bare_line fault) × (status ≡ fault_status fault)
+  TellsBare before after status = TakesLine told before after (bare_line OutOfMemory) × (status ≡ 2)
 
   -- Why a file is not shown, with the status 2; or why that is not told.
   abbrev pub TellsUnshown : List ℕ → List ℕ → Unshown → E → E → ℕ → Type 0

@@ -6,8 +6,10 @@ use Rattle.yaml_shown.specs.declared.unshown.Unshown.{Unshown}
 use Rattle.yaml_shown.specs.declared.unshown.Unshown.TheVariants.{Rejected, NoJson, Unlike}
 use Rattle.review_args.specs.declared.words.Form.TheVariants.{Line}
 use Rattle.review_text.specs.Terminal.{terminal}
-use Rattle.review_faults.specs.FaultLines.{TellsFault}
-use Rattle.review_files.specs.Told.{TellsName}
+use Rattle.review_faults.specs.Again.{CannotRead, CannotTell}
+use Rattle.review_faults.specs.FaultLines.{TellsFault, text_in}
+use Rattle.review_faults.specs.NoJson.{BeginsSomewhere}
+use Rattle.review_files.specs.Lines.{fault_line}
 
 -- The text that `show` would write has another length than the canonical one, so fault 20 has words of its own.
 abbrev pub too_long : List ℕ → List ℕ
@@ -19,11 +21,17 @@ unlike name = terminal name ++ codes ": the JSON would mean something else; this
 -- of a rejected file what `faults` prints, but for its length and for want of memory
 abbrev pub TellsRejected : List ℕ → List ℕ → Fault → List ℕ → Type 0
 TellsRejected name bytes TextTooLong text = text ≡ too_long name
-TellsRejected name bytes OutOfMemory text = TellsName name text
+TellsRejected name bytes OutOfMemory text = text ≡ fault_line name OutOfMemory
 TellsRejected name bytes fault text = TellsFault Line name bytes fault text
 
--- The text is written behind another one. Which text it is where JSON cannot express the file is not said.
+-- The text is written behind another one. Of a file that JSON cannot express it begins with the file's name, and with some place of it.
 abbrev pub PutsUnshown : List ℕ → List ℕ → Unshown → List ℕ → List ℕ → Type 0
 PutsUnshown name bytes (Rejected fault) old new = (text : List ℕ) × (new ≡ old ++ text) × TellsRejected name bytes fault text
-PutsUnshown name bytes NoJson old new = Unit {0}
+PutsUnshown name bytes NoJson old new = (text : List ℕ) × (new ≡ old ++ text) × BeginsSomewhere name (text_in bytes) text
 PutsUnshown name bytes Unlike old new = new ≡ old ++ unlike name
+
+-- what an error says: memory is refused, or the bytes, which are read again, have no reading
+abbrev pub CannotTellNone : List ℕ → Unshown → Fault → Type 0
+CannotTellNone bytes (Rejected fault) error = CannotTell bytes fault error
+CannotTellNone bytes NoJson error = CannotRead bytes error
+CannotTellNone bytes Unlike error = error ≡ OutOfMemory

@@ -5,7 +5,9 @@ ghost use Rattle.yaml_text.specs.Writers.{Printed};
 ghost use Rattle.yaml_command.specs.Printing.{PrintFails};
 ghost use Rattle.review_text.specs.Terminal.{terminal};
 ghost use Rattle.review_show.specs.Files.{IsText, HasNone, shown_output, shown_status, TellsUnshown, TellsNotRead, PrintsSource, CutsText, ShowsBytes, CutsBytes, ShowsFile, CutsFile, ShowsFiles};
-ghost use Rattle.review_show.specs.Unshown.{too_long, unlike, TellsRejected, PutsUnshown};
+ghost use Rattle.review_faults.specs.Again.{CannotTell};
+ghost use Rattle.review_args.specs.declared.words.Format.{Format};
+ghost use Rattle.review_show.specs.Unshown.{too_long, unlike, TellsRejected, PutsUnshown, CannotTellNone};
 
 use review_args::{Form, Format, Show};
 use review_faults::{put_fault, put_no_json};
@@ -46,7 +48,8 @@ fn text_of(alloc: Global, bytes: &[u8], format: Format) -> Result<String, Unshow
 
 /// Writes that the text of a file would be too long.
 fn put_too_long(out: &mut String, name: &str) -> Result<(), Fault>
-    ensures { OnOk result (string_bytes out.new ≡ string_bytes out.old ++ too_long name.now) }
+    ensures ok { OnOk result (string_bytes out.new ≡ string_bytes out.old ++ too_long name.now) }
+    ensures err { IfErr result (λ fault. fault ≡ Fault.OutOfMemory) }
 {
     put_shown(out, name)?;
     out.push_str(
@@ -56,6 +59,7 @@ fn put_too_long(out: &mut String, name: &str) -> Result<(), Fault>
 }
 
 /// Writes why a file is rejected.
+#[tactic(auto, using(review_files::proofs::MemoryLaws::told_memory))]
 fn put_rejected(
     alloc: Global,
     out: &mut String,
@@ -63,18 +67,20 @@ fn put_rejected(
     bytes: &[u8],
     fault: Fault,
 ) -> Result<(), Fault>
-    ensures { OnOk result ((text : List ℕ) × (string_bytes out.new ≡ string_bytes out.old ++ text) × TellsRejected name.now bytes.now fault text) }
+    ensures ok { OnOk result ((text : List ℕ) × (string_bytes out.new ≡ string_bytes out.old ++ text) × TellsRejected name.now bytes.now fault text) }
+    ensures err { IfErr result (CannotTell bytes.now fault) }
 {
     match fault {
         Fault::TextTooLong => put_too_long(out, name),
-        Fault::OutOfMemory => put_fault_line(alloc, out, name, Fault::OutOfMemory),
+        Fault::OutOfMemory => put_fault_line(out, name, Fault::OutOfMemory),
         fault => put_fault(alloc, out, name, bytes, fault, Form::Line),
     }
 }
 
 /// Writes that the JSON of a file would mean something else.
 fn put_unlike(out: &mut String, name: &str) -> Result<(), Fault>
-    ensures { OnOk result (string_bytes out.new ≡ string_bytes out.old ++ unlike name.now) }
+    ensures ok { OnOk result (string_bytes out.new ≡ string_bytes out.old ++ unlike name.now) }
+    ensures err { IfErr result (λ fault. fault ≡ Fault.OutOfMemory) }
 {
     put_shown(out, name)?;
     out.push_str(": the JSON would mean something else; this is a bug of yamlreview\n")?;
@@ -82,6 +88,9 @@ fn put_unlike(out: &mut String, name: &str) -> Result<(), Fault>
 }
 
 /// Writes why a file is not shown.
+///
+/// # Errors
+/// `OutOfMemory`. The bytes may be read again; of bytes that the reader rejects, the reader's.
 pub fn put_unshown(
     alloc: Global,
     out: &mut String,
@@ -89,7 +98,8 @@ pub fn put_unshown(
     bytes: &[u8],
     why: Unshown,
 ) -> Result<(), Fault>
-    ensures { OnOk result (PutsUnshown name.now bytes.now why (string_bytes out.old) (string_bytes out.new)) }
+    ensures ok { OnOk result (PutsUnshown name.now bytes.now why (string_bytes out.old) (string_bytes out.new)) }
+    ensures err { IfErr result (CannotTellNone bytes.now why) }
 {
     match why {
         Unshown::Rejected(fault) => put_rejected(alloc, out, name, bytes, fault),
@@ -100,6 +110,7 @@ pub fn put_unshown(
 
 /// Reports why a file is not shown, and answers the status.
 fn tell_unshown<E: Write>(alloc: Global, name: &str, bytes: &[u8], why: Unshown, err: &mut E) -> u8
+    requires { (format : Format) × HasNone format bytes.now why }
     ensures { TellsUnshown E.contents name.now bytes.now why err.old err.new result }
 {
     let mut line = String::new(alloc);
@@ -128,7 +139,8 @@ fn tell_no_bytes<E: Write>(alloc: Global, name: &str, unread: Unread, err: &mut 
 
 /// Writes the name of a file on a line of its own.
 fn put_name(out: &mut String, name: &str) -> Result<(), Fault>
-    ensures { OnOk result (string_bytes out.new ≡ string_bytes out.old ++ (terminal name.now ++ codes "\n")) }
+    ensures ok { OnOk result (string_bytes out.new ≡ string_bytes out.old ++ (terminal name.now ++ codes "\n")) }
+    ensures err { IfErr result (λ fault. fault ≡ Fault.OutOfMemory) }
 {
     put_shown(out, name)?;
     out.push_str("\n")?;

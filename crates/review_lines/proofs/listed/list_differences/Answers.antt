@@ -17,7 +17,7 @@ returns-clause-lists c =
       keeps = subst (λ n. Keeps c.args.both.now.graph c.args.ignored.now n c.in_ok-found.found c.in_ok-kept.kept) c.room_for.ensures.asked c.in_ok-kept.ensures.ok;
       lists = h;
     })
-    c.lines_listed.ensures
+    c.lines_listed.ensures.ok
 
 pub returns-clause-same : goal.returns-clause-same
 returns-clause-same c =
@@ -29,4 +29,4 @@ returns-clause-same c =
     alike_by_list g (take m (roots_of g)) (drop m (roots_of g)) s.room c.in_ok-found.found x.same c.requires.ranked.keyed
     (left_within g m (take m (roots_of g)) c.args.both.now.middle refl) (right_within g m (drop m (roots_of g)) refl) (some_room g c.args.ignored.now c.args.asked.now.lines s.room s.enough) s.finds
     (h.is_none ∙ keeps_none g c.args.ignored.now c.room_for.result c.in_ok-found.found c.in_ok-kept.kept e c.room_for.ensures.some c.in_ok-kept.ensures.ok))
-    c.lines_listed.ensures
+    c.lines_listed.ensures.ok
