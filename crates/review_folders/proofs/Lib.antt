@@ -1,3 +1,4 @@
 mod LineLaws
+mod NameLaws
 mod PartLaws
 mod StatusLaws

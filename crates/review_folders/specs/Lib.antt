@@ -1,4 +1,5 @@
 pub mod Folders
+pub mod Names
 pub mod Pages
 pub mod Parts
 pub mod Printed

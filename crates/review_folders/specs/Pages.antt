@@ -20,7 +20,6 @@ use Rattle.review_formats.specs.declared.finding.Sides.{Sides}
 use Rattle.review_formats.specs.declared.finding.Sign.{Sign}
 use Rattle.review_formats.specs.declared.finding.Sign.TheVariants as signs
 use Rattle.review_files.specs.Lines.{TakesLine}
-use Rattle.review_files.specs.Statuses.{fault_status}
 use Rattle.review_files.specs.Told.{IsAccepted}
 use Rattle.review_files.specs.declared.rejected.Named.{Named}
 use Rattle.review_files.specs.declared.unread.Unread.{Unread}
@@ -151,17 +150,17 @@ module _ {E : Type 0} (holds : List ℕ → Option (List ℕ)) (told : E → Opt
 -- ---- what is written
 
 module _ {W : Type 0} (contents : W → Option (List ℕ)) where
-  -- The text of the parts, if any line is asked for. Or the output fails behind a beginning of it, or nothing is written because of a fault.
+  -- The text of the parts, if any line is asked for. Or the output fails behind a beginning of it, or nothing is written because memory is refused.
   abbrev pub WritesParts : Diff → Page → List Part → Counted W → Counted W → ℕ → ℕ → Type 0
   WritesParts asked page parts old new found status =
       ((asked.lines ≡ 0) × (new ≡ old) × (status ≡ found))
       ⊎ (((text : List ℕ) × (0 < asked.lines) × IsPartsText asked.left.now asked.right.now page parts text × Printed contents old new text × (status ≡ found))
       ⊎ (((text : List ℕ) × IsPartsText asked.left.now asked.right.now page parts text × Broken contents old new text × (status ≡ max found 3))
-      ⊎ ((fault : Fault) × (new ≡ old) × (status ≡ max found (fault_status fault)))))
+      ⊎ ((new ≡ old) × (status ≡ max found 2))))
 
 module _ {W E : Type 0} (holds : List ℕ → Option (List ℕ)) (contents : W → Option (List ℕ)) (told : E → Option (List ℕ)) where
-  -- The page has the parts of all files. Or nothing is written because of a fault.
+  -- The page has the parts of all files. Or nothing is written because memory is refused.
   abbrev pub FolderShows : Diff → List Pattern → Page → List Entry → Counted W → Counted W → E → ℕ → Type 0
   FolderShows asked ignored page entries old new before status =
       ((parts : List Part) × (between : E) × (found : ℕ) × FindsParts holds told asked ignored page entries parts before between found × WritesParts contents asked page parts old new found status)
-      ⊎ ((fault : Fault) × (new ≡ old) × (status ≡ fault_status fault))
+      ⊎ ((new ≡ old) × (status ≡ 2))

@@ -1,6 +1,7 @@
 -- What `diff` of two folders prints of each file.
 use Rattle.std.specs.Prelude.{◌≡◌, ◌⊎◌, ◌==◌, ◌&&◌, ℕ, not, nat_lt, max, cond, Bool, List, [], ◌∷◌, ◌++◌, Option, Some, codes}
 use Rattle.yaml_text.specs.declared.fault.Fault.{Fault}
+use Rattle.yaml_text.specs.declared.fault.Fault.TheVariants.{OutOfMemory}
 use Rattle.yaml_text.specs.declared.counted.Counted.{Counted}
 use Rattle.yaml_text.specs.Writers.{Printed}
 use Rattle.yaml_canon.specs.Comparing.{Compares}
@@ -116,11 +117,11 @@ module _ {W E : Type 0} (holds : List ℕ → Option (List ℕ)) (contents : W �
   PrintsEntry asked ignored entry old new before after status =
       (out : List ℕ) × (err : List ℕ) × EntryTold holds asked ignored entry out err status × TakesLine told before after err × Printed contents old new out
 
-  -- the output fails, or nothing is printed and told of it because of a fault
+  -- the output fails, or nothing is printed and told of it because memory is refused
   abbrev pub CutsEntry : Diff → List Pattern → Entry → Counted W → Counted W → E → E → Fault → Type 0
   CutsEntry asked ignored entry old new before after fault =
       ((out : List ℕ) × (err : List ℕ) × (status : ℕ) × EntryTold holds asked ignored entry out err status × TakesLine told before after err × PrintFails contents old new out fault)
-      ⊎ ((new ≡ old) × (after ≡ before))
+      ⊎ ((fault ≡ OutOfMemory) × (new ≡ old) × (after ≡ before))
 
   -- The files are told of in the order of the names, and the status is the greatest of all. No file follows one at which the output fails, which is told.
   abbrev pub FolderPrints : Diff → List Pattern → List Entry → Counted W → Counted W → E → E → ℕ → Type 0

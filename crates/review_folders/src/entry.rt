@@ -1,5 +1,5 @@
 //! A name of a file in two folders.
-ghost use Rattle.std.specs.Prelude.{◌≡◌, ◌++◌, ◌⊎◌, codes, IfOk, string_bytes, cond};
+ghost use Rattle.std.specs.Prelude.{◌≡◌, ◌++◌, ◌⊎◌, codes, IfOk, string_bytes, cond, IfErr};
 ghost use Rattle.review_folders.specs.Folders.{IsPath};
 
 use std::alloc::Global;
@@ -13,6 +13,25 @@ pub enum Has {
     Right,
 }
 
+impl Has {
+    ghost use Rattle.std.specs.Prelude.{◌≡◌};
+    ghost use Rattle.review_folders.specs.Names.{is_left, is_right};
+
+    /// Whether the left folder has it.
+    pub(crate) fn is_left(self) -> bool
+        ensures { result ≡ is_left self }
+    {
+        matches!(self, Has::Left | Has::Both)
+    }
+
+    /// Whether the right folder has it.
+    pub(crate) fn is_right(self) -> bool
+        ensures { result ≡ is_right self }
+    {
+        matches!(self, Has::Both | Has::Right)
+    }
+}
+
 /// The name of a file, as its path from the folder, and which folders have it.
 #[derive(Clone, Copy)]
 pub struct Entry<'n> {
@@ -22,7 +41,8 @@ pub struct Entry<'n> {
 
 /// The path of what has this name in a folder.
 pub(crate) fn path_in(alloc: Global, folder: &str, name: &str) -> Result<String, Fault>
-    ensures { IfOk result (λ path. IsPath folder.now name.now (string_bytes path)) }
+    ensures ok { IfOk result (λ path. IsPath folder.now name.now (string_bytes path)) }
+    ensures err { IfErr result (λ fault. fault ≡ Fault.OutOfMemory) }
 {
     let mut path = folder.to_string(alloc)?;
     if !folder.ends_with('/') {

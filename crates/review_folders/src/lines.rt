@@ -47,7 +47,8 @@ fn has_lines(asked: &Diff<'_>) -> bool
 
 /// Writes a JSON object of a file.
 fn put_file(alloc: Global, out: &mut String, kind: &str, name: &str) -> Result<(), Fault>
-    ensures { OnOk result (string_bytes out.new ≡ string_bytes out.old ++ file_object kind.now name.now) }
+    ensures ok { OnOk result (string_bytes out.new ≡ string_bytes out.old ++ file_object kind.now name.now) }
+    ensures err { IfErr result (λ fault. fault ≡ Fault.OutOfMemory) }
 {
     let members = [
         ("kind", Said::Text(Some(kind))),
@@ -58,7 +59,8 @@ fn put_file(alloc: Global, out: &mut String, kind: &str, name: &str) -> Result<(
 
 /// Writes the line of a name.
 fn put_name_line(out: &mut String, name: &str) -> Result<(), Fault>
-    ensures { OnOk result (string_bytes out.new ≡ string_bytes out.old ++ name_line name.now) }
+    ensures ok { OnOk result (string_bytes out.new ≡ string_bytes out.old ++ name_line name.now) }
+    ensures err { IfErr result (λ fault. fault ≡ Fault.OutOfMemory) }
 {
     out.push_str("diff ")?;
     put_shown(out, name)?;
@@ -68,7 +70,8 @@ fn put_name_line(out: &mut String, name: &str) -> Result<(), Fault>
 
 /// Writes the name of a file, before what is printed of it.
 fn put_name(alloc: Global, out: &mut String, form: Form, name: &str) -> Result<(), Fault>
-    ensures { OnOk result (string_bytes out.new ≡ string_bytes out.old ++ name_text form name.now) }
+    ensures ok { OnOk result (string_bytes out.new ≡ string_bytes out.old ++ name_text form name.now) }
+    ensures err { IfErr result (λ fault. fault ≡ Fault.OutOfMemory) }
 {
     match form {
         Form::Line => put_name_line(out, name),
@@ -78,7 +81,8 @@ fn put_name(alloc: Global, out: &mut String, form: Form, name: &str) -> Result<(
 
 /// Writes that one folder alone has a file: the words below its name, or before it where no lines are printed.
 fn put_alone_line(out: &mut String, is_listed: bool, words: &str, name: &str) -> Result<(), Fault>
-    ensures { OnOk result (string_bytes out.new ≡ string_bytes out.old ++ alone_line is_listed words.now name.now) }
+    ensures ok { OnOk result (string_bytes out.new ≡ string_bytes out.old ++ alone_line is_listed words.now name.now) }
+    ensures err { IfErr result (λ fault. fault ≡ Fault.OutOfMemory) }
 {
     if is_listed {
         put_name_line(out, name)?;
@@ -98,7 +102,8 @@ fn put_alone(
     words: &str,
     name: &str,
 ) -> Result<(), Fault>
-    ensures { OnOk result (string_bytes out.new ≡ string_bytes out.old ++ alone_text asked.now words.now name.now) }
+    ensures ok { OnOk result (string_bytes out.new ≡ string_bytes out.old ++ alone_text asked.now words.now name.now) }
+    ensures err { IfErr result (λ fault. fault ≡ Fault.OutOfMemory) }
 {
     if asked.lines == 0 {
         return Ok(());
@@ -111,7 +116,8 @@ fn put_alone(
 
 /// What is printed of a file that the left folder alone has.
 fn deleted_told(alloc: Global, asked: &Diff<'_>, name: &str) -> Result<Told, Fault>
-    ensures { IfOk result (λ told. (string_bytes told.out ≡ alone_text asked.now (codes "deleted file") name.now) × (string_bytes told.err ≡ []) × (told.status ≡ 1)) }
+    ensures ok { IfOk result (λ told. (string_bytes told.out ≡ alone_text asked.now (codes "deleted file") name.now) × (string_bytes told.err ≡ []) × (told.status ≡ 1)) }
+    ensures err { IfErr result (λ fault. fault ≡ Fault.OutOfMemory) }
 {
     let mut out = String::new(alloc);
     put_alone(alloc, &mut out, asked, "deleted file", name)?;
@@ -126,6 +132,7 @@ fn deleted_told(alloc: Global, asked: &Diff<'_>, name: &str) -> Result<Told, Fau
 fn new_told<S: Shelf>(shelf: &S, alloc: Global, asked: &Diff<'_>, name: &str) -> Result<Told, Fault>
     ensures out { IfOk result (λ told. string_bytes told.out ≡ alone_text asked.now (codes "new file") name.now) }
     ensures told { IfOk result (λ told. NewTold (S.holds shelf.now) asked.now name.now (string_bytes told.err) told.status) }
+    ensures err { IfErr result (λ fault. fault ≡ Fault.OutOfMemory) }
 {
     let mut out = String::new(alloc);
     let mut err = String::new(alloc);
@@ -167,7 +174,8 @@ fn of_files<'n>(asked: &Diff<'n>, name: &'n str) -> Diff<'n>
 
 /// Writes the name of a file that both folders have, where lines are printed.
 fn put_head(alloc: Global, out: &mut String, asked: &Diff<'_>, name: &str) -> Result<(), Fault>
-    ensures { OnOk result (string_bytes out.new ≡ string_bytes out.old ++ head_text asked.now name.now) }
+    ensures ok { OnOk result (string_bytes out.new ≡ string_bytes out.old ++ head_text asked.now name.now) }
+    ensures err { IfErr result (λ fault. fault ≡ Fault.OutOfMemory) }
 {
     if has_lines(asked) {
         put_name(alloc, out, asked.form, name)
@@ -183,7 +191,8 @@ fn lines_of(
     name: &str,
     compared: &Compared,
 ) -> Result<String, Fault>
-    ensures { IfOk result (λ text. string_bytes text ≡ lines_text asked.now name.now compared.now.same (string_bytes compared.now.text)) }
+    ensures ok { IfOk result (λ text. string_bytes text ≡ lines_text asked.now name.now compared.now.same (string_bytes compared.now.text)) }
+    ensures err { IfErr result (λ fault. fault ≡ Fault.OutOfMemory) }
 {
     let mut out = String::new(alloc);
     if compared.same {
@@ -202,7 +211,8 @@ fn both_told<S: Shelf>(
     ignored: &[Pattern<'_>],
     name: &str,
 ) -> Result<Told, Fault>
-    ensures { IfOk result (λ told. BothTold (S.holds shelf.now) asked.now ignored.now name.now (string_bytes told.out) (string_bytes told.err) told.status) }
+    ensures ok { IfOk result (λ told. BothTold (S.holds shelf.now) asked.now ignored.now name.now (string_bytes told.out) (string_bytes told.err) told.status) }
+    ensures err { IfErr result (λ fault. fault ≡ Fault.OutOfMemory) }
 {
     let left_path = path_in(alloc, asked.left, name)?;
     let right_path = path_in(alloc, asked.right, name)?;
@@ -250,7 +260,8 @@ fn told_of<S: Shelf>(
     ignored: &[Pattern<'_>],
     entry: Entry<'_>,
 ) -> Result<Told, Fault>
-    ensures { IfOk result (λ told. EntryTold (S.holds shelf.now) asked.now ignored.now entry.entry (string_bytes told.out) (string_bytes told.err) told.status) }
+    ensures ok { IfOk result (λ told. EntryTold (S.holds shelf.now) asked.now ignored.now entry.entry (string_bytes told.out) (string_bytes told.err) told.status) }
+    ensures err { IfErr result (λ fault. fault ≡ Fault.OutOfMemory) }
 {
     match entry.has {
         Has::Left => deleted_told(alloc, asked, entry.name),

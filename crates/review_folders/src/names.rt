@@ -1,4 +1,7 @@
 //! The names of the files in two folders.
+ghost use Rattle.std.specs.Prelude.{◌≡◌, ◌≤◌, [], cond, drop, IfSome, IfNone, IfErr};
+ghost use Rattle.review_folders.specs.Names.{IsNext, IsNearer};
+
 use crate::entry::{Entry, Has, path_in};
 use review_args::Diff;
 use review_files::telling::tell_unread;
@@ -108,31 +111,57 @@ fn names_in<T: Files + AllocGlobal + Clone + Drop>(
     Ok(names.files)
 }
 
+/// The lesser of a left and a right name, or both if they are equal.
+fn nearer<'n>(left: &'n str, right: &'n str) -> Entry<'n>
+    ensures { IsNearer left.now right.now result.has result.name.now }
+{
+    match left.cmp(right) {
+        Ordering::Less => entry(left, Has::Left),
+        Ordering::Equal => entry(left, Has::Both),
+        Ordering::Greater => entry(right, Has::Right),
+    }
+}
+
 /// The next name of two lists in order: of the left one, of both, or of the right one.
-fn next_of<'n>(left: &'n [String], right: &'n [String]) -> Option<Entry<'n>> {
-    match (left.first(), right.first()) {
-        (Some(one), Some(other)) => Some(match one.as_str().cmp(other.as_str()) {
-            Ordering::Less => entry(one.as_str(), Has::Left),
-            Ordering::Equal => entry(one.as_str(), Has::Both),
-            Ordering::Greater => entry(other.as_str(), Has::Right),
-        }),
-        (Some(one), None) => Some(entry(one.as_str(), Has::Left)),
-        (None, Some(other)) => Some(entry(other.as_str(), Has::Right)),
-        (None, None) => None,
+fn next_of<'n>(left: &'n [String], right: &'n [String]) -> Option<Entry<'n>>
+    ensures some { IfSome result (λ next. IsNext left.now right.now next.has next.name.now) }
+    ensures none { IfNone result ((left.now ≡ []) × (right.now ≡ [])) }
+{
+    match left.first() {
+        Some(one) => match right.first() {
+            Some(other) => Some(nearer(one.as_str(), other.as_str())),
+            None => Some(entry(one.as_str(), Has::Left)),
+        },
+        None => match right.first() {
+            Some(other) => Some(entry(other.as_str(), Has::Right)),
+            None => None,
+        },
     }
 }
 
 /// A name that these folders have.
-fn entry<'n>(name: &'n str, has: Has) -> Entry<'n> {
+fn entry<'n>(name: &'n str, has: Has) -> Entry<'n>
+    ensures name { result.name.now ≡ name.now }
+    ensures has { result.has ≡ has }
+{
     Entry { name, has }
 }
 
 /// A list without its first name.
-fn behind<'n>(names: &'n [String]) -> &'n [String] {
+fn behind<'n>(names: &'n [String]) -> &'n [String]
+    ensures { result.now ≡ drop 1 names.now }
+{
     match names.split_first() {
         Some((_, rest)) => rest,
         None => names,
     }
+}
+
+/// A list without its first name, if that was taken.
+fn left_behind<'n>(names: &'n [String], is_taken: bool) -> &'n [String]
+    ensures { result.now ≡ cond is_taken (drop 1 names.now) names.now }
+{
+    if is_taken { behind(names) } else { names }
 }
 
 /// The names of the files in two folders, each list in order.
@@ -143,8 +172,14 @@ pub struct BothNames {
 }
 
 impl BothNames {
+    ghost use Rattle.std.specs.Prelude.{◌≡◌, IfOk, IfErr};
+    ghost use Rattle.review_folders.specs.Names.{HaveNames};
+
     /// The names in order, each once. An error is want of memory.
-    pub fn entries(&self, alloc: Global) -> Result<Vec<Entry<'_>>, Fault> {
+    pub fn entries(&self, alloc: Global) -> Result<Vec<Entry<'_>>, Fault>
+        ensures names { IfOk result (λ entries. HaveNames self.now.left.items self.now.right.items entries.items) }
+        ensures err { IfErr result (λ fault. fault ≡ Fault.OutOfMemory) }
+    {
         let mut left = self.left.as_slice();
         let mut right = self.right.as_slice();
         let mut entries = Vec::new(alloc);
@@ -153,12 +188,8 @@ impl BothNames {
             let Some(next) = next_of(left, right) else {
                 break;
             };
-            if next.has != Has::Right {
-                left = behind(left);
-            }
-            if next.has != Has::Left {
-                right = behind(right);
-            }
+            left = left_behind(left, next.has.is_left());
+            right = left_behind(right, next.has.is_right());
             entries.push(next)?;
         }
         Ok(entries)
@@ -171,7 +202,9 @@ pub fn names_of<T: Files + AllocGlobal + Clone + Drop, E: Write>(
     alloc: Global,
     asked: &Diff<'_>,
     err: &mut E,
-) -> Result<BothNames, u8> {
+) -> Result<BothNames, u8>
+    ensures status { IfErr result (λ status. 2 ≤ status) }
+{
     let left = match names_in(rt, alloc, asked.left) {
         Ok(names) => names,
         Err(unread) => return Err(tell_unread(alloc, asked.left, unread, err)),

@@ -1,5 +1,5 @@
 //! What differs in the files of two folders, as one page.
-ghost use Rattle.std.specs.Prelude.{◌≡◌, ◌++◌, ◌<◌, ◌-◌, ◌^◌, List, IfOk, OnOk, string_bytes};
+ghost use Rattle.std.specs.Prelude.{◌≡◌, ◌++◌, ◌<◌, ◌-◌, ◌^◌, List, IfOk, OnOk, string_bytes, IfErr};
 ghost use Rattle.yaml_text.specs.CountedModel.{faults_of};
 ghost use Rattle.review_formats.specs.declared.finding.Part.{Part};
 ghost use Rattle.review_formats.specs.declared.finding.Sign.TheVariants as signs;
@@ -53,7 +53,9 @@ fn part_with(list: Vec<Finding>) -> Part
 }
 
 /// The lines of a file, with escapes for the characters that would not be seen: of a long file the first ones.
-fn content_of(alloc: Global, bytes: &[u8]) -> Result<String, Fault> {
+fn content_of(alloc: Global, bytes: &[u8]) -> Result<String, Fault>
+    ensures err { IfErr result (λ fault. fault ≡ Fault.OutOfMemory) }
+{
     let mut out = String::new(alloc);
     let text = str::from_utf8(bytes).unwrap_or("");
     for (number, line) in text
@@ -78,7 +80,8 @@ fn content_sides(
     sign: Sign,
     answer: &Result<Vec<u8>, Unread>,
 ) -> Result<Option<Sides>, Fault>
-    ensures { IfOk result (ShowsSign Page.Html sign) }
+    ensures ok { IfOk result (ShowsSign Page.Html sign) }
+    ensures err { IfErr result (λ fault. fault ≡ Fault.OutOfMemory) }
 {
     let Ok(bytes) = answer else {
         return Ok(None);
@@ -106,7 +109,8 @@ fn sides_of(
     sign: Sign,
     answer: &Result<Vec<u8>, Unread>,
 ) -> Result<Option<Sides>, Fault>
-    ensures { IfOk result (ShowsSign page sign) }
+    ensures ok { IfOk result (ShowsSign page sign) }
+    ensures err { IfErr result (λ fault. fault ≡ Fault.OutOfMemory) }
 {
     match page {
         Page::Html => content_sides(alloc, sign, answer),
@@ -132,7 +136,8 @@ fn alone(
     path: &str,
     answer: &Result<Vec<u8>, Unread>,
 ) -> Result<Finding, Fault>
-    ensures { IfOk result (IsAlone page sign path.now) }
+    ensures ok { IfOk result (IsAlone page sign path.now) }
+    ensures err { IfErr result (λ fault. fault ≡ Fault.OutOfMemory) }
 {
     Ok(Finding {
         rule: rule_of(sign),
@@ -147,8 +152,10 @@ fn alone(
 }
 
 /// The fault of bytes that are rejected, as a list.
+#[tactic(auto, using(review_files::proofs::MemoryLaws::rejected_memory))]
 fn bytes_faults(alloc: Global, name: &str, bytes: &[u8]) -> Result<Vec<Finding>, Fault>
-    ensures { IfOk result (λ list. BytesFaults name.now bytes.now list.items) }
+    ensures ok { IfOk result (λ list. BytesFaults name.now bytes.now list.items) }
+    ensures err { IfErr result (λ fault. fault ≡ Fault.OutOfMemory) }
 {
     match fault_of(alloc, bytes) {
         Some(fault) => fault_list(alloc, name, bytes, fault),
@@ -157,8 +164,10 @@ fn bytes_faults(alloc: Global, name: &str, bytes: &[u8]) -> Result<Vec<Finding>,
 }
 
 /// Why a file is rejected, if it is.
+#[tactic(auto, using(review_files::proofs::MemoryLaws::unnamed_memory))]
 fn file_faults(alloc: Global, file: Named<'_>) -> Result<Vec<Finding>, Fault>
-    ensures { IfOk result (λ list. FileFaults file.entry list.items) }
+    ensures ok { IfOk result (λ list. FileFaults file.entry list.items) }
+    ensures err { IfErr result (λ fault. fault ≡ Fault.OutOfMemory) }
 {
     match file.answer {
         Ok(bytes) => bytes_faults(alloc, file.name, bytes),
@@ -175,7 +184,8 @@ fn deleted_found<S: Shelf>(
     page: Page,
     name: &str,
 ) -> Result<Found, Fault>
-    ensures { IfOk result (λ found. DeletedFound (S.holds shelf.now) asked.now page name.now found.part (string_bytes found.err) found.status) }
+    ensures ok { IfOk result (λ found. DeletedFound (S.holds shelf.now) asked.now page name.now found.part (string_bytes found.err) found.status) }
+    ensures err { IfErr result (λ fault. fault ≡ Fault.OutOfMemory) }
 {
     let path = path_in(alloc, asked.left, name)?;
     let answer = read_file(shelf, alloc, path.as_str());
@@ -196,7 +206,8 @@ fn new_found<S: Shelf>(
     page: Page,
     name: &str,
 ) -> Result<Found, Fault>
-    ensures { IfOk result (λ found. NewFound (S.holds shelf.now) asked.now page name.now found.part (string_bytes found.err) found.status) }
+    ensures ok { IfOk result (λ found. NewFound (S.holds shelf.now) asked.now page name.now found.part (string_bytes found.err) found.status) }
+    ensures err { IfErr result (λ fault. fault ≡ Fault.OutOfMemory) }
 {
     let path = path_in(alloc, asked.right, name)?;
     let answer = read_file(shelf, alloc, path.as_str());
@@ -219,7 +230,8 @@ fn new_found<S: Shelf>(
 
 /// Why two files are not compared: the faults of each.
 fn faults_found(alloc: Global, left: Named<'_>, right: Named<'_>) -> Result<Part, Fault>
-    ensures { IfOk result (λ part. (first : List Finding) × (second : List Finding) × FileFaults left.entry first × FileFaults right.entry second × IsList (first ++ second) part) }
+    ensures ok { IfOk result (λ part. (first : List Finding) × (second : List Finding) × FileFaults left.entry first × FileFaults right.entry second × IsList (first ++ second) part) }
+    ensures err { IfErr result (λ fault. fault ≡ Fault.OutOfMemory) }
 {
     let mut list = file_faults(alloc, left)?;
     let mut more = file_faults(alloc, right)?;
@@ -236,7 +248,8 @@ fn both_found<S: Shelf>(
     ignored: &[Pattern<'_>],
     name: &str,
 ) -> Result<Found, Fault>
-    ensures { IfOk result (λ found. BothFound (S.holds shelf.now) asked.now ignored.now page name.now found.part (string_bytes found.err) found.status) }
+    ensures ok { IfOk result (λ found. BothFound (S.holds shelf.now) asked.now ignored.now page name.now found.part (string_bytes found.err) found.status) }
+    ensures err { IfErr result (λ fault. fault ≡ Fault.OutOfMemory) }
 {
     let left_path = path_in(alloc, asked.left, name)?;
     let right_path = path_in(alloc, asked.right, name)?;
@@ -287,7 +300,8 @@ fn found_of<S: Shelf>(
     ignored: &[Pattern<'_>],
     entry: Entry<'_>,
 ) -> Result<Found, Fault>
-    ensures { IfOk result (λ found. HasFound (S.holds shelf.now) entry.entry.has asked.now ignored.now page entry.entry.name.now found.part (string_bytes found.err) found.status) }
+    ensures ok { IfOk result (λ found. HasFound (S.holds shelf.now) entry.entry.has asked.now ignored.now page entry.entry.name.now found.part (string_bytes found.err) found.status) }
+    ensures err { IfErr result (λ fault. fault ≡ Fault.OutOfMemory) }
 {
     match entry.has {
         Has::Left => deleted_found(shelf, alloc, asked, page, entry.name),
@@ -298,7 +312,8 @@ fn found_of<S: Shelf>(
 
 /// Adds a part with the name of its file, if something is found there.
 fn add_part(alloc: Global, parts: &mut Vec<Part>, part: Part, name: &str) -> Result<(), Fault>
-    ensures { OnOk result ((own : List Part) × HasPart name.now part own × (parts.new.items ≡ parts.old.items ++ own)) }
+    ensures ok { OnOk result ((own : List Part) × HasPart name.now part own × (parts.new.items ≡ parts.old.items ++ own)) }
+    ensures err { IfErr result (λ fault. fault ≡ Fault.OutOfMemory) }
 {
     if part.list.len() == 0 {
         return Ok(());
@@ -322,7 +337,8 @@ fn parts_of<S: Shelf, E: Write>(
     entries: &[Entry<'_>],
     err: &mut E,
 ) -> Result<(Vec<Part>, u8), Fault>
-    ensures { IfOk result (λ told. FindsParts (S.holds shelf.now) E.contents asked.now ignored.now page entries.now told.0.items err.old err.new told.1) }
+    ensures ok { IfOk result (λ told. FindsParts (S.holds shelf.now) E.contents asked.now ignored.now page entries.now told.0.items err.old err.new told.1) }
+    ensures err { IfErr result (λ fault. fault ≡ Fault.OutOfMemory) }
 {
     let mut parts = Vec::new(alloc);
     let mut status = SAME;

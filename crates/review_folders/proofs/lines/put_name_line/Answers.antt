@@ -3,8 +3,8 @@ use Rattle.review_text.specs.Terminal.{terminal}
 use Rattle.review_text.proofs.Pieces.{then_more}
 use Rattle.review_folders.proofs.lines.put_name_line.Goals as goal
 
-pub returns : goal.returns
-returns c =
+pub returns-clause-ok : goal.returns-clause-ok
+returns-clause-ok c =
     let name = terminal c.args.name.now in
     let o = string_bytes c.args.out.now in
     let front = string_bytes c.push_str.new.self in

@@ -2,15 +2,15 @@ use Rattle.std.proofs.Common.{[], ◌∷◌, ◌++◌, refl, ◌∙◌, ap, subs
 use Rattle.review_folders.specs.Pages.{IsList}
 use Rattle.review_folders.proofs.page.deleted_found.Goals as goal
 
-pub returns : goal.returns
-returns g c =
+pub returns-clause-ok : goal.returns-clause-ok
+returns-clause-ok g c =
     let one = c.in_ok-alone.field-0 in
     let listed = c.in_ok-push.ensures.items ∙ ap (λ z. z ++ (one ∷ [])) c.new-list.ensures.items in
     record {
       path = string_bytes c.in_ok-path.path;
-      is_path = c.in_ok-path.ensures;
+      is_path = c.in_ok-path.ensures.ok;
       one = one;
-      alone = rw c.as_str-2.ensures.value at c.in_ok-alone.ensures;
+      alone = rw c.as_str-2.ensures.value at c.in_ok-alone.ensures.ok;
       list = subst (λ z. IsList z c.part_with.result) listed c.part_with.ensures;
       untold = c.new.ensures.bytes;
       differs = refl;
