@@ -9,7 +9,7 @@ use Rattle.review_args.specs.declared.words.Page.{Page}
 use Rattle.review_folders.specs.Pages.{FolderShows}
 use Rattle.review_folders.specs.Printed.{FolderPrints}
 use Rattle.review_folders.specs.declared.entry.Entry.{Entry}
-use Rattle.review_command.specs.Commands.{unknown, FoldersPrint, FoldersShow, FoldersEnd}
+use Rattle.review_command.specs.Commands.{unknown, FoldersEnd}
 
 module _ {W E : Type 0} (contents : W → Option (List ℕ)) (told : E → Option (List ℕ)) where
   pub folders_cut : (asked : Diff) (ignored : List Pattern) (page : Option Page) (out : W) (status : ℕ) → 2 ≤ status → FoldersEnd contents told asked ignored page out status

@@ -9,6 +9,7 @@ use Rattle.yaml_text.specs.declared.counted.Counted.{Counted}
 use Rattle.review_args.specs.declared.words.Form.{Form}
 use Rattle.review_patterns.specs.declared.pattern.Pattern.{Pattern}
 use Rattle.review_args.specs.declared.words.Diff.{Diff}
+use Rattle.review_args.specs.declared.words.Page.{Page}
 use Rattle.review_files.specs.Lines.{TakesLine}
 use Rattle.review_files.specs.Named.{AreNamed, NotBothRead, IsAnswer}
 use Rattle.review_files.specs.Statuses.{fault_status, unread_status}
@@ -88,8 +89,8 @@ pub diff_ends : {R W E : Type 0} (holds : List ℕ → Option (List ℕ)) (remai
 diff_ends holds remaining contents told asked ignored input old new err after (Ok s) status t r e f l = inl (subst (DiffTells holds (remaining input) contents asked ignored old new) (sym e) t)
 diff_ends holds remaining contents told asked ignored input old new err after (Err none) status t r e f l = inr (none, r, (f, (after, l)))
 
-pub page_ends : {R W E : Type 0} (holds : List ℕ → Option (List ℕ)) (remaining : R → Option (List ℕ)) (contents : W → Option (List ℕ)) (told : E → Option (List ℕ)) (asked : Diff) (ignored : List Pattern) (input : R) (old new : Counted W) (err after : E) (answer : Result ℕ NoDiff) (status : ℕ)
-    → IfOk answer (DiffShows holds (remaining input) contents asked ignored old new) → IfErr answer (PageRefuses holds (remaining input) contents asked ignored old new) → IfOk answer (λ s. status ≡ s) → IfErr answer (λ none. status ≡ no_diff_status none) → IfErr answer (λ none. TakesLine told err after (no_diff_line none))
-    → PageEnds holds remaining contents told asked ignored input old new err status
-page_ends holds remaining contents told asked ignored input old new err after (Ok s) status t r e f l = inl (subst (DiffShows holds (remaining input) contents asked ignored old new) (sym e) t)
-page_ends holds remaining contents told asked ignored input old new err after (Err none) status t r e f l = inr (none, r, (f, (after, l)))
+pub page_ends : {R W E : Type 0} (holds : List ℕ → Option (List ℕ)) (remaining : R → Option (List ℕ)) (contents : W → Option (List ℕ)) (told : E → Option (List ℕ)) (asked : Diff) (page : Page) (ignored : List Pattern) (input : R) (old new : Counted W) (err after : E) (answer : Result ℕ NoDiff) (status : ℕ)
+    → IfOk answer (DiffShows holds (remaining input) contents asked page ignored old new) → IfErr answer (PageRefuses holds (remaining input) contents asked page ignored old new) → IfOk answer (λ s. status ≡ s) → IfErr answer (λ none. status ≡ no_diff_status none) → IfErr answer (λ none. TakesLine told err after (no_diff_line none))
+    → PageEnds holds remaining contents told asked page ignored input old new err status
+page_ends holds remaining contents told asked page ignored input old new err after (Ok s) status t r e f l = inl (subst (DiffShows holds (remaining input) contents asked page ignored old new) (sym e) t)
+page_ends holds remaining contents told asked page ignored input old new err after (Err none) status t r e f l = inr (none, r, (f, (after, l)))

@@ -1,10 +1,13 @@
 -- What `diff` promises.
-use Rattle.std.specs.Prelude.{◌≡◌, ℕ, Bool, cond, List, [], Option}
+use Rattle.std.specs.Prelude.{◌≡◌, ◌⊎◌, ◌<◌, ℕ, Bool, cond, List, [], ◌∷◌, Option, None}
 use Rattle.yaml_text.specs.declared.counted.Counted.{Counted}
 use Rattle.yaml_canon.specs.Comparing.{Compares}
 use Rattle.yaml_text.specs.Writers.{Printed}
 use Rattle.review_patterns.specs.declared.pattern.Pattern.{Pattern}
 use Rattle.review_args.specs.declared.words.Diff.{Diff}
+use Rattle.review_args.specs.declared.words.Page.{Page}
+use Rattle.review_formats.specs.declared.finding.Part.{Part}
+use Rattle.review_folders.specs.Parts.{ListsAll, ShowsLines, IsPartsText}
 use Rattle.review_lines.specs.declared.listed.Listed.{Listed}
 use Rattle.review_compare.specs.Compared.{DiffLines, DiffLists}
 use Rattle.review_files.specs.Named.{AreNamed}
@@ -21,8 +24,21 @@ pub record DiffTells {W : Type 0} (holds : List ℕ → Option (List ℕ)) (rest
   pub lines : DiffLines first second asked ignored answer text
   pub printed : Printed contents old new text
 
--- The same of a page: the two files of these names are accepted, their differences were listed, and some text was written. The status is that of `DiffTells`.
-pub record DiffShows {W : Type 0} (holds : List ℕ → Option (List ℕ)) (rest : Option (List ℕ)) (contents : W → Option (List ℕ)) (asked : Diff) (ignored : List Pattern) (old new : Counted W) (status : ℕ) : Type 0 where
+-- what a page has of two files with these bytes: all that is listed and, if the page shows them, the lines of both
+pub record IsFilePart (asked : Diff) (page : Page) (first second : List ℕ) (listed : Listed) (part : Part) : Type 0 where
+  pub unnamed : part.name ≡ None
+  pub list : ListsAll asked.left.now asked.right.now listed part.list.items
+  pub shown : ShowsLines page asked.left.now first asked.right.now second part.shown
+  pub whole : part.whole ≡ listed.whole
+
+-- The text is a page with that part alone; there is none where no line is asked for.
+abbrev pub IsFilePage : Diff → Page → List ℕ → List ℕ → Listed → List ℕ → Type 0
+IsFilePage asked page first second listed text =
+    ((asked.lines ≡ 0) × (text ≡ []))
+    ⊎ ((0 < asked.lines) × ((part : Part) × IsFilePart asked page first second listed part × IsPartsText asked.left.now asked.right.now page (part ∷ []) text))
+
+-- The same of a page: the two files of these names are accepted, their differences were listed, and the page was written. The status is that of `DiffTells`.
+pub record DiffShows {W : Type 0} (holds : List ℕ → Option (List ℕ)) (rest : Option (List ℕ)) (contents : W → Option (List ℕ)) (asked : Diff) (page : Page) (ignored : List Pattern) (old new : Counted W) (status : ℕ) : Type 0 where
   pub first : List ℕ
   pub second : List ℕ
   pub named : AreNamed holds rest asked.left.now asked.right.now first second
@@ -31,4 +47,5 @@ pub record DiffShows {W : Type 0} (holds : List ℕ → Option (List ℕ)) (rest
   pub compares : ignored ≡ [] → Compares first second listed.same
   pub told : status ≡ cond listed.same 0 1
   pub text : List ℕ
+  pub is : IsFilePage asked page first second listed text
   pub printed : Printed contents old new text

@@ -7,6 +7,7 @@ use Rattle.yaml_text.specs.declared.counted.Counted.{Counted}
 use Rattle.yaml_command.specs.Printing.{PrintFails}
 use Rattle.review_patterns.specs.declared.pattern.Pattern.{Pattern}
 use Rattle.review_args.specs.declared.words.Diff.{Diff}
+use Rattle.review_args.specs.declared.words.Page.{Page}
 use Rattle.review_compare.specs.Compared.{DiffLines, DiffLists}
 use Rattle.review_lines.specs.declared.listed.Listed.{Listed}
 use Rattle.review_files.specs.Lines.{TakesLine, bare_line}
@@ -17,6 +18,7 @@ use Rattle.review_files.specs.declared.rejected.Named.{Named}
 use Rattle.review_merge.specs.Merges.{no_merge_status}
 use Rattle.review_merge.specs.declared.merge.NoMerge.{NoMerge}
 use Rattle.review_merge.specs.declared.merge.NoMerge.TheVariants as merge
+use Rattle.review_command.specs.Diffs.{IsFilePage}
 use Rattle.review_command.specs.declared.diff.NoDiff.{NoDiff}
 use Rattle.review_command.specs.declared.diff.NoDiff.TheVariants as no
 
@@ -55,19 +57,20 @@ DiffRefuses holds rest contents asked ignored old new none =
     (Refuses holds rest asked none × (new ≡ old)) ⊎ ((fault : Fault) × (none ≡ no.Fault fault) × CutsLines holds rest contents asked ignored old new fault)
 
 -- the output fails behind a beginning of the page with the differences
-pub record CutsPage {W : Type 0} (holds : List ℕ → Option (List ℕ)) (rest : Option (List ℕ)) (contents : W → Option (List ℕ)) (asked : Diff) (ignored : List Pattern) (old new : Counted W) (fault : Fault) : Type 0 where
+pub record CutsPage {W : Type 0} (holds : List ℕ → Option (List ℕ)) (rest : Option (List ℕ)) (contents : W → Option (List ℕ)) (asked : Diff) (page : Page) (ignored : List Pattern) (old new : Counted W) (fault : Fault) : Type 0 where
   pub first : List ℕ
   pub second : List ℕ
   pub named : AreNamed holds rest asked.left.now asked.right.now first second
   pub listed : Listed
   pub lists : DiffLists first second asked ignored listed
   pub text : List ℕ
+  pub is : IsFilePage asked page first second listed text
   pub fails : PrintFails contents old new text fault
 
 -- The same of a page. The fault is want of memory where the page is not made.
-abbrev pub PageRefuses : {W : Type 0} → (List ℕ → Option (List ℕ)) → Option (List ℕ) → (W → Option (List ℕ)) → Diff → List Pattern → Counted W → Counted W → NoDiff → Type 0
-PageRefuses holds rest contents asked ignored old new none =
-    (Refuses holds rest asked none × (new ≡ old)) ⊎ ((fault : Fault) × (none ≡ no.Fault fault) × CutsPage holds rest contents asked ignored old new fault)
+abbrev pub PageRefuses : {W : Type 0} → (List ℕ → Option (List ℕ)) → Option (List ℕ) → (W → Option (List ℕ)) → Diff → Page → List Pattern → Counted W → Counted W → NoDiff → Type 0
+PageRefuses holds rest contents asked page ignored old new none =
+    (Refuses holds rest asked none × (new ≡ old)) ⊎ ((fault : Fault) × (none ≡ no.Fault fault) × CutsPage holds rest contents asked page ignored old new fault)
 
 -- the status of each
 abbrev pub no_diff_status : NoDiff → ℕ

@@ -101,17 +101,17 @@ module _ {R W E : Type 0} (holds : List ℕ → Option (List ℕ)) (remaining : 
     pub ends : DiffEnds asked ignored input old new err status
 
   -- the same of a page
-  abbrev pub PageEnds : Diff → List Pattern → R → Counted W → Counted W → E → ℕ → Type 0
-  PageEnds asked ignored input old new err status =
-      DiffShows holds (remaining input) contents asked ignored old new status
-      ⊎ ((none : NoDiff) × PageRefuses holds (remaining input) contents asked ignored old new none × TellsNoDiff told none err status)
+  abbrev pub PageEnds : Diff → Page → List Pattern → R → Counted W → Counted W → E → ℕ → Type 0
+  PageEnds asked page ignored input old new err status =
+      DiffShows holds (remaining input) contents asked page ignored old new status
+      ⊎ ((none : NoDiff) × PageRefuses holds (remaining input) contents asked page ignored old new none × TellsNoDiff told none err status)
 
-  pub record PageRuns (asked : Diff) (ignored : List Pattern) (input : R) (out : W) (err : E) (status : ℕ) : Type 0 where
+  pub record PageRuns (asked : Diff) (page : Page) (ignored : List Pattern) (input : R) (out : W) (err : E) (status : ℕ) : Type 0 where
     pub old : Counted W
     pub new : Counted W
     pub writer : inner_of old ≡ out
     pub no_write : faults_of old ≡ 0
-    pub ends : PageEnds asked ignored input old new err status
+    pub ends : PageEnds asked page ignored input old new err status
 
   -- what git asks for is written
   pub record GitRuns (words : List (List ℕ)) (out : W) (status : ℕ) : Type 0 where
@@ -140,7 +140,7 @@ module _ {R W E : Type 0} (holds : List ℕ → Option (List ℕ)) (remaining : 
   -- What the commands do.
   abbrev pub Does : Asked → R → W → E → ℕ → Type 0
   Does (asks.Diff asked ignored) input out err status = DiffRuns asked ignored.items input out err status
-  Does (asks.DiffPage page asked ignored) input out err status = PageRuns asked ignored.items input out err status
+  Does (asks.DiffPage page asked ignored) input out err status = PageRuns asked page ignored.items input out err status
   Does (asks.Faults asked) input out err status = ReportsTell Faults asked input out status
   Does (asks.Warn asked warn) input out err status = (kind : Kind) × AsksWarnings warn kind × ReportsTell kind asked input out status
   Does (asks.FaultsPage page asked) input out err status = PagesTell Faults page asked input out status

@@ -37,9 +37,6 @@ use yaml_text::fault::Fault;
 
 const DONE: u8 = 0;
 
-/// The status of an input that is rejected.
-const REJECTED: u8 = 2;
-
 /// What is wrong with words that give a command, and are none that it can do.
 const ONE_INPUT: &str = "yamlreview: usage: `-` is standard input, which is read once\n";
 
@@ -152,7 +149,7 @@ fn compare_as<S: Shelf, R: Read + Drop, W: Write + Drop, E: Write + Drop>(
     out: W,
     mut err: E,
 ) -> u8
-    ensures { PageRuns (S.holds shelf.now) R.remaining W.contents E.contents told.entry.0.now ignored.now input out err result }
+    ensures { PageRuns (S.holds shelf.now) R.remaining W.contents E.contents told.entry.0.now told.entry.1 ignored.now input out err result }
 {
     let mut out = Counted::new(out);
     let answer = diff_page(shelf, alloc, told, ignored, &mut input, &mut out);
@@ -297,7 +294,9 @@ fn sum<S: Shelf, R: Read + Drop, W: Write + Drop, E: Write + Drop>(
 }
 
 /// The text of an error of the words, with `?` for what of the words a terminal would not print.
-fn error_text(alloc: Global, error: &Error) -> Result<String, Fault> {
+fn error_text(alloc: Global, error: &Error) -> Result<String, Fault>
+    ensures err { IfErr result (λ fault. fault ≡ Fault.OutOfMemory) }
+{
     let text = format!(in alloc; "{error}")?;
     let mut shown = String::new(alloc);
     for (number, line) in text.split('\n').enumerate() {
@@ -328,13 +327,6 @@ fn told<W: Write + Drop, E: Write + Drop>(alloc: Global, error: Error, out: W, m
     }
 }
 
-/// The status, or that of an input that is rejected if it is less.
-fn at_least(status: u8) -> u8
-    ensures { 2 ≤ result }
-{
-    if status < REJECTED { REJECTED } else { status }
-}
-
 /// Compares the files of two folders, as lines or as a page, and answers the status.
 #[tactic(auto, using(crate::proofs::FolderLaws::folders_cut, crate::proofs::FolderLaws::folders_printed, crate::proofs::FolderLaws::folders_shown))]
 fn compare_folders<T: Files + AllocGlobal + Clone + Drop, W: Write + Drop, E: Write + Drop>(
@@ -350,7 +342,7 @@ fn compare_folders<T: Files + AllocGlobal + Clone + Drop, W: Write + Drop, E: Wr
     let (asked, page) = told;
     let names = match names_of(rt, alloc, asked, &mut err) {
         Ok(names) => names,
-        Err(status) => return at_least(status),
+        Err(status) => return status,
     };
     let entries = match names.entries(alloc) {
         Ok(entries) => entries,

@@ -1,8 +1,8 @@
 //! The command `diff`.
-ghost use Rattle.std.specs.Prelude.{◌≡◌, ◌<◌, ◌-◌, ◌^◌, ℕ, List, Option, cond, IfOk, IfErr};
+ghost use Rattle.std.specs.Prelude.{◌≡◌, ◌<◌, ◌-◌, ◌^◌, ℕ, List, Option, cond, IfOk, IfErr, string_bytes};
 ghost use Rattle.yaml_text.specs.CountedModel.{faults_of};
 ghost use Rattle.review_files.specs.Named.{AreNamed, AreNotBoth};
-ghost use Rattle.review_command.specs.Diffs.{DiffTells, DiffShows};
+ghost use Rattle.review_command.specs.Diffs.{DiffTells, DiffShows, IsFilePage};
 ghost use Rattle.review_command.specs.Rejections.{Refuses, DiffRefuses, PageRefuses};
 ghost use Rattle.review_command.specs.declared.diff.NoDiff.TheVariants.{Fault as NoText};
 ghost use Rattle.yaml_text.specs.declared.fault.Fault.TheVariants.{OutOfMemory};
@@ -62,7 +62,8 @@ fn named<'n>(name: &'n str, answer: &'n Result<Vec<u8>, Unread>) -> Named<'n>
 
 /// Why two files are not both read.
 fn not_read(alloc: Global, asked: &Diff<'_>, none: NotBoth) -> Result<NoDiff, Fault>
-    ensures { (holds : List ℕ → Option (List ℕ)) → (rest : Option (List ℕ)) → AreNotBoth holds rest asked.now.left.now asked.now.right.now none → IfOk result (Refuses holds rest asked.now) }
+    ensures ok { (holds : List ℕ → Option (List ℕ)) → (rest : Option (List ℕ)) → AreNotBoth holds rest asked.now.left.now asked.now.right.now none → IfOk result (Refuses holds rest asked.now) }
+    ensures err { IfErr result (λ fault. fault ≡ Fault.OutOfMemory) }
 {
     let (left, right) = match none {
         NotBoth::OneInput => return Ok(NoDiff::OneInput),
@@ -83,7 +84,8 @@ fn not_compared(
     right: Vec<u8>,
     side: Side,
 ) -> Result<NoDiff, Fault>
-    ensures { (holds : List ℕ → Option (List ℕ)) → (rest : Option (List ℕ)) → AreNamed holds rest asked.now.left.now asked.now.right.now left.items right.items → IfOk result (Refuses holds rest asked.now) }
+    ensures ok { (holds : List ℕ → Option (List ℕ)) → (rest : Option (List ℕ)) → AreNamed holds rest asked.now.left.now asked.now.right.now left.items right.items → IfOk result (Refuses holds rest asked.now) }
+    ensures err { IfErr result (λ fault. fault ≡ Fault.OutOfMemory) }
 {
     let (left, right) = (Ok(left), Ok(right));
     let mut text = String::new(alloc);
@@ -130,7 +132,10 @@ fn listed_text(
     listed: &Listed,
     left: &[u8],
     right: &[u8],
-) -> Result<String, Fault> {
+) -> Result<String, Fault>
+    ensures ok { IfOk result (λ text. IsFilePage asked.now page left.now right.now listed.now (string_bytes text)) }
+    ensures err { IfErr result (λ fault. fault ≡ Fault.OutOfMemory) }
+{
     if asked.lines == 0 {
         return Ok(String::new(alloc));
     }
@@ -154,8 +159,8 @@ pub fn diff_page<S: Shelf, R: Read, W: Write>(
     out: &mut Counted<W>,
 ) -> Result<u8, NoDiff>
     requires { faults_of out.old < 2 ^ 64 - 1 }
-    ensures shows { IfOk result (DiffShows (S.holds shelf.now) (R.remaining input.old) W.contents told.entry.0.now ignored.now out.old out.new) }
-    ensures refuses { IfErr result (PageRefuses (S.holds shelf.now) (R.remaining input.old) W.contents told.entry.0.now ignored.now out.old out.new) }
+    ensures shows { IfOk result (DiffShows (S.holds shelf.now) (R.remaining input.old) W.contents told.entry.0.now told.entry.1 ignored.now out.old out.new) }
+    ensures refuses { IfErr result (PageRefuses (S.holds shelf.now) (R.remaining input.old) W.contents told.entry.0.now told.entry.1 ignored.now out.old out.new) }
 {
     let (asked, page) = told;
     let (left, right) = match read_both(shelf, alloc, asked.left, asked.right, input) {

@@ -8,7 +8,7 @@ pub returns-in-Err-clause-refuses : goal.returns-in-Err-clause-refuses
 returns-in-Err-clause-refuses g c =
     let holds = g.S.Shelf.holds c.args.shelf.now in
     let rest = g.R.Read.remaining c.args.input.now in
-    inl (or_faulted holds rest c.args.asked.now c.not_read.result c.or_fault.result (c.not_read.ensures holds rest c.in-Err.ensures.err) c.or_fault.ensures.ok c.or_fault.ensures.err, refl)
+    inl (or_faulted holds rest c.args.asked.now c.not_read.result c.or_fault.result (c.not_read.ensures.ok holds rest c.in-Err.ensures.err) c.or_fault.ensures.ok c.or_fault.ensures.err, refl)
 
 pub returns-clause-refuses : goal.returns-clause-refuses
 returns-clause-refuses g c =

@@ -14,6 +14,7 @@ returns-in-Ok-write_out-clause-shows g c = record {
   compares = rw c.deref-2.ensures.value at (rw c.deref.ensures.value at c.in-Ok-list_sides.ensures.same);
   told = c.status_of.ensures;
   text = string_bytes c.in-Ok-listed_text.text;
+  is = rw c.deref-4.ensures.value at (rw c.deref-3.ensures.value at c.in-Ok-listed_text.ensures.ok);
   printed = rw c.as_bytes.ensures.value at c.in-Ok-write_out.ensures.ok;
 }
 
@@ -21,13 +22,13 @@ pub returns-in-Err-clause-refuses : goal.returns-in-Err-clause-refuses
 returns-in-Err-clause-refuses g c =
     let holds = g.S.Shelf.holds c.args.shelf.now in
     let rest = g.R.Read.remaining c.args.input.now in
-    inl (or_faulted holds rest c.args.told.0.now c.not_read.result c.or_fault.result (c.not_read.ensures holds rest c.in-Err.ensures.err) c.or_fault.ensures.ok c.or_fault.ensures.err, refl)
+    inl (or_faulted holds rest c.args.told.0.now c.not_read.result c.or_fault.result (c.not_read.ensures.ok holds rest c.in-Err.ensures.err) c.or_fault.ensures.ok c.or_fault.ensures.err, refl)
 
 pub returns-clause-refuses : goal.returns-clause-refuses
 returns-clause-refuses g c =
     let lists : DiffLists c.in-Ok.both.0.items c.in-Ok.both.1.items c.args.told.0.now c.args.ignored.now c.in-Ok-list_sides.listed =
     rw c.deref-2.ensures.value at (rw c.deref.ensures.value at c.in-Ok-list_sides.ensures.lists) in
-    let cut : CutsPage (g.S.Shelf.holds c.args.shelf.now) (g.R.Read.remaining c.args.input.now) g.W.Write.contents c.args.told.0.now c.args.ignored.now c.args.out.now c.write_out.new.out c.in-Err-write_out.fault =
+    let cut : CutsPage (g.S.Shelf.holds c.args.shelf.now) (g.R.Read.remaining c.args.input.now) g.W.Write.contents c.args.told.0.now c.args.told.1 c.args.ignored.now c.args.out.now c.write_out.new.out c.in-Err-write_out.fault =
     record {
       first = c.in-Ok.both.0.items;
       second = c.in-Ok.both.1.items;
@@ -35,6 +36,7 @@ returns-clause-refuses g c =
       listed = c.in-Ok-list_sides.listed;
       lists = lists;
       text = string_bytes c.in-Ok-listed_text.text;
+      is = rw c.deref-4.ensures.value at (rw c.deref-3.ensures.value at c.in-Ok-listed_text.ensures.ok);
       fails = rw c.as_bytes.ensures.value at c.in-Err-write_out.ensures.err;
     } in
     inr (c.in-Err-write_out.fault, refl, cut)
