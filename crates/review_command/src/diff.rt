@@ -116,7 +116,7 @@ pub fn diff<S: Shelf, R: Read, W: Write>(
     };
     let told = match compare_sides(alloc, asked, ignored, &left, &right) {
         Ok(told) => told,
-        Err((side, _)) => return Err(or_fault(not_compared(alloc, asked, left, right, side))),
+        Err(side) => return Err(or_fault(not_compared(alloc, asked, left, right, side))),
     };
     match write_out(out, told.text.as_bytes()) {
         Ok(()) => Ok(status_of(told.same)),
@@ -169,7 +169,7 @@ pub fn diff_page<S: Shelf, R: Read, W: Write>(
     };
     let listed = match list_sides(alloc, asked, ignored, &left, &right) {
         Ok(listed) => listed,
-        Err((side, _)) => return Err(or_fault(not_compared(alloc, asked, left, right, side))),
+        Err(side) => return Err(or_fault(not_compared(alloc, asked, left, right, side))),
     };
     let text = match listed_text(alloc, asked, page, &listed, &left, &right) {
         Ok(text) => text,

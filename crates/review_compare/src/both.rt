@@ -38,21 +38,21 @@ pub fn fault_of(alloc: Global, bytes: &[u8]) -> Option<Fault>
 
 /// The nodes of both streams in one graph, equal ones mostly merged, ranked.
 ///
-/// A fault is told of the left side: want of memory, or two equal keys, of which each side alone tells which it has.
+/// The left side stands for want of memory, and for two equal keys of either side.
 pub(crate) fn merged<'f>(
     alloc: Global,
     forests: &'f BothForests<'_>,
-) -> Result<Both<'f>, (Side, Fault)>
+) -> Result<Both<'f>, Side>
     requires { (left right : List ℕ) × HasBoth left right forests.now }
     ensures { (left right : List ℕ) → HasBoth left right forests.now → IfOk result (BothAre left right) }
 {
     let graph = match forests.graph(alloc) {
         Ok(graph) => graph,
-        Err(fault) => return Err((Side::Left, fault)),
+        Err(_) => return Err(Side::Left),
     };
     let ranks = match rank(alloc, &graph) {
         Ok(ranks) => ranks,
-        Err(fault) => return Err((Side::Left, fault)),
+        Err(_) => return Err(Side::Left),
     };
     Ok(Both {
         graph,
@@ -68,14 +68,19 @@ pub(crate) fn forests_of<'l>(
     left: &'l [u8],
     right: &[u8],
     traced: bool,
-) -> Result<(BothForests<'l>, Option<(Trace, usize)>), (Side, Fault)>
+) -> Result<(BothForests<'l>, Option<(Trace, usize)>), Side>
     ensures both { IfOk result (λ made. HasBoth left.now right.now made.0) }
 {
     if traced {
-        let (forests, trace, middle) = forest_of_both_with(alloc, left, right, Trace::new(alloc))?;
-        Ok((forests, Some((trace, middle))))
+        match forest_of_both_with(alloc, left, right, Trace::new(alloc)) {
+            Ok((forests, trace, middle)) => Ok((forests, Some((trace, middle)))),
+            Err((side, _)) => Err(side),
+        }
     } else {
-        Ok((forest_of_both(alloc, left, right)?, None))
+        match forest_of_both(alloc, left, right) {
+            Ok(forests) => Ok((forests, None)),
+            Err((side, _)) => Err(side),
+        }
     }
 }
 
@@ -108,14 +113,17 @@ pub(crate) fn traced_both<'t>(
 }
 
 /// The lines of the differences of two streams, but for those that are at or below a path that one of the patterns matches, and whether
-/// there are none: without patterns this is so if the streams are the same. A fault names the side.
+/// there are none: without patterns this is so if the streams are the same.
+///
+/// # Errors
+/// Where a side is rejected or memory is refused: a side to ask first. `fault_of` tells which side is rejected, and why.
 pub fn compare_sides(
     alloc: Global,
     asked: &Diff<'_>,
     ignored: &[Pattern<'_>],
     left: &[u8],
     right: &[u8],
-) -> Result<Compared, (Side, Fault)>
+) -> Result<Compared, Side>
     ensures same { IfOk result (λ told. ignored.now ≡ [] → Compares left.now right.now told.same) }
     ensures lines { IfOk result (λ told. DiffLines left.now right.now asked.now ignored.now told.same (string_bytes told.text)) }
 {
@@ -129,6 +137,6 @@ pub fn compare_sides(
         traced_both(left, right, &trace),
     ) {
         Ok(told) => Ok(told),
-        Err(fault) => Err((Side::Left, fault)),
+        Err(_) => Err(Side::Left),
     }
 }

@@ -9,17 +9,19 @@ use review_lines::{Listed, list_differences};
 use review_patterns::Pattern;
 use std::alloc::Global;
 use yaml_canon::Side;
-use yaml_text::fault::Fault;
 
 /// The differences of two streams, but for those that are at or below a path that one of the patterns matches, and whether there are
-/// none: without patterns this is so if the streams are the same. A fault names the side.
+/// none: without patterns this is so if the streams are the same.
+///
+/// # Errors
+/// Those of `compare_sides`.
 pub fn list_sides(
     alloc: Global,
     asked: &Diff<'_>,
     ignored: &[Pattern<'_>],
     left: &[u8],
     right: &[u8],
-) -> Result<Listed, (Side, Fault)>
+) -> Result<Listed, Side>
     ensures same { IfOk result (λ told. ignored.now ≡ [] → Compares left.now right.now told.same) }
     ensures lists { IfOk result (DiffLists left.now right.now asked.now ignored.now) }
 {
@@ -28,6 +30,6 @@ pub fn list_sides(
     let sides = traced_both(left, right, &trace);
     match list_differences(alloc, &both, asked, ignored, sides) {
         Ok(told) => Ok(told),
-        Err(fault) => Err((Side::Left, fault)),
+        Err(_) => Err(Side::Left),
     }
 }

@@ -24,6 +24,7 @@ pub reading_refused : (bytes text : List ℕ) (fault : Fault) → Text bytes tex
 reading_refused bytes text fault t (inl e) = inl e
 reading_refused bytes text fault t (inr h) = inr (no_stream bytes text (faults.Syntax 0) t (inr h) (λ e. absurd (cc))).unread
 
+-- want of memory is one of the errors where a file is read again, or a fault is told
 pub memory_alone : (bytes : List ℕ) (error : Fault) → error ≡ faults.OutOfMemory → CannotRead bytes error
 memory_alone bytes error e = inl e
 

@@ -1,3 +1,3 @@
-mod AgainLaws
+pub mod AgainLaws
 mod FaultLaws
 mod WarnLaws

@@ -31,10 +31,3 @@ unnamed_memory bytes fault error f (inr (n, h)) = absurd (cc)
 pub accepted_memory : (bytes text : List ℕ) (error : Fault) → IsCanonicalText bytes text → CannotRead bytes error → error ≡ faults.OutOfMemory
 accepted_memory bytes text error a (inl e) = e
 accepted_memory bytes text error a (inr h) = absurd (h a.accepted.means.events a.accepted.means.reads)
-
--- that is one of the errors where a fault is told, or a file is read again
-pub told_memory : (bytes : List ℕ) (fault error : Fault) → error ≡ faults.OutOfMemory → CannotTell bytes fault error
-told_memory bytes fault error e = inl e
-
-pub read_memory : (bytes : List ℕ) (error : Fault) → error ≡ faults.OutOfMemory → CannotRead bytes error
-read_memory bytes error e = inl e

@@ -241,7 +241,7 @@ fn both_told<S: Shelf>(
             err,
             status: status_of(compared.same),
         }),
-        Err((side, _)) => {
+        Err(side) => {
             let status = put_not_compared(alloc, &mut err, first, second, side, asked.form)?;
             Ok(Told {
                 out: String::new(alloc),

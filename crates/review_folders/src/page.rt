@@ -283,7 +283,7 @@ fn both_found<S: Shelf>(
                 status: status_of(listed.same),
             })
         }
-        Err((side, _)) => {
+        Err(side) => {
             let status = put_not_compared(alloc, &mut err, first, second, side, asked.form)?;
             let part = faults_found(alloc, first, second)?;
             Ok(Found { part, err, status })

@@ -86,7 +86,7 @@ fn put_compared(
 {
     match compare_sides(alloc, &lines_of(left.name, right.name), &[], first, second) {
         Ok(told) => out.push_str(&told.text)?,
-        Err((side, _)) => {
+        Err(side) => {
             put_not_compared(alloc, out, left, right, side, Form::Line)?;
         }
     }

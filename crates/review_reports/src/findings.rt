@@ -159,7 +159,7 @@ pub fn differences_found(
 ///
 /// # Errors
 /// 21: memory is refused. For a fault of an event the bytes are read again; of bytes that the reader rejects, the reader's.
-#[tactic(auto, using(review_files::proofs::MemoryLaws::told_memory))]
+#[tactic(auto, using(review_faults::proofs::AgainLaws::memory_told))]
 pub fn fault_found(alloc: Global, name: &str, bytes: &[u8], fault: Fault) -> Result<Finding, Fault>
     ensures ok { IfOk result (IsFault name.now bytes.now fault) }
     ensures err { IfErr result (CannotTell bytes.now fault) }

@@ -48,7 +48,7 @@ pub fn page_text(alloc: Global, page: Page, found: &Findings) -> Result<String, 
 ///
 /// # Errors
 /// Those of `fault_found`.
-#[tactic(auto, using(review_files::proofs::MemoryLaws::told_memory))]
+#[tactic(auto, using(review_faults::proofs::AgainLaws::memory_told))]
 pub fn fault_list(
     alloc: Global,
     name: &str,
@@ -76,7 +76,7 @@ fn warnings_found(alloc: Global, name: &str, warnings: &[Warning]) -> Result<Vec
 }
 
 /// The warnings of a file that are asked for, and the status.
-#[tactic(auto, using(review_files::proofs::MemoryLaws::read_memory))]
+#[tactic(auto, using(review_faults::proofs::AgainLaws::memory_alone))]
 fn warned_list(
     alloc: Global,
     warn: &Warn<'_>,
@@ -95,7 +95,7 @@ fn warned_list(
 }
 
 /// What is found in a file that is accepted, and the status.
-#[tactic(auto, using(review_files::proofs::MemoryLaws::read_memory))]
+#[tactic(auto, using(review_faults::proofs::AgainLaws::memory_alone))]
 fn accepted_list(
     alloc: Global,
     kind: Kind<'_>,

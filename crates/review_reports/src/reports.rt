@@ -49,7 +49,7 @@ pub(crate) fn warned_status(is_strict: bool, is_none: bool) -> u8
 }
 
 /// What is told of a fault of a file of these bytes.
-#[tactic(auto, using(review_files::proofs::MemoryLaws::told_memory))]
+#[tactic(auto, using(review_faults::proofs::AgainLaws::memory_told))]
 fn fault_text(
     alloc: Global,
     name: &str,
@@ -66,7 +66,7 @@ fn fault_text(
 }
 
 /// The warnings of a file that are asked for, and the status.
-#[tactic(auto, using(review_files::proofs::MemoryLaws::read_memory))]
+#[tactic(auto, using(review_faults::proofs::AgainLaws::memory_alone))]
 fn warned_text(
     alloc: Global,
     warn: &Warn<'_>,
@@ -88,7 +88,7 @@ fn warned_text(
 }
 
 /// What is told of a file that is accepted, and the status.
-#[tactic(auto, using(review_files::proofs::MemoryLaws::read_memory))]
+#[tactic(auto, using(review_faults::proofs::AgainLaws::memory_alone))]
 fn accepted_text(
     alloc: Global,
     kind: Kind<'_>,

@@ -59,7 +59,7 @@ fn put_too_long(out: &mut String, name: &str) -> Result<(), Fault>
 }
 
 /// Writes why a file is rejected.
-#[tactic(auto, using(review_files::proofs::MemoryLaws::told_memory))]
+#[tactic(auto, using(review_faults::proofs::AgainLaws::memory_told))]
 fn put_rejected(
     alloc: Global,
     out: &mut String,
