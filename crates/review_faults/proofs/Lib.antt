@@ -1,3 +1,3 @@
 pub mod AgainLaws
-mod FaultLaws
+mod SpotLaws
 mod WarnLaws

@@ -1,5 +1,5 @@
 -- What is told of a fault of a file, and where.
-use Rattle.std.specs.Prelude.{◌≡◌, ◌<◌, ◌≤◌, ◌+◌, ◌-◌, ℕ, Bool, true, false, List, [], ◌∷◌, ◌++◌, length, drop, Option, Some, None, IfSome, MatchOption, option_map, codes}
+use Rattle.std.specs.Prelude.{◌≡◌, ◌<◌, ◌≤◌, ◌+◌, ◌-◌, ℕ, Bool, true, false, List, [], ◌∷◌, ◌++◌, length, drop, Option, Some, None, option_map, unwrap_or, codes, string_bytes}
 use Rattle.std.specs.Fmt.{decimal}
 use Rattle.yaml_definitions.specs.model.Text.{mark_len}
 use Rattle.yaml_text.specs.Fault.{fault_number, fault_name}
@@ -9,11 +9,14 @@ use Rattle.yaml_place.specs.LineModel.{IsPlace}
 use Rattle.yaml_place.specs.declared.place.Place.{Place}
 use Rattle.review_args.specs.declared.words.Form.{Form}
 use Rattle.review_args.specs.declared.words.Form.TheVariants as form
-use Rattle.review_text.specs.Terminal.{terminal}
 use Rattle.review_text.specs.Objects.{count_data, text_data, said_data, object_line}
 use Rattle.review_text.specs.declared.json.Said.TheVariants as said
 use Rattle.serde_json.specs.Data.{Data}
-use Rattle.review_faults.specs.EventPlaces.{IsEventSpot}
+use Rattle.review_faults.specs.EventSpots.{HasNoNode, IsEventSpot}
+use Rattle.review_faults.specs.Explained.{AreWords, IsExplained}
+use Rattle.review_faults.specs.Heads.{head}
+use Rattle.review_faults.specs.declared.spots.Spot.{Spot}
+use Rattle.review_faults.specs.declared.spots.Told.{Told}
 
 -- ---- where
 
@@ -52,31 +55,27 @@ abbrev pub IsPlaceAt : List ℕ → ℕ → Option Place → Type 0
 IsPlaceAt text at (Some place) = (at ≤ length text) × IsPlace text at place.line place.column
 IsPlaceAt text at None = length text < at
 
--- Where a fault that names no offset of the input is told to be: at the offset at which a fault of an event is shown, if it is one of the text. Another fault is told to be nowhere.
-pub record IsSomewhere (bytes : List ℕ) (at : ℕ) (place : Option Place) (fault : Fault) : Type 0 where
-  pub placed : IfSome place (λ p. (at ≤ length (text_in bytes)) × IsPlace (text_in bytes) at p.line p.column)
-  pub nowhere : names_event fault ≡ false → place ≡ None
-  pub event : names_event fault ≡ true → (found : Option ℕ) × IsEventSpot bytes fault found × MatchOption found (place ≡ None) (λ o. (at ≡ o) × IsPlaceAt (text_in bytes) at place)
+-- the place of an offset, if there is an offset and the text has it
+abbrev pub IsPlaceOf : List ℕ → Option ℕ → Option Place → Type 0
+IsPlaceOf text None place = place ≡ None
+IsPlaceOf text (Some at) place = IsPlaceAt text at place
 
--- The place that is told is that of the fault's offset, which counts a byte order mark.
-abbrev pub IsSpot : List ℕ → Fault → Option ℕ → ℕ → Option Place → Type 0
-IsSpot bytes fault (Some offset) at place = (at ≡ offset - mark_len bytes) × IsPlaceAt (text_in bytes) at place
-IsSpot bytes fault None at place = IsSomewhere bytes at place fault
+-- A fault that names an offset of the input, which counts a byte order mark, is there. Of another one that names no event nothing is known.
+abbrev pub IsSpot : List ℕ → Fault → Option ℕ → Spot → Type 0
+IsSpot bytes fault (Some offset) spot = (spot.at ≡ Some (offset - mark_len bytes)) × HasNoNode spot
+IsSpot bytes fault None spot = (names_event fault ≡ false → (spot.at ≡ None) × HasNoNode spot) × (names_event fault ≡ true → IsEventSpot bytes fault spot)
 
--- the same of the offset alone, if there is one
-abbrev pub HasOffset : List ℕ → Fault → Option ℕ → Option ℕ → Type 0
-HasOffset bytes fault (Some offset) at = at ≡ Some (offset - mark_len bytes)
-HasOffset bytes fault None at = (names_event fault ≡ false → at ≡ None) × (names_event fault ≡ true → IsEventSpot bytes fault at)
+-- What is told of a fault is what is known of it, with places for offsets.
+pub record IsTold (bytes : List ℕ) (fault : Fault) (told : Told) : Type 0 where
+  pub spot : Spot
+  pub known : IsSpot bytes fault (offset_in fault) spot
+  pub at : told.at ≡ unwrap_or spot.at 0
+  pub place : IsPlaceOf (text_in bytes) spot.at told.place
+  pub path : told.path ≡ spot.path
+  pub words : told.words ≡ spot.words
+  pub first : IsPlaceOf (text_in bytes) spot.first told.first
 
 -- ---- a line
-
--- the file, and the line and the column if there are
-abbrev pub place_part : Option Place → List ℕ
-place_part None = []
-place_part (Some p) = codes ":" ++ (decimal p.line ++ (codes ":" ++ decimal p.column))
-
-abbrev pub head : List ℕ → Option Place → List ℕ
-head name place = terminal name ++ (place_part place ++ codes ": ")
 
 -- the number and the name of a fault
 abbrev pub called : Fault → List ℕ
@@ -87,9 +86,10 @@ abbrev pub byte_part : Option Place → ℕ → List ℕ
 byte_part None byte = []
 byte_part (Some p) byte = codes " at byte " ++ decimal byte
 
--- The line begins with the file, the place, the number, the name and the offset. What stands behind these is some text.
-abbrev pub BeginsLine : List ℕ → Fault → Option Place → ℕ → List ℕ → Type 0
-BeginsLine name fault place byte text = (more : List ℕ) × (text ≡ head name place ++ (called fault ++ (byte_part place byte ++ (codes ": " ++ more))))
+-- The first line has the file, the place, the number, the name and the offset, and then what is said.
+abbrev pub AreLines : List ℕ → List ℕ → Fault → Told → List ℕ → List ℕ → Type 0
+AreLines name bytes fault told words text =
+    (more : List ℕ) × IsExplained name (text_in bytes) told words more × (text ≡ head name told.place ++ (called fault ++ (byte_part told.place (mark_len bytes + told.at) ++ (codes ": " ++ more))))
 
 -- ---- an object of JSON
 
@@ -102,24 +102,31 @@ line_of place = option_map (λ (p : Place). p.line) place
 abbrev pub column_of : Option Place → Option ℕ
 column_of place = option_map (λ (p : Place). p.column) place
 
--- The object has the same, and some path, some words and some other place.
-pub record IsObject (name : List ℕ) (fault : Fault) (place : Option Place) (byte : Option ℕ) (text : List ℕ) : Type 0 where
-  pub path : Option (List ℕ)
-  pub words : List ℕ
-  pub first : Option Place
-  pub is : text ≡ object_line ((codes "file", text_data (Some name)) ∷ (codes "line", number_data (line_of place)) ∷ (codes "column", number_data (column_of place)) ∷ (codes "byte", number_data byte)
-      ∷ (codes "number", count_data (fault_number fault)) ∷ (codes "name", text_data (Some (fault_name fault))) ∷ (codes "path", text_data path) ∷ (codes "words", text_data (Some words))
-      ∷ (codes "first_line", number_data (line_of first)) ∷ (codes "first_column", number_data (column_of first)) ∷ [])
+-- the offset in the input, where there is a place
+abbrev pub byte_of : List ℕ → Told → Option ℕ
+byte_of bytes told = option_map (λ (p : Place). mark_len bytes + told.at) told.place
+
+-- The object has the same as the lines, but for the source line and the caret.
+abbrev pub object_text : List ℕ → Fault → Told → Option ℕ → List ℕ → List ℕ
+object_text name fault told byte words =
+    object_line ((codes "file", text_data (Some name)) ∷ (codes "line", number_data (line_of told.place)) ∷ (codes "column", number_data (column_of told.place)) ∷ (codes "byte", number_data byte)
+    ∷ (codes "number", count_data (fault_number fault)) ∷ (codes "name", text_data (Some (fault_name fault))) ∷ (codes "path", text_data (option_map string_bytes told.path)) ∷ (codes "words", text_data (Some words))
+    ∷ (codes "first_line", number_data (line_of told.first)) ∷ (codes "first_column", number_data (column_of told.first)) ∷ [])
 
 -- ---- either
 
-abbrev pub IsForm : Form → List ℕ → Fault → Option Place → ℕ → List ℕ → Type 0
-IsForm form.Line name fault place byte text = BeginsLine name fault place byte text
-IsForm form.Json name fault place byte text = IsObject name fault place (option_map (λ (p : Place). byte) place) text
+abbrev pub IsForm : Form → List ℕ → List ℕ → Fault → Told → List ℕ → List ℕ → Type 0
+IsForm form.Line name bytes fault told words text = AreLines name bytes fault told words text
+IsForm form.Json name bytes fault told words text = text ≡ object_text name fault told (byte_of bytes told) words
 
--- The text tells of this fault of a file of this name and these bytes: its number, its name and its place, in the form that is asked for.
+-- the text has what is told, and the words for it
+pub record HasTold (form : Form) (name bytes : List ℕ) (fault : Fault) (told : Told) (text : List ℕ) : Type 0 where
+  pub words : List ℕ
+  pub said : AreWords (text_in bytes) fault told words
+  pub is : IsForm form name bytes fault told words text
+
+-- The text tells of this fault of a file of this name and these bytes, in the form that is asked for: its number, its name and its place, the path of its node, what is said of it, and where the first of two equal keys is.
 pub record TellsFault (form : Form) (name bytes : List ℕ) (fault : Fault) (text : List ℕ) : Type 0 where
-  pub place : Option Place
-  pub at : ℕ
-  pub spot : IsSpot bytes fault (offset_in fault) at place
-  pub is : IsForm form name fault place (mark_len bytes + at) text
+  pub told : Told
+  pub is_told : IsTold bytes fault told
+  pub has : HasTold form name bytes fault told text

@@ -1,6 +1,9 @@
 pub mod Again
 pub mod EventPlaces
+pub mod EventSpots
+pub mod Explained
 pub mod FaultLines
+pub mod Heads
 pub mod NoJson
 pub mod Spotted
 pub mod Warned

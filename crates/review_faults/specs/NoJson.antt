@@ -2,7 +2,7 @@
 use Rattle.std.specs.Prelude.{◌≡◌, ◌≤◌, ◌++◌, ℕ, List, length, Option, IfSome}
 use Rattle.yaml_place.specs.LineModel.{IsPlace}
 use Rattle.yaml_place.specs.declared.place.Place.{Place}
-use Rattle.review_faults.specs.FaultLines.{head}
+use Rattle.review_faults.specs.Heads.{head}
 
 -- the line and the column, if there are, are those of some offset of the text
 abbrev pub IsOfText : List ℕ → Option Place → Type 0

@@ -16,7 +16,7 @@ use Rattle.review_text.specs.Terminal.{terminal}
 use Rattle.review_text.specs.Yaml11.{new_kind, older_of, IsOlder}
 use Rattle.review_text.specs.declared.yaml11.Older.{Older}
 use Rattle.review_lines.specs.Lines.{more_text}
-use Rattle.review_faults.specs.FaultLines.{head}
+use Rattle.review_faults.specs.Heads.{head}
 use Rattle.review_faults.specs.declared.warn.Warning.{Warning}
 use Rattle.review_faults.specs.declared.warn.Warnings.{Warnings}
 

@@ -1,270 +1,20 @@
-//! Where in a file a fault is.
+//! The lines of a fault, and its object of JSON.
 ghost use Rattle.std.specs.Prelude.{◌≡◌, ◌≤◌, ◌+◌, ◌++◌, ℕ, List, drop, length, option_map, IfSome, IfOk, IfErr, OnOk, string_bytes};
 ghost use Rattle.yaml_definitions.specs.model.Text.{mark_len};
-ghost use Rattle.review_faults.specs.Again.{CannotRead, CannotTell};
-ghost use Rattle.review_places.specs.Trace.{shapes_in};
-ghost use Rattle.review_faults.specs.EventPlaces.{IsEventOf, IsShownAt, IsEventSpot};
-ghost use Rattle.review_faults.specs.FaultLines.{offset_in, names_event, HasOffset, IsPlaceAt, IsSpot, head, place_part, called, byte_part, BeginsLine, line_of, column_of, IsObject, TellsFault};
+ghost use Rattle.review_faults.specs.Again.{CannotTell};
+ghost use Rattle.review_faults.specs.Explained.{path_part, IsSource, first_part, IsExplained};
+ghost use Rattle.review_faults.specs.FaultLines.{called, byte_part, line_of, column_of, object_text, HasTold, TellsFault};
+ghost use Rattle.review_faults.specs.Heads.{place_part, head};
 
+use crate::spots::{Told, find_told};
 use review_args::Form;
-use review_hints::words::words_of;
-use review_places::layout::lay_out;
 use review_places::places::{mark_len, unmarked};
-use review_places::trace::{Trace, trace_of};
-use review_places::trail::Trail;
 use review_text::fronts::{put_shown, put_source_line};
 use review_text::json::{Said, put_object, text_of};
 use review_text::put_visible;
-use review_text::tag_words::put_tag_words;
 use std::alloc::Global;
-use yaml_place::{Place, place_at};
-use yaml_read::read_events;
-use yaml_text::chars::Chars;
-use yaml_text::event::Event;
+use yaml_place::Place;
 use yaml_text::fault::Fault;
-
-/// Where a fault is, in the text behind the byte order mark.
-#[derive(Drop)]
-struct Spot {
-    at: Option<usize>,
-    /// The path of the node that a fault of an event, a document or a mapping is at.
-    path: Option<String>,
-    /// What is said of the fault, where that depends on the node.
-    words: Option<String>,
-    /// Where the first of two equal keys stands.
-    first: Option<usize>,
-}
-
-impl Spot {
-    ghost use Rattle.std.specs.Prelude.{◌≡◌};
-
-    /// A spot of which no more is known than its offset.
-    fn at(at: Option<usize>) -> Spot
-        ensures { result.at ≡ at }
-    {
-        Spot {
-            at,
-            path: None,
-            words: None,
-            first: None,
-        }
-    }
-}
-
-/// A spot with its lines and columns.
-#[derive(Drop)]
-pub(crate) struct Told {
-    pub(crate) place: Option<Place>,
-    pub(crate) at: usize,
-    pub(crate) path: Option<String>,
-    pub(crate) words: Option<String>,
-    pub(crate) first: Option<Place>,
-}
-
-impl Told {
-    /// What is said of the fault in this text.
-    pub(crate) fn words(&self, alloc: Global, fault: Fault, text: &[u8]) -> Result<String, Fault>
-        ensures err { IfErr result (λ fault. fault ≡ Fault.OutOfMemory) }
-    {
-        match &self.words {
-            Some(words) => Ok(words.clone()?),
-            None => words_of(alloc, fault, text, self.at),
-        }
-    }
-}
-
-/// The offset that a fault carries, which counts the byte order mark.
-fn offset_in(fault: Fault) -> Option<usize>
-    ensures { result ≡ offset_in fault }
-{
-    match fault {
-        Fault::NotUtf8(at)
-        | Fault::NotPrintable(at)
-        | Fault::Syntax(at)
-        | Fault::Tab(at)
-        | Fault::KeyTooLong(at)
-        | Fault::TooDeep(at)
-        | Fault::BadEscape(at)
-        | Fault::BadDirective(at)
-        | Fault::UnknownHandle(at)
-        | Fault::BadTag(at) => Some(at),
-        _ => None,
-    }
-}
-
-/// Whether a fault names an event, a document, or a node with two of its entries.
-fn names_event(fault: Fault) -> bool
-    ensures { result ≡ names_event fault }
-{
-    matches!(
-        fault,
-        Fault::UndefinedAlias(_)
-            | Fault::CyclicAlias(_)
-            | Fault::WrongKind(_)
-            | Fault::BadContent(_)
-            | Fault::IntRange(_)
-            | Fault::FloatRange(_)
-            | Fault::TooHigh(_)
-            | Fault::EqualKeys(_, _, _)
-    )
-}
-
-/// An event, if there is one, and beside it that of the first of two equal keys.
-fn beside(event: Option<usize>, first: Option<usize>) -> Option<(usize, Option<usize>)>
-    ensures { option_map (λ told. told.0) result ≡ event }
-{
-    match event {
-        Some(event) => Some((event, first)),
-        None => None,
-    }
-}
-
-/// The event at which a fault without an offset is, and that of the first of two equal keys.
-fn events_in(
-    alloc: Global,
-    fault: Fault,
-    trace: &Trace,
-) -> Result<Option<(usize, Option<usize>)>, Fault>
-    ensures event { IfOk result (λ told. IsEventOf (shapes_in trace.now.events.items) fault (option_map (λ t. t.0) told)) }
-    ensures err { IfErr result (λ fault. fault ≡ Fault.OutOfMemory) }
-{
-    match fault {
-        Fault::UndefinedAlias(event)
-        | Fault::CyclicAlias(event)
-        | Fault::WrongKind(event)
-        | Fault::BadContent(event)
-        | Fault::IntRange(event)
-        | Fault::FloatRange(event) => Ok(Some((event, None))),
-        Fault::TooHigh(document) => {
-            let layout = lay_out(alloc, trace)?;
-            Ok(beside(layout.root(document), None))
-        }
-        Fault::EqualKeys(node, first, second) => {
-            let layout = lay_out(alloc, trace)?;
-            let one = layout.part(node, first.saturating_mul(2));
-            let other = layout.part(node, second.saturating_mul(2));
-            Ok(beside(other, one))
-        }
-        _ => Ok(None),
-    }
-}
-
-/// The offset at which a fault of this event is shown: that of the node's tag where the tag is what is wrong, else that of its own
-/// text.
-fn offset_of(fault: Fault, text: &[u8], trace: &Trace, event: usize) -> Option<usize>
-    ensures { IsShownAt trace.now text.now fault event result }
-{
-    match fault {
-        Fault::WrongKind(_) | Fault::BadContent(_) => match trace.tag_offset(text, event) {
-            Some(at) => Some(at),
-            None => trace.offset(event),
-        },
-        _ => trace.offset(event),
-    }
-}
-
-/// What is said of a fault of this event, where that depends on its node.
-fn event_words(
-    alloc: Global,
-    fault: Fault,
-    event: Option<&Event<'_>>,
-) -> Result<Option<String>, Fault>
-    ensures err { IfErr result (λ fault. fault ≡ Fault.OutOfMemory) }
-{
-    match (fault, event) {
-        (Fault::WrongKind(_) | Fault::BadContent(_), Some(event)) => {
-            let mut words = String::new(alloc);
-            put_tag_words(&mut words, event)?;
-            Ok(Some(words))
-        }
-        _ => Ok(None),
-    }
-}
-
-/// The spot of a fault of an event: one more reading of the text.
-#[tactic(auto, using(crate::proofs::AgainLaws::text_refused, crate::proofs::AgainLaws::reading_refused, crate::proofs::AgainLaws::memory_alone))]
-fn spot_of_event(alloc: Global, bytes: &[u8], fault: Fault) -> Result<Spot, Fault>
-    ensures ok { IfOk result (λ spot. IsEventSpot bytes.now fault spot.at) }
-    ensures err { IfErr result (CannotRead bytes.now) }
-{
-    let source = Chars::read(bytes)?;
-    let trace = trace_of(alloc, &source)?;
-    let Some((number, first)) = events_in(alloc, fault, &trace)? else {
-        return Ok(Spot::at(None));
-    };
-    let events = read_events(alloc, &source)?;
-    let mut trail = Trail::new(alloc);
-    for (at, event) in events.iter().enumerate().take(number.saturating_add(1)) {
-        trail.take(at, event)?;
-    }
-    Ok(Spot {
-        at: offset_of(fault, unmarked(bytes), &trace, number),
-        path: Some(trail.path(alloc, &events)?),
-        words: event_words(alloc, fault, events.get(number))?,
-        first: match first {
-            Some(event) => trace.offset(event),
-            None => None,
-        },
-    })
-}
-
-/// The spot of a fault.
-#[tactic(auto, using(crate::proofs::AgainLaws::event_told))]
-fn find_spot(alloc: Global, bytes: &[u8], fault: Fault) -> Result<Spot, Fault>
-    ensures ok { IfOk result (λ spot. HasOffset bytes.now fault (offset_in fault) spot.at) }
-    ensures err { IfErr result (CannotTell bytes.now fault) }
-{
-    match offset_in(fault) {
-        Some(at) => Ok(Spot::at(Some(at.saturating_sub(mark_len(bytes))))),
-        None => {
-            if names_event(fault) {
-                spot_of_event(alloc, bytes, fault)
-            } else {
-                Ok(Spot::at(None))
-            }
-        }
-    }
-}
-
-/// The place of one offset of a text.
-pub(crate) fn place_of(text: &[u8], at: usize) -> Option<Place>
-    ensures { IsPlaceAt text.now at result }
-{
-    if at <= text.len() {
-        Some(place_at(text, at))
-    } else {
-        None
-    }
-}
-
-/// The lines and columns of a fault's spot in the text behind the byte order mark.
-pub(crate) fn find_told(alloc: Global, bytes: &[u8], fault: Fault) -> Result<Told, Fault>
-    ensures placed { IfOk result (λ told. IsSpot bytes.now fault (offset_in fault) told.at told.place) }
-    ensures err { IfErr result (CannotTell bytes.now fault) }
-{
-    let spot = find_spot(alloc, bytes, fault)?;
-    let text = unmarked(bytes);
-    let first = match spot.first {
-        Some(at) => place_of(text, at),
-        None => None,
-    };
-    match spot.at {
-        Some(at) => Ok(Told {
-            place: place_of(text, at),
-            at,
-            path: spot.path,
-            words: spot.words,
-            first,
-        }),
-        None => Ok(Told {
-            place: None,
-            at: 0,
-            path: spot.path,
-            words: spot.words,
-            first,
-        }),
-    }
-}
 
 /// Writes a line and a column, if there are.
 fn put_place(out: &mut String, place: Option<Place>) -> Result<(), Fault>
@@ -312,31 +62,61 @@ fn put_byte(out: &mut String, place: Option<Place>, byte: usize) -> Result<(), F
     Ok(())
 }
 
+/// Writes the path of a node, if there is one.
+fn put_path(out: &mut String, path: &Option<String>) -> Result<(), Fault>
+    ensures ok { OnOk result (string_bytes out.new ≡ string_bytes out.old ++ path_part (option_map string_bytes path.now)) }
+    ensures err { IfErr result (λ fault. fault ≡ Fault.OutOfMemory) }
+{
+    if let Some(path) = path {
+        put_visible(out, path)?;
+        out.push_str(": ")?;
+    }
+    Ok(())
+}
+
+/// Writes the source line and the caret, if there is a place.
+fn put_source(alloc: Global, out: &mut String, text: &[u8], told: &Told) -> Result<(), Fault>
+    requires { IfSome told.now.place (λ _. told.now.at ≤ length text.now) }
+    ensures ok { OnOk result ((shown : List ℕ) × (string_bytes out.new ≡ string_bytes out.old ++ shown) × IsSource text.now told.now.at told.now.place shown) }
+    ensures err { IfErr result (λ fault. fault ≡ Fault.OutOfMemory) }
+{
+    if told.place.is_some() {
+        put_source_line(alloc, out, text, told.at)?;
+    }
+    Ok(())
+}
+
+/// Writes where the first of two equal keys stands, if there is one.
+fn put_first(out: &mut String, name: &str, first: Option<Place>) -> Result<(), Fault>
+    ensures ok { OnOk result (string_bytes out.new ≡ string_bytes out.old ++ first_part name.now first) }
+    ensures err { IfErr result (λ fault. fault ≡ Fault.OutOfMemory) }
+{
+    if let Some(place) = first {
+        put_head(out, name, Some(place))?;
+        out.push_str("the first of the two\n")?;
+    }
+    Ok(())
+}
+
 /// What stands behind the number, the name and the offset of a fault: its path, what is said of it, the source line and the caret,
 /// and where the first of two equal keys stands.
 fn explained(
     alloc: Global,
     name: &str,
     text: &[u8],
-    fault: Fault,
+    words: &str,
     told: &Told,
 ) -> Result<String, Fault>
+    requires { IfSome told.now.place (λ _. told.now.at ≤ length text.now) }
+    ensures ok { IfOk result (λ more. IsExplained name.now text.now told.now words.now (string_bytes more)) }
     ensures err { IfErr result (λ fault. fault ≡ Fault.OutOfMemory) }
 {
     let mut out = String::new(alloc);
-    if let Some(path) = &told.path {
-        put_visible(&mut out, path)?;
-        out.push_str(": ")?;
-    }
-    out.push_str(&told.words(alloc, fault, text)?)?;
-    out.push('\n')?;
-    if told.place.is_some() {
-        put_source_line(alloc, &mut out, text, told.at)?;
-    }
-    if told.first.is_some() {
-        put_head(&mut out, name, told.first)?;
-        out.push_str("the first of the two\n")?;
-    }
+    put_path(&mut out, &told.path)?;
+    out.push_str(words)?;
+    out.push_str("\n")?;
+    put_source(alloc, &mut out, text, told)?;
+    put_first(&mut out, name, told.first)?;
     Ok(out)
 }
 
@@ -358,14 +138,16 @@ fn put_lines(
     told: &Told,
 ) -> Result<(), Fault>
     requires { IfSome told.now.place (λ _. told.now.at ≤ length (drop (mark_len bytes.now) bytes.now)) }
-    ensures ok { OnOk result ((text : List ℕ) × (string_bytes out.new ≡ string_bytes out.old ++ text) × BeginsLine name.now fault told.now.place (mark_len bytes.now + told.now.at) text) }
+    ensures ok { OnOk result ((text : List ℕ) × (string_bytes out.new ≡ string_bytes out.old ++ text) × HasTold Form.Line name.now bytes.now fault told.now text) }
     ensures err { IfErr result (λ fault. fault ≡ Fault.OutOfMemory) }
 {
     put_head(out, name, told.place)?;
     put_called(out, fault)?;
     put_byte(out, told.place, byte_of(bytes, told))?;
     out.push_str(": ")?;
-    let more = explained(alloc, name, unmarked(bytes), fault, told)?;
+    let text = unmarked(bytes);
+    let words = told.words(alloc, fault, text)?;
+    let more = explained(alloc, name, text, words.as_str(), told)?;
     out.push_str(more.as_str())?;
     Ok(())
 }
@@ -411,7 +193,7 @@ fn put_members<'t>(
     told: &'t Told,
     byte: Option<usize>,
 ) -> Result<(), Fault>
-    ensures ok { OnOk result ((text : List ℕ) × (string_bytes out.new ≡ string_bytes out.old ++ text) × IsObject name.now fault told.now.place byte text) }
+    ensures ok { OnOk result (string_bytes out.new ≡ string_bytes out.old ++ object_text name.now fault told.now byte words.now) }
     ensures err { IfErr result (λ fault. fault ≡ Fault.OutOfMemory) }
 {
     let members = [
@@ -439,7 +221,7 @@ fn put_json(
     told: &Told,
 ) -> Result<(), Fault>
     requires { IfSome told.now.place (λ _. told.now.at ≤ length (drop (mark_len bytes.now) bytes.now)) }
-    ensures ok { OnOk result ((text : List ℕ) × (string_bytes out.new ≡ string_bytes out.old ++ text) × IsObject name.now fault told.now.place (option_map (λ _. mark_len bytes.now + told.now.at) told.now.place) text) }
+    ensures ok { OnOk result ((text : List ℕ) × (string_bytes out.new ≡ string_bytes out.old ++ text) × HasTold Form.Json name.now bytes.now fault told.now text) }
     ensures err { IfErr result (λ fault. fault ≡ Fault.OutOfMemory) }
 {
     let words = told.words(alloc, fault, unmarked(bytes))?;
@@ -454,7 +236,7 @@ fn put_json(
     )
 }
 
-/// Writes what is told of a fault: its number and its name, and where it is.
+/// Writes what is told of a fault: its number and its name, where it is, the path of its node, and what is said of it.
 ///
 /// # Errors
 /// `OutOfMemory`. For a fault of an event the bytes are read again; of bytes that the reader rejects, the reader's.

@@ -3,6 +3,7 @@
 
 pub mod faults;
 pub mod no_json;
+mod spots;
 pub mod spotted;
 pub mod warn;
 

@@ -4,7 +4,8 @@ ghost use Rattle.yaml_definitions.specs.model.Text.{mark_len};
 ghost use Rattle.review_faults.specs.Again.{CannotRead};
 ghost use Rattle.review_faults.specs.NoJson.{IsOfText, BeginsSomewhere};
 
-use crate::faults::{place_of, put_head};
+use crate::faults::put_head;
+use crate::spots::place_of;
 use review_places::places::unmarked;
 use review_places::trace::{Trace, trace_of};
 use review_places::trail::Trail;

@@ -1,10 +1,9 @@
 //! A fault of a file by its parts.
-ghost use Rattle.std.specs.Prelude.{◌≡◌, drop, IfOk, IfErr};
-ghost use Rattle.yaml_definitions.specs.model.Text.{mark_len};
+ghost use Rattle.std.specs.Prelude.{◌≡◌, ◌≤◌, length, option_map, IfSome, IfOk, IfErr, string_bytes};
 ghost use Rattle.review_faults.specs.Again.{CannotTell};
-ghost use Rattle.review_faults.specs.Spotted.{IsSpotted};
+ghost use Rattle.review_faults.specs.Spotted.{IsSpotted, shown_path, IsLineOf, SpotsFault};
 
-use crate::faults::{Told, find_told};
+use crate::spots::{Told, find_told};
 use review_places::places::unmarked;
 use review_text::fronts::put_source_line;
 use review_text::put_visible;
@@ -25,6 +24,7 @@ pub struct Spotted {
 
 /// The path, with escapes for the characters that a terminal would not show.
 fn path_of(alloc: Global, told: &Told) -> Result<Option<String>, Fault>
+    ensures ok { IfOk result (λ path. option_map string_bytes path ≡ shown_path told.now) }
     ensures err { IfErr result (λ fault. fault ≡ Fault.OutOfMemory) }
 {
     let Some(path) = &told.path else {
@@ -37,6 +37,8 @@ fn path_of(alloc: Global, told: &Told) -> Result<Option<String>, Fault>
 
 /// The source line of a place, if there is one.
 fn line_of(alloc: Global, text: &[u8], told: &Told) -> Result<Option<String>, Fault>
+    requires { IfSome told.now.place (λ _. told.now.at ≤ length text.now) }
+    ensures ok { IfOk result (λ line. IsLineOf text.now told.now.at told.now.place (option_map string_bytes line)) }
     ensures err { IfErr result (λ fault. fault ≡ Fault.OutOfMemory) }
 {
     if told.place.is_none() {
@@ -51,9 +53,10 @@ fn line_of(alloc: Global, text: &[u8], told: &Told) -> Result<Option<String>, Fa
 ///
 /// # Errors
 /// `OutOfMemory`. For a fault of an event the bytes are read again; of bytes that the reader rejects, the reader's.
-#[tactic(auto, using(crate::proofs::AgainLaws::memory_told))]
+#[tactic(auto, using(crate::proofs::AgainLaws::memory_told, crate::proofs::SpotLaws::told_within))]
 pub fn spot_fault(alloc: Global, bytes: &[u8], fault: Fault) -> Result<Spotted, Fault>
     ensures ok { IfOk result (λ spotted. IsSpotted bytes.now fault spotted.place) }
+    ensures told { IfOk result (SpotsFault bytes.now fault) }
     ensures err { IfErr result (CannotTell bytes.now fault) }
 {
     let text = unmarked(bytes);

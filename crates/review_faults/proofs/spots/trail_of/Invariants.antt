@@ -1,0 +1,9 @@
+use Rattle.std.proofs.Common.{◌≡◌, map, take}
+use Rattle.std.specs.List.{count_by}
+use Rattle.yaml_text.specs.EventModel.{event_of}
+use Rattle.review_places.specs.Trails.{documents_before}
+use Rattle.review_faults.specs.EventSpots.{ends_document}
+use Rattle.review_faults.proofs.spots.trail_of.Given as goal
+
+abbrev pub invariant-loop-at : goal.invariant-loop-at
+invariant-loop-at l = documents_before l.trail ≡ count_by ends_document (map event_of (take l.at l.events))

@@ -1,0 +1,68 @@
+-- What is known of a fault of an event: where it is, the path of its node, what is said of its tag, and where the first of two equal keys is.
+use Rattle.std.specs.Prelude.{◌≡◌, ◌+◌, ℕ, Bool, true, false, take, drop, List, Option, Some, None, MatchOption, IsSomeAnd, option_map, option_and_then, slice_get, string_bytes}
+use Rattle.std.specs.List.{count_by}
+use Rattle.yaml_definitions.specs.grammar.Reading.{Reads}
+use Rattle.yaml_definitions.specs.model.Event.{Event, stream_start, stream_end, document_start, document_end, sequence_start, sequence_end, mapping_start, mapping_end, scalar_event, alias_event}
+use Rattle.yaml_definitions.specs.model.Text.{mark_len}
+use Rattle.yaml_text.specs.declared.fault.Fault.{Fault}
+use Rattle.yaml_text.specs.declared.fault.Fault.TheVariants as faults
+use Rattle.review_places.specs.Trace.{TraceHolds, shapes_in}
+use Rattle.review_places.specs.Trails.{documents_before, path_of}
+use Rattle.review_places.specs.declared.trace.Trace.{Trace}
+use Rattle.review_places.specs.declared.trail.Trail.{Trail}
+use Rattle.review_text.specs.TagWords.{tag_words}
+use Rattle.review_faults.specs.EventPlaces.{IsEventOf, IsFirstOf, IsShownAt, noted_offset}
+use Rattle.review_faults.specs.declared.spots.Spot.{Spot}
+
+-- ---- the path
+
+abbrev pub ends_document : Event → Bool
+ends_document (document_end explicit) = true
+ends_document stream_start = false
+ends_document stream_end = false
+ends_document (document_start explicit) = false
+ends_document (sequence_start flow a t) = false
+ends_document (mapping_start flow a t) = false
+ends_document sequence_end = false
+ends_document mapping_end = false
+ends_document (scalar_event a t style text) = false
+ends_document (alias_event name) = false
+
+-- The path that a trail of these events tells when as many documents have ended as end up to this event. Which collections the trail has open, its contract leaves open.
+pub record IsPathAt (events : List Event) (event : ℕ) (path : List ℕ) : Type 0 where
+  pub trail : Trail
+  pub document : documents_before trail ≡ count_by ends_document (take (event + 1) events)
+  pub is : path ≡ path_of trail events
+
+-- ---- the words
+
+-- what is said of an event with a tag that is not for it; nothing of another fault
+abbrev pub fault_words : Fault → Option Event → Option (List ℕ)
+fault_words (faults.WrongKind number) (Some event) = Some (tag_words event)
+fault_words (faults.BadContent number) (Some event) = Some (tag_words event)
+fault_words _ _ = None
+
+-- ---- all of it
+
+-- it has no node
+abbrev pub HasNoNode : Spot → Type 0
+HasNoNode spot = (spot.path ≡ None) × (spot.words ≡ None) × (spot.first ≡ None)
+
+-- What is known of a fault of this event: where it is shown, the path of its node, what is said of its tag, and the offset that was noted at the first of two equal keys.
+pub record IsSpotAt (trace : Trace) (events : List Event) (text : List ℕ) (fault : Fault) (event : ℕ) (spot : Spot) : Type 0 where
+  pub shown : IsShownAt trace text fault event spot.at
+  pub path : IsSomeAnd spot.path (λ path. IsPathAt events event (string_bytes path))
+  pub words : option_map string_bytes spot.words ≡ fault_words fault (slice_get events event)
+  pub key : Option ℕ
+  pub of_key : IsFirstOf (shapes_in trace.events.items) fault key
+  pub first : spot.first ≡ option_and_then (noted_offset trace) key
+
+-- The bytes are read to events that a trace holds, and of these the fault is at one. Nothing is known if it is at no event.
+pub record IsEventSpot (bytes : List ℕ) (fault : Fault) (spot : Spot) : Type 0 where
+  pub trace : Trace
+  pub events : List Event
+  pub reads : Reads bytes events
+  pub holds : TraceHolds trace events
+  pub event : Option ℕ
+  pub is : IsEventOf (shapes_in trace.events.items) fault event
+  pub known : MatchOption event ((spot.at ≡ None) × HasNoNode spot) (λ e. IsSpotAt trace events (drop (mark_len bytes) bytes) fault e spot)
