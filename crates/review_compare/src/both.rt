@@ -39,10 +39,7 @@ pub fn fault_of(alloc: Global, bytes: &[u8]) -> Option<Fault>
 /// The nodes of both streams in one graph, equal ones mostly merged, ranked.
 ///
 /// The left side stands for want of memory, and for two equal keys of either side.
-pub(crate) fn merged<'f>(
-    alloc: Global,
-    forests: &'f BothForests<'_>,
-) -> Result<Both<'f>, Side>
+pub(crate) fn merged<'f>(alloc: Global, forests: &'f BothForests<'_>) -> Result<Both<'f>, Side>
     requires { (left right : List ℕ) × HasBoth left right forests.now }
     ensures { (left right : List ℕ) → HasBoth left right forests.now → IfOk result (BothAre left right) }
 {
