@@ -19,6 +19,7 @@ use Rattle.review_merge.specs.Merges.{MergeTells}
 use Rattle.review_merge.specs.Refusals.{MergeRefuses}
 use Rattle.review_merge.specs.declared.merge.Names.{Names}
 use Rattle.review_merge.specs.declared.merge.NoMerge.{NoMerge}
+use Rattle.review_merge.specs.declared.print.Print.{Print}
 use Rattle.review_args.specs.declared.words.Warn.{Warn}
 use Rattle.yaml_sum.specs.Asks.{SumTells}
 use Rattle.yaml_sum.specs.declared.asked.Asked.{Asked as SumAsked}
@@ -53,6 +54,13 @@ pub record AsksMerge (asked : Merge) (names : Names) : Type 0 where
   pub ours : names.ours.now ≡ asked.ours.now
   pub theirs : names.theirs.now ≡ asked.theirs.now
   pub result : names.result ≡ asked.result
+
+-- so many lines are printed of a merge, with this in each of them
+pub record AsksPrint (asked : Merge) (print : Print) : Type 0 where
+  pub lines : print.lines ≡ asked.lines
+  pub places : print.places ≡ asked.places
+  pub whole : print.whole ≡ asked.whole
+  pub color : print.color ≡ asked.color
 
 module _ {R W E : Type 0} (holds : List ℕ → Option (List ℕ)) (remaining : R → Option (List ℕ)) (contents : W → Option (List ℕ)) (told : E → Option (List ℕ)) where
   -- what is told of files, by some state of the reader and of the writer, no call of which had failed
@@ -130,12 +138,14 @@ module _ {R W E : Type 0} (holds : List ℕ → Option (List ℕ)) (remaining : 
   pub record MergeRuns (asked : Merge) (input : R) (out : W) (err : E) (status : ℕ) : Type 0 where
     pub names : Names
     pub asks : AsksMerge asked names
+    pub print : Print
+    pub prints : AsksPrint asked print
     pub end : R
     pub old : Counted W
     pub new : Counted W
     pub writer : inner_of old ≡ out
     pub no_write : faults_of old ≡ 0
-    pub ends : MergeTells holds remaining contents names input end old new status ⊎ MergeNone names input end old new err status
+    pub ends : MergeTells holds remaining contents names print input end old new status ⊎ MergeNone names input end old new err status
 
   -- What the commands do.
   abbrev pub Does : Asked → R → W → E → ℕ → Type 0

@@ -7,7 +7,7 @@ ghost use Rattle.review_command.specs.Commands.{CommandEnds, FoldersEnd, HostDoe
 ghost use Rattle.review_command.specs.Gits.{GitEnds};
 ghost use Rattle.review_files.specs.Lines.{TakesLine};
 ghost use Rattle.review_command.specs.Rejections.{no_diff_status, no_diff_line, no_merge_line};
-ghost use Rattle.review_command.specs.Runs.{DiffRuns, PageRuns, ReportsTell, PagesTell, MergeRuns, AsksSum, SumRuns, is_unnamed, AsksMerge, Does};
+ghost use Rattle.review_command.specs.Runs.{DiffRuns, PageRuns, ReportsTell, PagesTell, MergeRuns, AsksSum, SumRuns, is_unnamed, AsksMerge, AsksPrint, Does};
 ghost use Rattle.review_merge.specs.Merges.{no_merge_status};
 
 use crate::diff::{NoDiff, diff, diff_page};
@@ -96,7 +96,9 @@ fn merge_names<'a>(asked: &Merge<'a>) -> Names<'a>
 }
 
 /// What is printed of a merge.
-fn merge_print(asked: &Merge<'_>) -> Print {
+fn merge_print(asked: &Merge<'_>) -> Print
+    ensures { AsksPrint asked.now result }
+{
     Print {
         lines: asked.lines,
         places: asked.places,

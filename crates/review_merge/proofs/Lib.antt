@@ -1,3 +1,9 @@
+mod BorderLaws
 pub mod FourLaws
 pub mod JudgeLaws
+mod LineLaws
+mod PartLaws
+mod PlaceLaws
 pub mod RefusalLaws
+mod SeatLaws
+mod TextLaws

@@ -1,5 +1,5 @@
 -- What `merge3` promises.
-use Rattle.std.specs.Prelude.{◌≡◌, ℕ, Bool, true, false, cond, List, [], Option, Some, None}
+use Rattle.std.specs.Prelude.{◌≡◌, ℕ, zero, suc, Bool, true, false, cond, List, [], Option, Some, None}
 use Rattle.std.specs.Option.{is_some, option_map}
 use Rattle.yaml_definitions.specs.model.Tree.{Tree}
 use Rattle.yaml_definitions.specs.model.Means.{Means}
@@ -8,7 +8,15 @@ use Rattle.yaml_text.specs.Writers.{Printed}
 use Rattle.yaml_merge.specs.Merge.{IsMerge, IsKeyed}
 use Rattle.review_files.specs.Named.{ReadsNamed}
 use Rattle.review_files.specs.Statuses.{fault_status}
-use Rattle.review_merge.specs.Judged.{stream_of}
+use Rattle.yaml_conflicts.specs.Streams.{FindsStreams}
+use Rattle.yaml_conflicts.specs.declared.streams.Roots.{Roots}
+use Rattle.yaml_conflicts.specs.declared.streams.Outcome.{Outcome}
+use Rattle.review_merge.specs.Four.{FourAre}
+use Rattle.review_merge.specs.Judged.{stream_of, verdict, RootsAre}
+use Rattle.review_merge.specs.Lines.{sides_of, IsOutcomeText}
+use Rattle.review_merge.specs.declared.four.Four.{Four}
+use Rattle.review_merge.specs.declared.print.Print.{Print}
+use Rattle.review_merge.specs.declared.lines.Sources.{Sources}
 use Rattle.review_merge.specs.declared.merge.Names.{Names}
 use Rattle.review_merge.specs.declared.merge.Bytes.{Bytes}
 use Rattle.review_merge.specs.declared.merge.NoMerge.{NoMerge}
@@ -39,6 +47,22 @@ pub record TellsMerge (given : Bool) (base ours theirs result : List ℕ) (answe
   pub result_means : Means result m
   pub says : Says given b o t m answer
 
+-- no text where no line is asked for, and else that of the outcome
+abbrev pub IsAskedText : ℕ → Type 0 → List ℕ → Type 0
+IsAskedText zero is text = text ≡ []
+IsAskedText (suc lines) is text = is
+
+-- The text is that of what is found in the four streams, and the answer says whether something is.
+pub record IsMergeText (given : Bool) (print : Print) (base ours theirs result : List ℕ) (answer : Option Bool) (text : List ℕ) : Type 0 where
+  pub four : Four
+  pub roots : Roots
+  pub outcome : Outcome
+  pub are : FourAre base ours theirs result four
+  pub roots_are : RootsAre four given roots
+  pub finds : FindsStreams four.both.graph given roots outcome
+  pub judged : answer ≡ verdict outcome
+  pub is : IsAskedText print.lines (IsOutcomeText four.both print given roots (sides_of roots base ours theirs (cond given (Some result) None)) outcome text) text
+
 -- ---- files
 
 module _ {R : Type 0} (holds : List ℕ → Option (List ℕ)) (remaining : R → Option (List ℕ)) where
@@ -57,14 +81,15 @@ module _ {R : Type 0} (holds : List ℕ → Option (List ℕ)) (remaining : R �
     pub theirs : ReadsNamed holds remaining names.theirs.now two three bytes.theirs.items
     pub result : ReadsResult (option_map (λ name. name.now) names.result) three new bytes.result.items
 
-  -- The files of these names were read, and the status is 0 if there is a merge of them, or the result is it, and else 1. Some text was written.
-  pub record MergeTells {W : Type 0} (contents : W → Option (List ℕ)) (names : Names) (input end : R) (old new : Counted W) (status : ℕ) : Type 0 where
+  -- The files of these names were read, and the status is 0 if there is a merge of them, or the result is it, and else 1. What was found is written.
+  pub record MergeTells {W : Type 0} (contents : W → Option (List ℕ)) (names : Names) (print : Print) (input end : R) (old new : Counted W) (status : ℕ) : Type 0 where
     pub bytes : Bytes
     pub read : HaveBytes names input end bytes
     pub answer : Bool
     pub tells : TellsMerge (is_some names.result) bytes.base.items bytes.ours.items bytes.theirs.items bytes.result.items (Some answer)
     pub told : status ≡ cond answer 0 1
     pub text : List ℕ
+    pub shows : IsMergeText (is_some names.result) print bytes.base.items bytes.ours.items bytes.theirs.items bytes.result.items (Some answer) text
     pub printed : Printed contents old new text
 
 -- the status of each reason why nothing is said
@@ -72,3 +97,10 @@ abbrev pub no_merge_status : NoMerge → ℕ
 no_merge_status no.OneInput = 3
 no_merge_status (no.Told text status) = status
 no_merge_status (no.Fault fault) = fault_status fault
+
+-- the bytes whose nodes have places
+pub record HasSources (bytes : Bytes) (given : Bool) (sources : Sources) : Type 0 where
+  pub base : sources.base.now ≡ bytes.base.items
+  pub ours : sources.ours.now ≡ bytes.ours.items
+  pub theirs : sources.theirs.now ≡ bytes.theirs.items
+  pub result : option_map (λ it. it.now) sources.result ≡ cond given (Some bytes.result.items) None

@@ -1,5 +1,6 @@
 //! What is found of four streams.
 ghost use Rattle.std.specs.Prelude.{◌≡◌, ℕ, cond, List, IfOk};
+ghost use Rattle.yaml_conflicts.specs.Streams.{FindsStreams};
 ghost use Rattle.review_merge.specs.Four.{FourAre};
 ghost use Rattle.review_merge.specs.Merges.{Says};
 ghost use Rattle.review_merge.specs.Judged.{verdict, RootsAre};
@@ -54,14 +55,16 @@ pub(crate) fn roots_of<'f>(four: &'f Four<'_>, given: bool) -> Roots<'f>
 pub(crate) fn judge(
     alloc: Global,
     four: &Four<'_>,
+    roots: &Roots<'_>,
     given: bool,
     room: Room,
 ) -> Result<Outcome, Fault>
-    requires { (base ours theirs other : List ℕ) × FourAre base ours theirs other four.now }
-    ensures { (base ours theirs other : List ℕ) (are : FourAre base ours theirs other four.now) → IfOk result (λ outcome. Says given are.bases are.ours are.theirs are.others (verdict outcome)) }
+    requires four { (base ours theirs other : List ℕ) × FourAre base ours theirs other four.now }
+    requires roots { RootsAre four.now given roots.now }
+    ensures finds { IfOk result (FindsStreams four.now.both.graph given roots.now) }
+    ensures says { (base ours theirs other : List ℕ) (are : FourAre base ours theirs other four.now) → IfOk result (λ outcome. Says given are.bases are.ours are.theirs are.others (verdict outcome)) }
 {
     let graph = &four.both.graph;
     let ranks = &four.both.ranks;
-    let roots = roots_of(four, given);
-    stream_conflicts(alloc, graph, ranks, &roots, given, room)
+    stream_conflicts(alloc, graph, ranks, roots, given, room)
 }

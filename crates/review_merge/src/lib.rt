@@ -8,6 +8,7 @@ pub mod merge;
 pub mod print;
 mod seats;
 mod texts;
+mod told;
 
 pub use merge::{Names, NoMerge, merge3};
 pub use print::Print;

@@ -1,81 +1,152 @@
 //! The lines of conflicts.
+ghost use Rattle.std.specs.Prelude.{◌≡◌, ◌++◌, ℕ, List, Option, cond, [], map, length, unwrap_or, string_bytes, OnOk, IfOk, IfErr};
+ghost use Rattle.std.specs.Option.{is_some, option_map};
+ghost use Rattle.std.specs.List.{slice_get, enumerate_from};
 ghost use Rattle.yaml_rank.specs.RanksView.{RanksAre};
+ghost use Rattle.yaml_diff.specs.Lines.{way_of};
+ghost use Rattle.yaml_place.specs.declared.place.Place.{Place};
+ghost use Rattle.review_text.specs.PathText.{path_text};
+ghost use Rattle.review_merge.specs.declared.told.Seats.{Seats};
+ghost use Rattle.review_merge.specs.Parts.{values_in, ShowsValues, budget};
+ghost use Rattle.review_merge.specs.Placed.{Each, Tells, HasSeats, HasAsked};
+ghost use Rattle.review_merge.specs.Lines.{sign, color_text, side_name, value_text, value_column, values_text, place_text, places_text, column, line_text, count_text, result_count_text, streams_text, shown_step, steps_of, nodes_of, AreLines, is_numbered, result_side, sides_in, IsListText, IsOutcomeText, more_text, IsStyled};
 
 use crate::four::Four;
 use crate::print::Print;
-use crate::seats::{Seats, seats_of};
+use crate::seats::seats_of;
 use crate::texts::{Budget, texts_of};
+use crate::told::Seats;
 use review_text::path::path_text;
 use review_text::{Both, put_visible};
 use std::alloc::Global;
-use yaml_conflicts::{Conflict, Found, Outcome, Roots, Step};
+use yaml_conflicts::{Conflict, Outcome, Roots, Step};
 use yaml_diff::Step as Shown;
+use yaml_graph::node::NodeId;
 use yaml_path::places::Places;
+use yaml_place::Place;
 use yaml_text::fault::Fault;
 
 /// What stands behind lines that are not all.
 const MORE: &str = "...\n";
 
-/// What the values of a line are called.
-const NAMES: [&str; 4] = ["base", "ours", "theirs", "result"];
-
 /// What turns the colour of a terminal off.
 const PLAIN: &str = "\u{1b}[0m";
 
 /// What a line begins with: a conflict, or a place at which the result is not the merge.
-fn sign(given: bool) -> &'static str {
+fn sign(given: bool) -> &'static str
+    ensures { result.now ≡ sign given }
+{
     if given { "~" } else { "!" }
 }
 
 /// What turns the colour of a line on: red for a conflict, and yellow.
-fn color(given: bool) -> &'static str {
+fn color(given: bool) -> &'static str
+    ensures { result.now ≡ color_text given }
+{
     if given { "\u{1b}[33m" } else { "\u{1b}[31m" }
 }
 
 /// A text, if it is asked for.
-fn put_if(out: &mut String, is_asked: bool, text: &str) -> Result<(), Fault> {
+fn put_if(out: &mut String, is_asked: bool, text: &str) -> Result<(), Fault>
+    ensures ok { OnOk result (string_bytes out.new ≡ string_bytes out.old ++ cond is_asked text.now []) }
+    ensures err { IfErr result (λ fault. fault ≡ Fault.OutOfMemory) }
+{
     if is_asked {
         out.push_str(text)?;
     }
     Ok(())
 }
 
+/// What the values of a line are called.
+fn name_of(number: usize) -> &'static str
+    ensures { result.now ≡ side_name number }
+{
+    match number {
+        0 => "base",
+        1 => "ours",
+        2 => "theirs",
+        3 => "result",
+        _ => "",
+    }
+}
+
+/// The text of a side's node, or that there is none.
+fn put_value(out: &mut String, text: &Option<String>) -> Result<(), Fault>
+    ensures ok { OnOk result (string_bytes out.new ≡ string_bytes out.old ++ value_text (option_map string_bytes text.now)) }
+    ensures err { IfErr result (λ fault. fault ≡ Fault.OutOfMemory) }
+{
+    match text {
+        Some(text) => put_visible(out, text)?,
+        None => out.push_str("absent")?,
+    }
+    Ok(())
+}
+
+/// A column: whose value it is, and its text, or that there is none.
+fn put_column(out: &mut String, number: usize, text: &Option<String>) -> Result<(), Fault>
+    ensures ok { OnOk result (string_bytes out.new ≡ string_bytes out.old ++ value_column (number, option_map string_bytes text.now)) }
+    ensures err { IfErr result (λ fault. fault ≡ Fault.OutOfMemory) }
+{
+    out.push('\t')?;
+    out.push_str(name_of(number))?;
+    out.push(' ')?;
+    put_value(out, text)
+}
+
 /// Columns: whose value each is, and its text, or that there is none.
-fn put_values(out: &mut String, texts: &[Option<String>]) -> Result<(), Fault> {
-    for (number, text) in texts.iter().enumerate() {
-        out.push('\t')?;
-        out.push_str(NAMES.get(number).unwrap_or(&""))?;
-        out.push(' ')?;
-        match text {
-            Some(text) => put_visible(out, text)?,
-            None => out.push_str("absent")?,
-        }
+fn put_values(out: &mut String, texts: &[Option<String>]) -> Result<(), Fault>
+    ensures ok { OnOk result (string_bytes out.new ≡ string_bytes out.old ++ values_text (values_in texts.now)) }
+    ensures err { IfErr result (λ fault. fault ≡ Fault.OutOfMemory) }
+{
+    'texts: for (number, text) in texts.iter().enumerate() {
+        put_column(out, number, text)?;
+    }
+    Ok(())
+}
+
+/// A column with a place, which is empty where there is none.
+fn put_place(out: &mut String, place: Option<Place>) -> Result<(), Fault>
+    ensures ok { OnOk result (string_bytes out.new ≡ string_bytes out.old ++ column (place_text place)) }
+    ensures err { IfErr result (λ fault. fault ≡ Fault.OutOfMemory) }
+{
+    out.push('\t')?;
+    if let Some(place) = place {
+        let line = place.line;
+        let column = place.column;
+        write!(out, "{line}:{column}")?;
     }
     Ok(())
 }
 
 /// A column with the place of each value of a line, which is empty where there is none.
-fn put_places(out: &mut String, seats: &[Seats], number: usize) -> Result<(), Fault> {
-    for side in seats {
-        out.push('\t')?;
-        if let Some(place) = side.place(number) {
-            let line = place.line;
-            let column = place.column;
-            write!(out, "{line}:{column}")?;
-        }
+fn put_places(out: &mut String, seats: &[Seats], number: usize) -> Result<(), Fault>
+    ensures ok { OnOk result ((places : List (Option Place)) × Tells number seats.now places × (string_bytes out.new ≡ string_bytes out.old ++ places_text places)) }
+    ensures err { IfErr result (λ fault. fault ≡ Fault.OutOfMemory) }
+{
+    'seats: for side in seats {
+        put_place(out, side.place(number))?;
     }
     Ok(())
 }
 
+/// A step of a path as `diff` has it.
+fn shown_step(step: Step) -> Shown
+    ensures { result ≡ shown_step step }
+{
+    match step {
+        Step::Item(place) => Shown::Item(Places::Both(place, place)),
+        Step::Value(key) => Shown::Value(key),
+    }
+}
+
 /// The steps of a path as `diff` has them.
-fn shown_steps(alloc: Global, path: &[Step]) -> Result<Vec<Shown>, Fault> {
+fn shown_steps(alloc: Global, path: &[Step]) -> Result<Vec<Shown>, Fault>
+    ensures ok { IfOk result (λ list. list.items ≡ map shown_step path.now) }
+    ensures err { IfErr result (λ fault. fault ≡ Fault.OutOfMemory) }
+{
     let mut list = Vec::new(alloc);
-    for step in path {
-        let shown = match *step {
-            Step::Item(place) => Shown::Item(Places::Both(place, place)),
-            Step::Value(key) => Shown::Value(key),
-        };
-        list.push(shown)?;
+    'steps: for step in path {
+        list.push(shown_step(*step))?;
     }
     Ok(list)
 }
@@ -101,6 +172,8 @@ fn values_of(
     budget: &mut Budget,
 ) -> Result<Vec<Option<String>>, Fault>
     requires ranked { RanksAre both.now.graph both.now.ranks }
+    ensures ok { IfOk result (λ texts. ShowsValues both.now.graph (nodes_of style.now.given one.now.sides) budget.old.bytes budget.new.bytes (values_in texts.items) style.now.print.whole) }
+    ensures err { IfErr result (λ fault. fault ≡ Fault.OutOfMemory) }
 {
     let sides = one.sides;
     let whole = style.print.whole;
@@ -119,7 +192,10 @@ fn put_line(
     values: &[Option<String>],
     style: &Style,
     number: usize,
-) -> Result<(), Fault> {
+) -> Result<(), Fault>
+    ensures ok { OnOk result ((places : List (Option Place)) × Tells number style.now.seats.items places × (string_bytes out.new ≡ string_bytes out.old ++ line_text style.now.given style.now.print.color path.now (values_in values.now) places)) }
+    ensures err { IfErr result (λ fault. fault ≡ Fault.OutOfMemory) }
+{
     put_if(out, style.print.color, color(style.given))?;
     out.push_str(sign(style.given))?;
     out.push('\t')?;
@@ -132,9 +208,23 @@ fn put_line(
 }
 
 /// How many documents a stream has.
-fn put_count(out: &mut String, whose: &str, count: usize) -> Result<(), Fault> {
+fn put_count(out: &mut String, whose: &str, count: usize) -> Result<(), Fault>
+    ensures ok { OnOk result (string_bytes out.new ≡ string_bytes out.old ++ count_text whose.now count) }
+    ensures err { IfErr result (λ fault. fault ≡ Fault.OutOfMemory) }
+{
     let unit = if count == 1 { "document" } else { "documents" };
     write!(out, "\t{whose} {count} {unit}")?;
+    Ok(())
+}
+
+/// How many documents the result has, if there is one.
+fn put_result_count(out: &mut String, given: bool, count: usize) -> Result<(), Fault>
+    ensures ok { OnOk result (string_bytes out.new ≡ string_bytes out.old ++ result_count_text given count) }
+    ensures err { IfErr result (λ fault. fault ≡ Fault.OutOfMemory) }
+{
+    if given {
+        put_count(out, "result", count)?;
+    }
     Ok(())
 }
 
@@ -144,60 +234,103 @@ fn put_streams(
     roots: &Roots<'_>,
     given: bool,
     is_colored: bool,
-) -> Result<(), Fault> {
+) -> Result<(), Fault>
+    ensures ok { OnOk result (string_bytes out.new ≡ string_bytes out.old ++ streams_text given is_colored roots.now) }
+    ensures err { IfErr result (λ fault. fault ≡ Fault.OutOfMemory) }
+{
     put_if(out, is_colored, color(given))?;
     out.push_str(sign(given))?;
     out.push('\t')?;
     put_count(out, "base", roots.base.len())?;
     put_count(out, "ours", roots.ours.len())?;
     put_count(out, "theirs", roots.theirs.len())?;
-    if given {
-        put_count(out, "result", roots.merge.len())?;
-    }
+    put_result_count(out, given, roots.merge.len())?;
     put_if(out, is_colored, PLAIN)?;
     out.push('\n')?;
     Ok(())
 }
 
 /// The paths of conflicts as `diff` has them.
-fn paths_of(alloc: Global, list: &[Conflict]) -> Result<Vec<Vec<Shown>>, Fault> {
+fn paths_of(alloc: Global, list: &[Conflict]) -> Result<Vec<Vec<Shown>>, Fault>
+    ensures ok { IfOk result (λ paths. map (λ path. path.items) paths.items ≡ map steps_of list.now) }
+    ensures err { IfErr result (λ fault. fault ≡ Fault.OutOfMemory) }
+{
     let mut paths = Vec::new(alloc);
-    for one in list {
+    'list: for one in list {
         paths.push(shown_steps(alloc, &one.path)?)?;
     }
     Ok(paths)
 }
 
-/// The lines of the places in documents, and `...` if they are not all.
-fn put_lines(
+/// The path of this number.
+fn path_at<'p>(paths: &'p [Vec<Shown>], number: usize) -> &'p [Shown]
+    ensures { result.now ≡ unwrap_or (slice_get (map (λ path. path.items) paths.now) number) [] }
+{
+    match paths.get(number) {
+        Some(path) => path.as_slice(),
+        None => &[],
+    }
+}
+
+/// The line of a conflict, to which these steps lead.
+fn put_conflict(
     alloc: Global,
     out: &mut String,
     both: &Both<'_>,
-    found: &Found,
-    paths: &[Vec<Shown>],
+    one: (usize, &Conflict),
+    steps: &[Shown],
     style: &Style,
+    budget: &mut Budget,
 ) -> Result<(), Fault>
     requires ranked { RanksAre both.now.graph both.now.ranks }
+    requires steps { steps.now ≡ steps_of one.1.now }
+    ensures ok { OnOk result ((text : List ℕ) × IsStyled both.now style.now (one.entry.0, one.entry.1.now) budget.old.bytes budget.new.bytes text × (string_bytes out.new ≡ string_bytes out.old ++ text)) }
+    ensures err { IfErr result (λ fault. fault ≡ Fault.OutOfMemory) }
 {
-    let mut budget = Budget::new();
-    for (number, one) in found.list.iter().enumerate() {
-        let steps = paths
-            .get(number)
-            .map_or(&[] as &[Shown], |path| path.as_slice());
-        let path = path_text(alloc, both, steps, style.numbered)?;
-        let values = values_of(alloc, both, one, style, &mut budget)?;
-        put_line(out, &path, &values, style, number)?;
-    }
-    if !found.whole {
+    let path = path_text(alloc, both, steps, style.numbered)?;
+    let values = values_of(alloc, both, one.1, style, budget)?;
+    put_line(out, &path, &values, style, one.0)
+}
+
+/// That there are more lines, unless these are all.
+fn put_more(out: &mut String, whole: bool) -> Result<(), Fault>
+    ensures ok { OnOk result (string_bytes out.new ≡ string_bytes out.old ++ more_text whole) }
+    ensures err { IfErr result (λ fault. fault ≡ Fault.OutOfMemory) }
+{
+    if !whole {
         out.push_str(MORE)?;
     }
     Ok(())
 }
 
+/// The lines of the places in documents.
+fn put_lines(
+    alloc: Global,
+    out: &mut String,
+    both: &Both<'_>,
+    list: &[Conflict],
+    paths: &[Vec<Shown>],
+    style: &Style,
+) -> Result<(), Fault>
+    requires ranked { RanksAre both.now.graph both.now.ranks }
+    requires paths { map (λ path. path.items) paths.now ≡ map steps_of list.now }
+    ensures ok { OnOk result ((text : List ℕ) × AreLines (IsStyled both.now style.now) (enumerate_from 0 list.now) budget text × (string_bytes out.new ≡ string_bytes out.old ++ text)) }
+    ensures err { IfErr result (λ fault. fault ≡ Fault.OutOfMemory) }
+{
+    let mut budget = Budget::new();
+    'list: for (number, one) in list.iter().enumerate() {
+        let steps = path_at(paths, number);
+        put_conflict(alloc, out, both, (number, one), steps, style, &mut budget)?;
+    }
+    Ok(())
+}
+
 /// Whether paths have the number of the document: unless each stream has one.
-fn is_numbered(roots: &Roots<'_>) -> bool {
-    roots.base.len() != 1
-        || (roots.ours.len() != 1 || (roots.theirs.len() != 1 || roots.merge.len() != 1))
+fn is_numbered(roots: &Roots<'_>) -> bool
+    ensures { result ≡ is_numbered roots.now }
+{
+    !(roots.base.len() == 1
+        && (roots.ours.len() == 1 && (roots.theirs.len() == 1 && roots.merge.len() == 1)))
 }
 
 /// The bytes of the base, of ours, of theirs and of the result, if it is given.
@@ -209,6 +342,27 @@ pub(crate) struct Sources<'b> {
     pub(crate) result: Option<&'b [u8]>,
 }
 
+/// Adds where the nodes of the result are, if there is one.
+fn add_result(
+    alloc: Global,
+    both: &Both<'_>,
+    roots: &[NodeId],
+    bytes: Option<&[u8]>,
+    paths: &[Vec<Shown>],
+    seats: &mut Vec<Seats>,
+) -> Result<(), Fault>
+    ensures { OnOk result ((more : List Seats) × Each (HasSeats both.now (map (λ path. path.items) paths.now)) (result_side roots.now (option_map (λ it. it.now) bytes.entry)) more × (seats.new.items ≡ seats.old.items ++ more)) }
+{
+    match bytes {
+        Some(bytes) => {
+            let one = seats_of(alloc, both, roots, bytes, paths)?;
+            seats.push(one)?;
+            Ok(())
+        }
+        None => Ok(()),
+    }
+}
+
 /// Where the nodes of each side are, by the paths that lead to them.
 fn all_seats(
     alloc: Global,
@@ -216,43 +370,75 @@ fn all_seats(
     roots: &Roots<'_>,
     sources: Sources<'_>,
     paths: &[Vec<Shown>],
-) -> Result<Vec<Seats>, Fault> {
+) -> Result<Vec<Seats>, Fault>
+    ensures { IfOk result (λ seats. Each (HasSeats both.now (map (λ path. path.items) paths.now)) (sides_in roots.now sources.entry) seats.items) }
+{
     let mut seats = Vec::new(alloc);
-    seats.push(seats_of(alloc, both, roots.base, sources.base, paths)?)?;
-    seats.push(seats_of(alloc, both, roots.ours, sources.ours, paths)?)?;
-    seats.push(seats_of(alloc, both, roots.theirs, sources.theirs, paths)?)?;
-    if let Some(result) = sources.result {
-        seats.push(seats_of(alloc, both, roots.merge, result, paths)?)?;
-    }
+    let base = seats_of(alloc, both, roots.base, sources.base, paths)?;
+    seats.push(base)?;
+    let ours = seats_of(alloc, both, roots.ours, sources.ours, paths)?;
+    seats.push(ours)?;
+    let theirs = seats_of(alloc, both, roots.theirs, sources.theirs, paths)?;
+    seats.push(theirs)?;
+    add_result(alloc, both, roots.merge, sources.result, paths, &mut seats)?;
     Ok(seats)
 }
 
-/// The lines of the places at which something was found.
-fn found_text(
+/// The same, if places are asked for.
+fn seats_if(
     alloc: Global,
     both: &Both<'_>,
     roots: &Roots<'_>,
-    found: &Found,
+    sources: Sources<'_>,
+    paths: &[Vec<Shown>],
+    places: bool,
+) -> Result<Vec<Seats>, Fault>
+    ensures { IfOk result (λ seats. HasAsked places both.now (map (λ path. path.items) paths.now) (sides_in roots.now sources.entry) seats.items) }
+{
+    if places {
+        return all_seats(alloc, both, roots, sources, paths);
+    }
+    Ok(Vec::new(alloc))
+}
+
+/// A style of these parts.
+fn style_of(given: bool, numbered: bool, print: Print, seats: Vec<Seats>) -> Style
+    ensures given { result.given ≡ given }
+    ensures numbered { result.numbered ≡ numbered }
+    ensures print { result.print ≡ print }
+    ensures seats { result.seats.items ≡ seats.items }
+{
+    Style {
+        given,
+        numbered,
+        print,
+        seats,
+    }
+}
+
+/// The lines of the places at which something was found, and `...` if they are not all.
+fn list_text(
+    alloc: Global,
+    both: &Both<'_>,
+    roots: &Roots<'_>,
+    list: &[Conflict],
+    whole: bool,
     sources: Sources<'_>,
     print: Print,
 ) -> Result<String, Fault>
     requires ranked { RanksAre both.now.graph both.now.ranks }
+    ensures { IfOk result (λ out. IsListText both.now print (is_some sources.entry.result) (is_numbered roots.now) (sides_in roots.now sources.entry) list.now whole (string_bytes out)) }
 {
     let mut out = String::new(alloc);
-    if found.list.is_empty() {
+    if list.len() == 0 {
         return Ok(out);
     }
-    let paths = paths_of(alloc, &found.list)?;
-    let mut style = Style {
-        given: sources.result.is_some(),
-        numbered: is_numbered(roots),
-        print,
-        seats: Vec::new(alloc),
-    };
-    if print.places {
-        style.seats = all_seats(alloc, both, roots, sources, &paths)?;
-    }
-    put_lines(alloc, &mut out, both, found, &paths, &style)?;
+    let paths = paths_of(alloc, list)?;
+    let seats = seats_if(alloc, both, roots, sources, &paths, print.places)?;
+    let given = sources.result.is_some();
+    let style = style_of(given, is_numbered(roots), print, seats);
+    put_lines(alloc, &mut out, both, list, &paths, &style)?;
+    put_more(&mut out, whole)?;
     Ok(out)
 }
 
@@ -266,6 +452,7 @@ pub(crate) fn text_of(
     print: Print,
 ) -> Result<String, Fault>
     requires ranked { RanksAre four.now.both.graph four.now.both.ranks }
+    ensures { IfOk result (λ out. IsOutcomeText four.now.both print (is_some sources.entry.result) roots.now (sides_in roots.now sources.entry) outcome.now (string_bytes out)) }
 {
     match outcome {
         Outcome::Streams => {
@@ -273,6 +460,9 @@ pub(crate) fn text_of(
             put_streams(&mut out, roots, sources.result.is_some(), print.color)?;
             Ok(out)
         }
-        Outcome::Documents(found) => found_text(alloc, &four.both, roots, found, sources, print),
+        Outcome::Documents(found) => {
+            let list = &found.list;
+            list_text(alloc, &four.both, roots, list, found.whole, sources, print)
+        }
     }
 }

@@ -1,15 +1,17 @@
 //! The command `merge3`.
-ghost use Rattle.std.specs.Prelude.{◌≡◌, ◌<◌, ◌≤◌, ◌-◌, ◌^◌, ◌++◌, ◌↔◌, ℕ, List, [], max, cond, codes, bytes_eq, string_bytes, IsTrue, IfOk, IfErr};
+ghost use Rattle.std.specs.Prelude.{◌≡◌, ◌<◌, ◌≤◌, ◌-◌, ◌^◌, ◌++◌, ◌↔◌, ℕ, List, [], Some, None, max, cond, codes, bytes_eq, string_bytes, IsTrue, IfOk, IfErr};
 ghost use Rattle.std.specs.Option.{is_some, option_map, unwrap_or};
 ghost use Rattle.yaml_text.specs.CountedModel.{faults_of};
 ghost use Rattle.yaml_canon.specs.Both.{HasBoth};
 ghost use Rattle.review_files.specs.Named.{ReadsNamed};
 ghost use Rattle.review_args.specs.declared.words.Form.TheVariants.{Line};
 ghost use Rattle.review_files.specs.Told.{TellsFaults};
-ghost use Rattle.review_merge.specs.Merges.{no_merge_status, ReadsResult, HaveBytes, TellsMerge, MergeTells};
+ghost use Rattle.yaml_rank.specs.RanksView.{RanksAre};
+ghost use Rattle.review_merge.specs.Lines.{sides_in, IsOutcomeText};
+ghost use Rattle.review_merge.specs.Merges.{no_merge_status, ReadsResult, HaveBytes, TellsMerge, IsAskedText, IsMergeText, HasSources, MergeTells};
 ghost use Rattle.review_merge.specs.Refusals.{FilesNotRead, MergeRefuses, NotRead, OneNotRead, TellsEach, TellsRejected, TellsTooMany, TellsWhy, all_names, input_count, or_none, result_name};
 
-use crate::four::graph_of;
+use crate::four::{Four, graph_of};
 use crate::judge::{judge, roots_of, verdict_of};
 use crate::lines::{Sources, text_of};
 use crate::print::Print;
@@ -22,7 +24,7 @@ use std::io::{Read, Write};
 use yaml_canon::both::{BothForests, forest_of_both};
 use yaml_command::shelf::Shelf;
 use yaml_command::streams::write_out;
-use yaml_conflicts::Room;
+use yaml_conflicts::{Outcome, Room, Roots};
 use yaml_text::counted::Counted;
 use yaml_text::fault::Fault;
 
@@ -278,38 +280,56 @@ fn forests_of<'l>(
     }
 }
 
+/// The bytes of the result, if it is given.
+fn given_bytes(bytes: &[u8], given: bool) -> Option<&[u8]>
+    ensures { option_map (λ it. it.now) result ≡ cond given (Some bytes.now) None }
+{
+    if given { Some(bytes) } else { None }
+}
+
 /// The bytes whose nodes have places.
-fn sources_of(bytes: &Bytes, given: bool) -> Sources<'_> {
+fn sources_of(bytes: &Bytes, given: bool) -> Sources<'_>
+    ensures { HasSources bytes.now given result }
+{
     Sources {
         base: &bytes.base,
         ours: &bytes.ours,
         theirs: &bytes.theirs,
-        result: if given { Some(&bytes.result) } else { None },
+        result: given_bytes(&bytes.result, given),
     }
+}
+
+/// The lines of an outcome, if some are asked for.
+fn lines_of(
+    alloc: Global,
+    four: &Four<'_>,
+    roots: &Roots<'_>,
+    outcome: &Outcome,
+    sources: Sources<'_>,
+    print: Print,
+) -> Result<String, Fault>
+    requires ranked { RanksAre four.now.both.graph four.now.both.ranks }
+    ensures { IfOk result (λ out. IsAskedText print.lines (IsOutcomeText four.now.both print (is_some sources.entry.result) roots.now (sides_in roots.now sources.entry) outcome.now (string_bytes out)) (string_bytes out)) }
+{
+    if print.lines == 0 {
+        return Ok(String::new(alloc));
+    }
+    text_of(alloc, four, roots, outcome, sources, print)
 }
 
 /// What is found of the files' bytes, and its lines.
 fn told_of(alloc: Global, bytes: &Bytes, given: bool, print: Print) -> Result<Told, Fault>
-    ensures { IfOk result (λ told. TellsMerge given bytes.now.base.items bytes.now.ours.items bytes.now.theirs.items bytes.now.result.items told.answer) }
+    ensures tells { IfOk result (λ told. TellsMerge given bytes.now.base.items bytes.now.ours.items bytes.now.theirs.items bytes.now.result.items told.answer) }
+    ensures shows { IfOk result (λ told. IsMergeText given print bytes.now.base.items bytes.now.ours.items bytes.now.theirs.items bytes.now.result.items told.answer (string_bytes told.text)) }
 {
     let first = forests_of(alloc, &bytes.base, &bytes.ours)?;
     let second = forests_of(alloc, &bytes.theirs, &bytes.result)?;
     let four = graph_of(alloc, &first, &second)?;
-    let outcome = judge(alloc, &four, given, room_of(print.lines))?;
+    let roots = roots_of(&four, given);
+    let outcome = judge(alloc, &four, &roots, given, room_of(print.lines))?;
     let answer = verdict_of(&outcome);
-    let text = if print.lines == 0 {
-        String::new(alloc)
-    } else {
-        let sources = sources_of(bytes, given);
-        text_of(
-            alloc,
-            &four,
-            &roots_of(&four, given),
-            &outcome,
-            sources,
-            print,
-        )?
-    };
+    let sources = sources_of(bytes, given);
+    let text = lines_of(alloc, &four, &roots, &outcome, sources, print)?;
     Ok(Told { answer, text })
 }
 
@@ -331,7 +351,7 @@ pub fn merge3<S: Shelf, R: Read, W: Write>(
     out: &mut Counted<W>,
 ) -> Result<u8, NoMerge>
     requires { faults_of out.old < 2 ^ 64 - 1 }
-    ensures tells { IfOk result (MergeTells (S.holds shelf.now) R.remaining W.contents names.now input.old input.new out.old out.new) }
+    ensures tells { IfOk result (MergeTells (S.holds shelf.now) R.remaining W.contents names.now print input.old input.new out.old out.new) }
     ensures none { IfErr result (λ none. 2 ≤ no_merge_status none) }
     ensures refuses { IfErr result (MergeRefuses (S.holds shelf.now) R.remaining W.contents names.now input.old input.new out.old out.new) }
 {

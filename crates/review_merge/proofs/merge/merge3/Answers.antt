@@ -1,14 +1,17 @@
-use Rattle.std.proofs.Common.{inl, inr, refl, subst}
+use Rattle.std.proofs.Common.{inl, inr, refl, sym, subst}
 use Rattle.std.proofs.lemmas.Result.{err_from_is_err_and}
 use Rattle.std.specs.Option.{is_some}
-use Rattle.review_merge.specs.Merges.{TellsMerge}
+use Rattle.std.specs.Prelude.{Some}
+use Rattle.std.specs.String.{string_bytes}
+use Rattle.review_merge.specs.Merges.{TellsMerge, IsMergeText}
 use Rattle.review_merge.proofs.RefusalLaws.{cut_short}
 use Rattle.review_merge.proofs.merge.merge3.Goals as goal
 
 pub returns-in-Ok-write_out-clause-tells : goal.returns-in-Ok-write_out-clause-tells
 returns-in-Ok-write_out-clause-tells g c =
     let v = c.in_ok-bytes.bytes in
-    let t = subst (λ z. TellsMerge z v.base.items v.ours.items v.theirs.items v.result.items c.in-Ok.told.answer) c.is_some-given.ensures c.in-Ok.ensures in
+    let t = subst (λ z. TellsMerge z v.base.items v.ours.items v.theirs.items v.result.items c.in-Ok.told.answer) c.is_some-given.ensures c.in-Ok.ensures.tells in
+    let s = subst (λ z. IsMergeText z c.args.print v.base.items v.ours.items v.theirs.items v.result.items c.in-Ok.told.answer (string_bytes c.in-Ok.told.text)) c.is_some-given.ensures c.in-Ok.ensures.shows in
     record {
       bytes = v;
       read = c.in_ok-bytes.ensures.ok;
@@ -16,6 +19,7 @@ returns-in-Ok-write_out-clause-tells g c =
       tells = subst (TellsMerge (is_some c.args.names.now.result) v.base.items v.ours.items v.theirs.items v.result.items) c.in-Some.is t;
       told = c.status_of.ensures;
       text = c.as_bytes.result.now;
+      shows = subst (λ z. IsMergeText (is_some c.args.names.now.result) c.args.print v.base.items v.ours.items v.theirs.items v.result.items (Some c.in-Some.answer) z) (sym c.as_bytes.ensures.value) (subst (λ z. IsMergeText (is_some c.args.names.now.result) c.args.print v.base.items v.ours.items v.theirs.items v.result.items z (string_bytes c.in-Ok.told.text)) c.in-Some.is s);
       printed = c.in-Ok-write_out.ensures.ok;
     }
 
@@ -30,7 +34,7 @@ returns-in-Err-clause-refuses g c = inr (record { bytes = c.in_ok-bytes.bytes; r
 pub returns-in_default-clause-refuses : goal.returns-in_default-clause-refuses
 returns-in_default-clause-refuses g c =
     let v = c.in_ok-bytes.bytes in
-    let t = subst (λ z. TellsMerge z v.base.items v.ours.items v.theirs.items v.result.items c.in-Ok.told.answer) c.is_some-given.ensures c.in-Ok.ensures in
+    let t = subst (λ z. TellsMerge z v.base.items v.ours.items v.theirs.items v.result.items c.in-Ok.told.answer) c.is_some-given.ensures c.in-Ok.ensures.tells in
     inr (record {
       bytes = v;
       read = c.in_ok-bytes.ensures.ok;

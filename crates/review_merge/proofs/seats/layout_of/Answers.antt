@@ -1,0 +1,5 @@
+use Rattle.review_merge.proofs.SeatLaws.{laid}
+use Rattle.review_merge.proofs.seats.layout_of.Goals as goal
+
+pub returns : goal.returns
+returns c = laid c.args.bytes.now c.in_ok-source.source c.in_ok-trace.trace c.lay_out.result c.in_ok-source.ensures.text c.in_ok-trace.ensures.ok c.lay_out.ensures.offsets c.lay_out.ensures.nodes

@@ -1,0 +1,102 @@
+-- Where the nodes of a line stand.
+use Rattle.std.specs.Prelude.{◌≡◌, ◌⊎◌, ◌≤◌, ℕ, Bool, true, false, List, [], ◌∷◌, ◌++◌, length, drop, Option, Some, None}
+use Rattle.std.specs.List.{Contains, slice_get}
+use Rattle.std.specs.Str.{chars}
+use Rattle.yaml_definitions.specs.model.Text.{mark_len}
+use Rattle.yaml_definitions.specs.model.Event.{Event}
+use Rattle.yaml_definitions.specs.model.Limits.{open_limit}
+use Rattle.yaml_definitions.specs.grammar.Nodes.{wide}
+use Rattle.yaml_definitions.specs.grammar.Streams.{ReadsText}
+use Rattle.yaml_graph.specs.declared.node.NodeId.{NodeId}
+use Rattle.yaml_place.specs.LineModel.{IsPlace}
+use Rattle.yaml_place.specs.declared.place.Place.{Place}
+use Rattle.yaml_diff.specs.declared.difference.Step.{Step}
+use Rattle.review_text.specs.declared.both.Both.{Both}
+use Rattle.review_places.specs.Layout.{offsets_of, IsLayout}
+use Rattle.review_places.specs.Seats.{layout_of, both_of, IsSeat, HasNoSeat}
+use Rattle.review_places.specs.Trace.{TraceHolds, shapes_in, offsets_in}
+use Rattle.review_places.specs.declared.finder.Finder.{Finder}
+use Rattle.review_places.specs.declared.finder.Hand.TheVariants.{Left}
+use Rattle.review_places.specs.declared.finder.Seat.{Seat}
+use Rattle.review_places.specs.declared.layout.Layout.{Layout}
+use Rattle.review_places.specs.declared.trace.Trace.{Trace}
+use Rattle.review_merge.specs.declared.told.Seats.{Seats}
+
+-- one thing for each of a list, in the same order
+module _ {X Y : Type 0} (IsFor : X → Y → Type 0) where
+  abbrev pub Each : List X → List Y → Type 0
+  Each [] ys = ys ≡ []
+  Each (x ∷ xs) ys = (y : Y) × (rest : List Y) × IsFor x y × Each xs rest × (ys ≡ y ∷ rest)
+
+-- ---- one stream
+
+-- the bytes of a stream behind its byte order mark
+abbrev pub unmarked : List ℕ → List ℕ
+unmarked bytes = drop (mark_len bytes) bytes
+
+-- The layout is that of the events that the bytes are read as.
+pub record IsLaid (bytes : List ℕ) (layout : Layout) : Type 0 where
+  pub events : List Event
+  pub trace : Trace
+  pub reads : ReadsText (chars (unmarked bytes)) wide open_limit events
+  pub traced : TraceHolds trace events
+  pub offsets : offsets_of layout ≡ offsets_in trace.events.items
+  pub nodes : IsLayout (shapes_in trace.events.items) layout
+
+-- It finds the nodes of the documents with these roots, of which these are the bytes.
+pub record Finds (both : Both) (roots : List NodeId) (bytes : List ℕ) (finder : Finder) : Type 0 where
+  pub graph : both_of finder ≡ both
+  pub hand : finder.stream.hand ≡ Left
+  pub documents : finder.stream.roots.now ≡ roots
+  pub laid : IsLaid bytes (layout_of finder)
+
+-- The line and the column of an offset; of one behind the end, those of some place.
+pub record IsAt (text : List ℕ) (offset : ℕ) (place : Place) : Type 0 where
+  pub at : ℕ
+  pub is : offset ≤ length text → at ≡ offset
+  pub placed : IsPlace text at place.line place.column
+
+-- ---- the place at a path
+
+-- the roots of a stream's documents, and its bytes
+abbrev pub Side : Type 0
+Side = List NodeId × List ℕ
+
+-- where the node stands to which the path leads on this side, or none, where it leads nowhere
+abbrev pub IsPlaceOf : Both → List Step → Side → Option Place → Type 0
+IsPlaceOf both path side None = (finder : Finder) × Finds both side.0 side.1 finder × HasNoSeat finder path
+IsPlaceOf both path side (Some place) = (finder : Finder) × (seat : Seat) × Finds both side.0 side.1 finder × IsSeat finder path seat × IsAt (unmarked side.1) seat.offset place
+
+-- ---- the places of all lines
+
+-- the place with this number in a list, or that there is none
+abbrev pub IsTold : List (ℕ × Place) → ℕ → Option Place → Type 0
+IsTold places number None = (place : Place) → Contains places (number, place) → ⊥
+IsTold places number (Some place) = Contains places (number, place)
+
+-- what is told under the number of a path is its place
+abbrev pub HasPlaces : Both → List (List Step) → Side → List (ℕ × Place) → Type 0
+HasPlaces both paths side places =
+    (number : ℕ) (path : List Step) (place : Option Place) → slice_get paths number ≡ Some path → IsTold places number place → IsPlaceOf both path side place
+
+abbrev pub HasSeats : Both → List (List Step) → Side → Seats → Type 0
+HasSeats both paths side seats = HasPlaces both paths side seats.places.items
+
+-- the offset of the node to which a path leads is added with the path's number, or the path leads nowhere
+abbrev pub AddsOffset : Finder → List Step → ℕ → List (ℕ × ℕ) → List (ℕ × ℕ) → Type 0
+AddsOffset finder path number old new =
+    ((seat : Seat) × IsSeat finder path seat × (new ≡ old ++ (seat.offset, number) ∷ [])) ⊎ (HasNoSeat finder path × (new ≡ old))
+
+-- The offsets of the nodes to which paths lead, each with the number of its path.
+pub record HasOffsets (finder : Finder) (paths : List (List Step)) (offsets : List (ℕ × ℕ)) : Type 0 where
+  pub each : (number : ℕ) (path : List Step) (offset : ℕ) → slice_get paths number ≡ Some path → Contains offsets (offset, number) → (seat : Seat) × IsSeat finder path seat × (seat.offset ≡ offset)
+  pub none : (number : ℕ) (path : List Step) → slice_get paths number ≡ Some path → ((offset : ℕ) → Contains offsets (offset, number) → ⊥) → HasNoSeat finder path
+
+-- what each side tells under a number
+abbrev pub Tells : ℕ → List Seats → List (Option Place) → Type 0
+Tells number = Each (λ seats place. IsTold seats.places.items number place)
+
+-- the seats of all sides, where places are asked for
+abbrev pub HasAsked : Bool → Both → List (List Step) → List Side → List Seats → Type 0
+HasAsked false both paths sides seats = seats ≡ []
+HasAsked true both paths sides seats = Each (HasSeats both paths) sides seats
