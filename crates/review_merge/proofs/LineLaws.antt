@@ -18,7 +18,7 @@ use Rattle.review_text.specs.declared.both.Both.{Both}
 use Rattle.yaml_diff.specs.Lines.{way_of}
 use Rattle.review_text.specs.PathText.{path_text}
 use Rattle.review_merge.specs.Parts.{Values, values_in, budget, ShowsValues}
-use Rattle.review_merge.specs.Placed.{Each, Side, IsPlaceOf, IsTold, Tells, HasSeats, HasAsked}
+use Rattle.review_merge.specs.Placed.{Each, Side, IsPlaceOf, IsTold, Tells, View, Views, ViewsAre, HasPlaces, HasSeats, HasAsked}
 use Rattle.review_merge.specs.Lines.{result_side, steps_of, nodes_of, line_text, ShowsPlaces, IsLine, IsStyled, AreLines, more_text, IsListText}
 use Rattle.review_merge.specs.declared.lines.Style.{Style}
 use Rattle.review_merge.specs.declared.print.Print.{Print}
@@ -159,20 +159,36 @@ each_then A B C f (x ∷ xs) ys zs h k =
     let m = subst (λ w. Each B w zs) h.4 k in
     (m.0, m.1, f x h.0 m.0 h.2 m.2, each_then A B C f xs h.1 m.1 h.3 m.3, m.4)
 
-pub places_shown : (asked : Bool) (both : Both) (paths : List (List Step)) (sides : List Side) (seats : List Seats) (number : ℕ) (path : List Step) (places : List (Option Place)) → HasAsked asked both paths sides seats → slice_get paths number ≡ Some path
-    → Tells number seats places → ShowsPlaces asked both sides path places
-places_shown false both paths sides seats number path places h e t = subst (λ z. Tells number z places) h t
-places_shown true both paths sides seats number path places h e t =
-    each_then (HasSeats both paths) (λ one place. IsTold one.places.items number place) (IsPlaceOf both path) (λ side one place p q. p number path place e q) sides seats places h t
+-- what is told of each view
+abbrev pub HasViews : Bool → List (List Step) → List View → List Seats → Type 0
+HasViews false paths views seats = seats ≡ []
+HasViews true paths views seats = Each (λ view one. HasPlaces paths view one.places.items) views seats
+
+views_of : (both : Both) (paths : List (List Step)) (sides : List Side) (seats : List Seats) → Each (HasSeats both paths) sides seats → (views : List View) × Each (Views both) sides views × Each (λ view one. HasPlaces paths view one.places.items) views seats
+views_of both paths [] seats h = ([], refl, h)
+views_of both paths (side ∷ sides) seats h =
+    let r = views_of both paths sides h.1 h.3 in
+    let v = h.2.0 in
+    (v ∷ r.0, (v, r.0, h.2.1, r.1, refl), (h.0, h.1, h.2.2, r.2, h.4))
+
+views_asked : (asked : Bool) (both : Both) (paths : List (List Step)) (sides : List Side) (seats : List Seats) → HasAsked asked both paths sides seats → (views : List View) × ViewsAre asked both sides views × HasViews asked paths views seats
+views_asked false both paths sides seats h = ([], refl, h)
+views_asked true both paths sides seats h = views_of both paths sides seats h
+
+places_shown : (asked : Bool) (paths : List (List Step)) (views : List View) (seats : List Seats) (number : ℕ) (path : List Step) (places : List (Option Place)) → HasViews asked paths views seats → slice_get paths number ≡ Some path → Tells number seats places
+    → ShowsPlaces asked views path places
+places_shown false paths views seats number path places h e t = subst (λ z. Tells number z places) h t
+places_shown true paths views seats number path places h e t =
+    each_then (λ view one. HasPlaces paths view one.places.items) (λ one place. IsTold one.places.items number place) (IsPlaceOf path) (λ view one place p q. p number path place e q) views seats places h t
 
 -- ---- all lines
 
-module _ (both : Both) (style : Style) (sides : List Side) (list : List Conflict) where
-  pub styled_are : HasAsked style.print.places both (map steps_of list) sides style.seats.items → (text : List ℕ) → AreLines (IsStyled both style) (enumerate_from 0 list) budget text
-      → AreLines (IsLine both style.print style.given style.numbered sides) list budget text
-  styled_are h = lines_of (IsStyled both style) (IsLine both style.print style.given style.numbered sides) list 0 by budget
+module _ (both : Both) (style : Style) (views : List View) (list : List Conflict) where
+  pub styled_are : HasViews style.print.places (map steps_of list) views style.seats.items → (text : List ℕ) → AreLines (IsStyled both style) (enumerate_from 0 list) budget text
+      → AreLines (IsLine both style.print style.given style.numbered views) list budget text
+  styled_are h = lines_of (IsStyled both style) (IsLine both style.print style.given style.numbered views) list 0 by budget
     where
-      by : (k : ℕ) (one : Conflict) (left after : ℕ) (text : List ℕ) → slice_get list k ≡ Some one → IsStyled both style (0 + k, one) left after text → IsLine both style.print style.given style.numbered sides one left after text
+      by : (k : ℕ) (one : Conflict) (left after : ℕ) (text : List ℕ) → slice_get list k ≡ Some one → IsStyled both style (0 + k, one) left after text → IsLine both style.print style.given style.numbered views one left after text
       by k one left after text e p =
           let q : k ≡ 0 + k = omega arith in
           let there : slice_get (map steps_of list) k ≡ Some (steps_of one) = slice_get-map steps_of list k ∙ ap (option_map steps_of) e in
@@ -180,7 +196,7 @@ module _ (both : Both) (style : Style) (sides : List Side) (list : List Conflict
             values = p.values;
             places = p.places;
             shows = p.shows;
-            stand = places_shown style.print.places both (map steps_of list) sides style.seats.items (0 + k) (steps_of one) p.places h (subst (λ z. slice_get (map steps_of list) z ≡ Some (steps_of one)) q there) p.tells;
+            stand = places_shown style.print.places (map steps_of list) views style.seats.items (0 + k) (steps_of one) p.places h (subst (λ z. slice_get (map steps_of list) z ≡ Some (steps_of one)) q there) p.tells;
             is = p.is;
           }
 
@@ -189,9 +205,9 @@ module _ (both : Both) (print : Print) (given numbered : Bool) (sides : List Sid
   list_none [] whole text e h = h
   list_none (x ∷ list) whole text e h = absurd (omega (arith, e))
 
-  pub list_some : (list : List Conflict) (whole : Bool) (lines text : List ℕ) → (length list ≡ 0 → ⊥) → AreLines (IsLine both print given numbered sides) list budget lines → text ≡ lines ++ more_text whole → IsListText both print given numbered sides list whole text
-  list_some [] whole lines text n h e = absurd (n refl)
-  list_some (x ∷ list) whole lines text n h e = (lines, h, e)
+  pub list_some : (list : List Conflict) (whole : Bool) (lines text : List ℕ) (views : List View) → ViewsAre print.places both sides views → (length list ≡ 0 → ⊥) → AreLines (IsLine both print given numbered views) list budget lines → text ≡ lines ++ more_text whole → IsListText both print given numbered sides list whole text
+  list_some [] whole lines text views v n h e = absurd (n refl)
+  list_some (x ∷ list) whole lines text views v n h e = (views, lines, v, h, e)
 
 pub list_told : (both : Both) (style : Style) (print : Print) (given numbered : Bool) (seats : List Seats) (sides : List Side) (list : List Conflict) (whole : Bool) (lines text : List ℕ) (paths : List (List Step))
     → style.print ≡ print → style.given ≡ given → style.numbered ≡ numbered → style.seats.items ≡ seats → paths ≡ map steps_of list → HasAsked print.places both paths sides seats
@@ -200,7 +216,8 @@ list_told both style print given numbered seats sides list whole lines text path
     let a = subst (λ z. HasAsked z.places both paths sides seats) (sym ep) asked in
     let b = subst (λ z. HasAsked style.print.places both z sides seats) ea a in
     let d = subst (λ z. HasAsked style.print.places both (map steps_of list) sides z) (sym es) b in
-    let told = list_some both style.print style.given style.numbered sides list whole lines text n (styled_are both style sides list d lines h) e in
+    let w = views_asked style.print.places both (map steps_of list) sides style.seats.items d in
+    let told = list_some both style.print style.given style.numbered sides list whole lines text w.0 w.1 n (styled_are both style w.0 list w.2 lines h) e in
     subst (λ z. IsListText both z given numbered sides list whole text) ep (subst (λ z. IsListText both style.print z numbered sides list whole text) eg (subst (λ z. IsListText both style.print style.given z sides list whole text) en told))
 
 -- ---- the seats of all sides

@@ -1,6 +1,6 @@
 -- Where the nodes of paths stand.
 use Rattle.std.proofs.Common.{inl, inr, ◌≡◌, ℕ, zero, suc, ◌+◌, ◌<◌, ◌≤◌, List, [], ◌∷◌, ◌++◌, map, length, get_or, refl, sym, ◌∙◌, ap, subst, arith}
-use Rattle.std.specs.Prelude.{Some, None, Result, Ok, Err, IfOk}
+use Rattle.std.specs.Prelude.{Option, Some, None, Result, Ok, Err, IfOk}
 use Rattle.std.specs.Str.{chars}
 use Rattle.yaml_definitions.specs.model.Event.{Event}
 use Rattle.yaml_definitions.specs.model.Limits.{open_limit}
@@ -27,7 +27,7 @@ use Rattle.review_places.specs.Seats.{both_of, IsRanked, IsEnd, Leads, IsSeat, H
 use Rattle.review_places.specs.Told.{IsTold as IsGiven}
 use Rattle.review_places.specs.declared.finder.Finder.{Finder}
 use Rattle.review_places.specs.declared.finder.Seat.{Seat}
-use Rattle.review_merge.specs.Placed.{unmarked, IsLaid, Finds, AddsOffset, HasOffsets, HasPlaces}
+use Rattle.review_merge.specs.Placed.{unmarked, IsLaid, View, Views, IsPlaceOf, IsTold, AddsOffset, HasOffsets, HasPlaces}
 
 -- ---- a finder of the same stream
 
@@ -127,18 +127,17 @@ from_map {X} {Y} f xs y c = by xs c.0 c.1 c.2
     by (x ∷ xs) zero l e = (x, (0, omega arith, refl), e)
     by (x ∷ xs) (suc k) l e = let w = by xs k (omega (arith, l)) e in (w.0, (suc w.1.0, let m = w.1.1 in omega (arith, m), w.1.2), w.2)
 
-pub seats_are : (both : Both) (paths : List (List Step)) (roots : List NodeId) (bytes : List ℕ) (finder : Finder) (offsets : List (ℕ × ℕ)) (places : List (ℕ × Place)) → Finds both roots bytes finder → HasOffsets finder paths offsets
-    → All (IsGiven (unmarked bytes) offsets) places → IsPermutation (map (λ given. given.1) offsets) (map (λ told. told.0) places) → HasPlaces both paths (roots, bytes) places
-seats_are both paths roots bytes finder offsets places finds h given numbers number path None at told = (
-  finder,
-  finds,
-  h.none number path at (λ offset c.
-      let there = Contains-permutation (map (λ o. o.1) offsets) (map (λ t. t.0) places) number numbers (contains_map (λ (o : ℕ × ℕ). o.1) offsets (offset, number) c) in
-      let w = from_map (λ (t : ℕ × Place). t.0) places number there in
-      let q : w.0 ≡ (number, w.0.1) = (λ i. (w.2 i, w.0.1)) in
-      told w.0.1 (subst (Contains places) q w.1)),
-)
-seats_are both paths roots bytes finder offsets places finds h given numbers number path (Some place) at told =
-    let g = All-contains (IsGiven (unmarked bytes) offsets) places (number, place) given told in
-    let w = h.each number path g.offset at g.given in
-    (finder, w.0, finds, w.1, record { at = g.at; is = λ l. g.is (subst (λ z. z ≤ length (unmarked bytes)) w.2 l) ∙ sym w.2; placed = g.placed })
+pub seats_are : (both : Both) (paths : List (List Step)) (roots : List NodeId) (bytes : List ℕ) (finder : Finder) (offsets : List (ℕ × ℕ)) (places : List (ℕ × Place)) → Views both (roots, bytes) (finder, bytes) → HasOffsets finder paths offsets
+    → All (IsGiven (unmarked bytes) offsets) places → IsPermutation (map (λ given. given.1) offsets) (map (λ told. told.0) places) → (view : View) × Views both (roots, bytes) view × HasPlaces paths view places
+seats_are both paths roots bytes finder offsets places views h given numbers = ((finder, bytes), views, by)
+  where
+    by : (number : ℕ) (path : List Step) (place : Option Place) → slice_get paths number ≡ Some path → IsTold places number place → IsPlaceOf path (finder, bytes) place
+    by number path None at told = h.none number path at (λ offset c.
+        let there = Contains-permutation (map (λ o. o.1) offsets) (map (λ t. t.0) places) number numbers (contains_map (λ (o : ℕ × ℕ). o.1) offsets (offset, number) c) in
+        let w = from_map (λ (t : ℕ × Place). t.0) places number there in
+        let q : w.0 ≡ (number, w.0.1) = (λ i. (w.2 i, w.0.1)) in
+        told w.0.1 (subst (Contains places) q w.1))
+    by number path (Some place) at told =
+        let g = All-contains (IsGiven (unmarked bytes) offsets) places (number, place) given told in
+        let w = h.each number path g.offset at g.given in
+        (w.0, w.1, record { at = g.at; is = λ l. g.is (subst (λ z. z ≤ length (unmarked bytes)) w.2 l) ∙ sym w.2; placed = g.placed })

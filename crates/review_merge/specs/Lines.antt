@@ -20,7 +20,7 @@ use Rattle.review_text.specs.Hidden.{visible}
 use Rattle.review_text.specs.PathText.{path_text}
 use Rattle.review_text.specs.declared.both.Both.{Both}
 use Rattle.review_merge.specs.Parts.{Values, ShowsValues, budget}
-use Rattle.review_merge.specs.Placed.{Each, Side, IsPlaceOf, Tells}
+use Rattle.review_merge.specs.Placed.{Each, Side, View, ViewsAre, IsPlaceOf, Tells}
 use Rattle.review_merge.specs.declared.lines.Style.{Style}
 use Rattle.review_merge.specs.declared.lines.Sources.{Sources}
 use Rattle.review_merge.specs.declared.print.Print.{Print}
@@ -103,16 +103,16 @@ abbrev pub nodes_of : Bool → Sides → List (Option NodeId)
 nodes_of given sides = sides.base ∷ sides.ours ∷ sides.theirs ∷ cond given (sides.merge ∷ []) []
 
 -- the place of each side, where places are asked for
-abbrev pub ShowsPlaces : Bool → Both → List Side → List Step → List (Option Place) → Type 0
-ShowsPlaces false both sides path places = places ≡ []
-ShowsPlaces true both sides path places = Each (IsPlaceOf both path) sides places
+abbrev pub ShowsPlaces : Bool → List View → List Step → List (Option Place) → Type 0
+ShowsPlaces false views path places = places ≡ []
+ShowsPlaces true views path places = Each (IsPlaceOf path) views places
 
 -- The line of a conflict. So many bytes of whole texts may be looked at before and after it.
-pub record IsLine (both : Both) (print : Print) (given numbered : Bool) (sides : List Side) (conflict : Conflict) (left after : ℕ) (text : List ℕ) : Type 0 where
+pub record IsLine (both : Both) (print : Print) (given numbered : Bool) (views : List View) (conflict : Conflict) (left after : ℕ) (text : List ℕ) : Type 0 where
   pub values : Values
   pub places : List (Option Place)
   pub shows : ShowsValues both.graph (nodes_of given conflict.sides) left after values print.whole
-  pub stand : ShowsPlaces print.places both sides (steps_of conflict) places
+  pub stand : ShowsPlaces print.places views (steps_of conflict) places
   pub is : text ≡ line_text given print.color (path_text numbered (way_of both.graph (steps_of conflict))) values places
 
 -- lines, each of which leaves so many bytes to those behind it
@@ -138,7 +138,7 @@ module _ (both : Both) (print : Print) (given numbered : Bool) (sides : List Sid
   abbrev pub IsListText : List Conflict → Bool → List ℕ → Type 0
   IsListText [] whole text = text ≡ []
   IsListText (conflict ∷ conflicts) whole text =
-      (lines : List ℕ) × AreLines (IsLine both print given numbered sides) (conflict ∷ conflicts) budget lines × (text ≡ lines ++ more_text whole)
+      (views : List View) × (lines : List ℕ) × ViewsAre print.places both sides views × AreLines (IsLine both print given numbered views) (conflict ∷ conflicts) budget lines × (text ≡ lines ++ more_text whole)
 
 -- paths have the number of the document, unless each stream has one
 abbrev pub is_numbered : Roots → Bool

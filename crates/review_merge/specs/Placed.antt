@@ -43,12 +43,21 @@ pub record IsLaid (bytes : List ℕ) (layout : Layout) : Type 0 where
   pub offsets : offsets_of layout ≡ offsets_in trace.events.items
   pub nodes : IsLayout (shapes_in trace.events.items) layout
 
+-- the roots of a stream's documents, and its bytes
+abbrev pub Side : Type 0
+Side = List NodeId × List ℕ
+
+-- what finds the nodes of a stream, and the stream's bytes
+abbrev pub View : Type 0
+View = Finder × List ℕ
+
 -- It finds the nodes of the documents with these roots, of which these are the bytes.
-pub record Finds (both : Both) (roots : List NodeId) (bytes : List ℕ) (finder : Finder) : Type 0 where
-  pub graph : both_of finder ≡ both
-  pub hand : finder.stream.hand ≡ Left
-  pub documents : finder.stream.roots.now ≡ roots
-  pub laid : IsLaid bytes (layout_of finder)
+pub record Views (both : Both) (side : Side) (view : View) : Type 0 where
+  pub graph : both_of view.0 ≡ both
+  pub hand : view.0.stream.hand ≡ Left
+  pub roots : view.0.stream.roots.now ≡ side.0
+  pub bytes : view.1 ≡ side.1
+  pub laid : IsLaid side.1 (layout_of view.0)
 
 -- The line and the column of an offset; of one behind the end, those of some place.
 pub record IsAt (text : List ℕ) (offset : ℕ) (place : Place) : Type 0 where
@@ -58,14 +67,10 @@ pub record IsAt (text : List ℕ) (offset : ℕ) (place : Place) : Type 0 where
 
 -- ---- the place at a path
 
--- the roots of a stream's documents, and its bytes
-abbrev pub Side : Type 0
-Side = List NodeId × List ℕ
-
--- where the node stands to which the path leads on this side, or none, where it leads nowhere
-abbrev pub IsPlaceOf : Both → List Step → Side → Option Place → Type 0
-IsPlaceOf both path side None = (finder : Finder) × Finds both side.0 side.1 finder × HasNoSeat finder path
-IsPlaceOf both path side (Some place) = (finder : Finder) × (seat : Seat) × Finds both side.0 side.1 finder × IsSeat finder path seat × IsAt (unmarked side.1) seat.offset place
+-- where the node stands to which the path leads, or none, where it leads nowhere
+abbrev pub IsPlaceOf : List Step → View → Option Place → Type 0
+IsPlaceOf path view None = HasNoSeat view.0 path
+IsPlaceOf path view (Some place) = (seat : Seat) × IsSeat view.0 path seat × IsAt (unmarked view.1) seat.offset place
 
 -- ---- the places of all lines
 
@@ -75,12 +80,12 @@ IsTold places number None = (place : Place) → Contains places (number, place) 
 IsTold places number (Some place) = Contains places (number, place)
 
 -- what is told under the number of a path is its place
-abbrev pub HasPlaces : Both → List (List Step) → Side → List (ℕ × Place) → Type 0
-HasPlaces both paths side places =
-    (number : ℕ) (path : List Step) (place : Option Place) → slice_get paths number ≡ Some path → IsTold places number place → IsPlaceOf both path side place
+abbrev pub HasPlaces : List (List Step) → View → List (ℕ × Place) → Type 0
+HasPlaces paths view places =
+    (number : ℕ) (path : List Step) (place : Option Place) → slice_get paths number ≡ Some path → IsTold places number place → IsPlaceOf path view place
 
 abbrev pub HasSeats : Both → List (List Step) → Side → Seats → Type 0
-HasSeats both paths side seats = HasPlaces both paths side seats.places.items
+HasSeats both paths side seats = (view : View) × Views both side view × HasPlaces paths view seats.places.items
 
 -- the offset of the node to which a path leads is added with the path's number, or the path leads nowhere
 abbrev pub AddsOffset : Finder → List Step → ℕ → List (ℕ × ℕ) → List (ℕ × ℕ) → Type 0
@@ -100,3 +105,8 @@ Tells number = Each (λ seats place. IsTold seats.places.items number place)
 abbrev pub HasAsked : Bool → Both → List (List Step) → List Side → List Seats → Type 0
 HasAsked false both paths sides seats = seats ≡ []
 HasAsked true both paths sides seats = Each (HasSeats both paths) sides seats
+
+-- a view of each side for all lines, where places are asked for
+abbrev pub ViewsAre : Bool → Both → List Side → List View → Type 0
+ViewsAre false both sides views = views ≡ []
+ViewsAre true both sides views = Each (Views both) sides views

@@ -1,4 +1,4 @@
-use Rattle.std.proofs.Common.{map, ap, sym, subst}
+use Rattle.std.proofs.Common.{map, ap, refl, sym, subst}
 use Rattle.std.specs.List.{All}
 use Rattle.review_places.specs.Told.{IsTold}
 use Rattle.review_merge.specs.Placed.{IsLaid}
@@ -12,5 +12,5 @@ returns c =
     let offsets = c.in_ok-offsets.offsets.items in
     let list = c.in_ok-places.field-0.items in
     seats_are c.args.both.now (map (λ path. path.items) c.args.paths.now) c.args.roots.now bytes c.new-finder.result offsets list
-    (record { graph = new.both; hand = ap (λ s. s.hand) new.stream; documents = ap (λ s. s.roots.now) new.stream; laid = subst (IsLaid bytes) (sym new.layout) c.in_ok-layout.ensures }) c.in_ok-offsets.ensures
+    (record { graph = new.both; hand = ap (λ s. s.hand) new.stream; roots = ap (λ s. s.roots.now) new.stream; bytes = refl; laid = subst (IsLaid bytes) (sym new.layout) c.in_ok-layout.ensures }) c.in_ok-offsets.ensures
     (subst (λ z. All (IsTold z offsets) list) c.unmarked.ensures c.in_ok-places.ensures.ok) c.in_ok-places.ensures.numbers
