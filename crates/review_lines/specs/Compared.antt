@@ -250,7 +250,7 @@ TellsAsked (suc lines) both asked f text = TellsFound both asked f text
 -- The text is the lines of the differences of two streams, of as many as were asked for, but for those that are at or below a path that one of the patterns matches; and whether there are none. If the numbers of differences and moves are asked for, they stand in place of the lines.
 pub record TellsStreams (both : Both) (asked : Diff) (ignored : List Pattern) (none : Bool) (text : List ℕ) : Type 0 where
   pub found : Found
-  pub searches : Searches both ignored asked.lines (folds_moves asked) found
+  pub searches : Searches both ignored asked (folds_moves asked) found
   pub kept : Found
   pub keeps : Keeps both.graph ignored (room_for asked.lines) found kept
   pub is_none : none ≡ ((kept.whole && (length kept.list.items == 0)) && (length kept.moves.items == 0))

@@ -22,7 +22,7 @@ pub record ListsFound (both : Both) (asked : Diff) (f : Found) (listed : Listed)
 -- The list is the differences of two streams, of as many as were asked for, but for those that are at or below a path that one of the patterns matches; and whether there are none.
 pub record ListsStreams (both : Both) (asked : Diff) (ignored : List Pattern) (listed : Listed) : Type 0 where
   pub found : Found
-  pub searches : Searches both ignored asked.lines false found
+  pub searches : Searches both ignored asked false found
   pub kept : Found
   pub keeps : Keeps both.graph ignored (room_for asked.lines) found kept
   pub lists : ListsFound both asked kept listed

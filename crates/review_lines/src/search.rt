@@ -1,8 +1,8 @@
 //! The differences and moves that lines tell.
-ghost use Rattle.std.specs.Prelude.{◌≡◌, ◌<◌, ◌≤◌, ◌&&◌, ◌==◌, true, false, take, drop, length, IfOk, IfErr};
+ghost use Rattle.std.specs.Prelude.{◌≡◌, ◌<◌, ◌≤◌, ◌&&◌, ◌==◌, [], true, false, take, drop, length, IfOk, IfErr};
 ghost use Rattle.yaml_graph.specs.GraphView.{roots_of};
 ghost use Rattle.yaml_rank.specs.RanksView.{RanksAre};
-ghost use Rattle.yaml_diff.specs.Found.{FindsItems};
+ghost use Rattle.yaml_diff.specs.Found.{FindsItems, moves_of};
 ghost use Rattle.review_lines.specs.Searched.{room_for, least_room, search_room, Searches};
 
 use review_args::Diff;
@@ -33,6 +33,7 @@ fn keys_of<'a>(alloc: Global, texts: &[&'a str]) -> Result<Vec<&'a str>, Fault>
 fn list_of(alloc: Global, both: &Both<'_>, asked: &Diff<'_>, room: usize) -> Result<Found, Fault>
     requires ranked { RanksAre both.now.graph both.now.ranks }
     ensures ok { IfOk result (FindsItems both.now.graph (take both.now.documents (roots_of both.now.graph)) (drop both.now.documents (roots_of both.now.graph)) room) }
+    ensures calm { asked.now.by_position ≡ true → IfOk result (λ found. moves_of found ≡ []) }
     ensures err { IfErr result (λ fault. fault ≡ Fault.OutOfMemory) }
 {
     let (lefts, rights) = both.sides();
@@ -107,7 +108,7 @@ pub(crate) fn searched(
     folds: bool,
 ) -> Result<Found, Fault>
     requires ranked { RanksAre both.now.graph both.now.ranks }
-    ensures ok { IfOk result (Searches both.now ignored.now asked.now.lines folds) }
+    ensures ok { IfOk result (Searches both.now ignored.now asked.now folds) }
     ensures err { IfErr result (λ fault. fault ≡ Fault.OutOfMemory) }
 {
     let room = search_room(&both.graph, ignored, room_for(asked.lines));

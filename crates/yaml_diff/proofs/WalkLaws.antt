@@ -1,5 +1,5 @@
 -- The walk of two trees, step by step.
-use Rattle.std.proofs.Common.{◌≡◌, ℕ, zero, suc, ◌+◌, ◌-◌, ◌<◌, ◌≤◌, Bool, true, false, ◌&&◌, ◌⊎◌, List, [], ◌∷◌, ◌++◌, map, length, inl, inr, refl, sym, ◌∙◌, ap, subst, arith}
+use Rattle.std.proofs.Common.{◌≡◌, ℕ, zero, suc, ◌+◌, ◌-◌, ◌<◌, ◌≤◌, Bool, true, false, ◌&&◌, ◌⊎◌, List, [], ◌∷◌, ◌++◌, map, take, length, inl, inr, refl, sym, ◌∙◌, ap, subst, arith}
 use Rattle.std.specs.Prelude.{Option, Some, None, Result, Ok, Err, IfOk, Vec}
 use Rattle.std.proofs.Common.{Global}
 use Rattle.std.specs.List.{slice_get}
@@ -27,7 +27,7 @@ use Rattle.yaml_path.specs.declared.places.Places.{Places}
 use Rattle.yaml_diff.specs.declared.difference.Step.TheVariants.{Value}
 use Rattle.yaml_diff.specs.declared.difference.Found.{Found}
 use Rattle.yaml_diff.specs.Lines.{Line, line_of, trees_of, sequence_of, under}
-use Rattle.yaml_diff.specs.Moves.{MoveLine, move_line_of, moved_under}
+use Rattle.yaml_diff.specs.Moves.{MoveLine, move_line_of, here, moved_under}
 use Rattle.yaml_diff.specs.Listing.{Lists, ListsSome, LeftEntries, EntriesBelow, LeftCovers, RightCovers}
 use Rattle.yaml_diff.specs.Found.{lines_of, moves_of, Finds, FindsItems, HasItems, HasEntries, IsValueOf, AllWithin, Within, item_of, size, top, greater}
 use Rattle.yaml_diff.specs.Aligning.{AllRanked}
@@ -57,6 +57,21 @@ cut-found g t u room f a m b z = (turn t u, calm, lists-cut g t u room (lines_of
 
 pub of-places : (g : Graph) (l m r s : Option NodeId) (room : ℕ) (f : Found) → l ≡ m → r ≡ s → Finds g (trees_of g l) (trees_of g r) room f → Finds g (trees_of g m) (trees_of g s) room f
 of-places g l m r s room f a b h = subst (λ z. Finds g (trees_of g z) (trees_of g s) room f) a (subst (λ z. Finds g (trees_of g l) (trees_of g z) room f) b h)
+
+-- no move is added to none
+pub none-more : {X : Type 0} (f : X → X) (old more all : List X) → old ≡ [] → more ≡ [] → all ≡ old ++ map f more → all ≡ []
+none-more f old more all a b e = e ∙ ap (λ z. z ++ map f more) a ∙ ap (map f) b
+
+-- nor is one where no pair has moved
+pub none-moved-here : (moved list : List Places) (old all : List MoveLine) (n : ℕ) → moved ≡ [] → list ≡ moved → old ≡ [] → all ≡ old ++ map here (take n list) → all ≡ []
+none-moved-here moved list old all n a l o e = e ∙ ap (λ z. z ++ map here (take n list)) o ∙ ap (λ z. map here (take n z)) (l ∙ a) ∙ ap (map here) (take-none n)
+  where
+    none : List Places
+    none = []
+
+    take-none : (k : ℕ) → take k none ≡ none
+    take-none zero = refl
+    take-none (suc k) = refl
 
 pub lines-length : (f : Found) → length (lines_of f) ≡ length f.list.items
 lines-length f = length-map f.list.items line_of

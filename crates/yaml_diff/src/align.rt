@@ -1,5 +1,5 @@
 //! Which items of two sequences are taken for each other.
-ghost use Rattle.std.specs.Prelude.{◌≡◌, ◌≤◌, ◌-◌, ◌++◌, IfOk, IfErr, IfSome, OnOk};
+ghost use Rattle.std.specs.Prelude.{◌≡◌, ◌≤◌, ◌-◌, ◌++◌, [], true, IfOk, IfErr, IfSome, OnOk};
 ghost use Rattle.yaml_path.specs.Ways.{turns};
 ghost use Rattle.yaml_rank.specs.RanksView.{numbers_of, RanksAre};
 ghost use Rattle.yaml_diff.specs.Found.{Aligns};
@@ -120,6 +120,7 @@ fn in_turn(
     requires left { AllRanked ranks.now lefts.now }
     requires right { AllRanked ranks.now rights.now }
     ensures ok { IfOk result (λ it. Aligns ranks.now lefts.now rights.now it.list.items it.moved.items) }
+    ensures calm { IfOk result (λ it. it.moved.items ≡ []) }
     ensures err { IfErr result (λ fault. fault ≡ Fault.OutOfMemory) }
 {
     let front = equal_front(ranks, lefts, rights);
@@ -228,6 +229,7 @@ pub(crate) fn align<'g>(
     requires left { AllRanked ranks.now lefts.now }
     requires right { AllRanked ranks.now rights.now }
     ensures ok { IfOk result (λ it. Aligns ranks.now lefts.now rights.now it.list.items it.moved.items) }
+    ensures calm { asked.entry.by_position ≡ true → IfOk result (λ it. it.moved.items ≡ []) }
     ensures err { IfErr result (λ fault. fault ≡ Fault.OutOfMemory) }
 {
     if asked.by_position || are_lone(documents, lefts, rights) {

@@ -9,7 +9,7 @@ use Rattle.review_lines.proofs.diff.compare.Goals as goal
 pub returns-clause-text : goal.returns-clause-text
 returns-clause-text c = record {
   found = c.in_ok-found.found;
-  searches = subst (λ z. Rattle.review_lines.specs.Searched.Searches c.args.both.now c.args.ignored.now c.args.asked.now.lines z c.in_ok-found.found) c.folds_moves.ensures c.in_ok-found.ensures.ok;
+  searches = subst (λ z. Rattle.review_lines.specs.Searched.Searches c.args.both.now c.args.ignored.now c.args.asked.now z c.in_ok-found.found) c.folds_moves.ensures c.in_ok-found.ensures.ok;
   kept = c.in_ok-kept.kept;
   keeps = subst (λ n. Keeps c.args.both.now.graph c.args.ignored.now n c.in_ok-found.found c.in_ok-kept.kept) c.room_for.ensures.asked c.in_ok-kept.ensures.ok;
   is_none = c.lists_none-same.ensures;

@@ -1,6 +1,6 @@
 use Rattle.std.proofs.Common.{◌≡◌, true, false, sym, ◌∙◌, ap, arith}
 use Rattle.review_lines.specs.Searched.{room_for, least_room, search_room}
-use Rattle.review_lines.proofs.ListLaws.{if_ok}
+use Rattle.review_lines.proofs.ListLaws.{if_ok, if_both}
 use Rattle.review_lines.proofs.search.searched.Goals as goal
 
 pub returns-then-is_enough-clause-ok : goal.returns-then-is_enough-clause-ok
@@ -11,6 +11,7 @@ returns-then-is_enough-clause-ok c =
     record {
       room = c.search_room-room.result;
       finds = c.in_ok-found.ensures.ok;
+      calm = c.in_ok-found.ensures.calm;
       enough = omega (arith, e);
       unfolded = λ f. e;
       folded = λ f w m. let k = c.is_enough.ensures.enough c.if-is_enough.true f w m in omega (arith, n, k);
@@ -24,12 +25,13 @@ returns-clause-ok c =
     if_ok c.list_of-2.result
     (λ x h. record {
       room = c.least_room-folded.result;
-      finds = h;
+      finds = h.0;
+      calm = h.1;
       enough = let l = c.is_enough.ensures.room c.if-is_enough.false in omega (arith, e, l);
       unfolded = λ f. absurd (true-false (sym (c.is_enough.ensures.folds c.if-is_enough.false) ∙ f));
       folded = λ f w m. omega (arith, n);
     })
-    c.list_of-2.ensures.ok
+    (if_both c.list_of-2.result c.list_of-2.ensures.ok c.list_of-2.ensures.calm)
   where
     true-false : true ≡ false → ⊥
     true-false q = absurd (cc)
