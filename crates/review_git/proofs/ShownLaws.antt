@@ -13,7 +13,7 @@ abbrev pub Behind : List ℕ → List ℕ → (List ℕ → Type 0) → Type 0
 Behind old new tells = (x : List ℕ) × (new ≡ old ++ x) × tells x
 
 -- two texts that are different
-pub changed_lines : (left right old new out a b : List ℕ) (edits : List Edit) → bytes_eq old new ≡ false → a ≡ out ++ side_lines left right → IsScript old new edits → PutsHunks edits a b → Behind out b (TellsChanges left right (Some old) (Some new))
+pub changed_lines : (left right old new out a b : List ℕ) (edits : List Edit) → bytes_eq old new ≡ false → a ≡ out ++ side_lines left right → IsScript old new edits → PutsHunks 3 edits a b → Behind out b (TellsChanges left right (Some old) (Some new))
 changed_lines left right old new out a b edits n e s h = (
   side_lines left right ++ h.hunks,
   h.text ∙ ap (λ z. z ++ h.hunks) e ∙ append_assoc out (side_lines left right) h.hunks,

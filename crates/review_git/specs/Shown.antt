@@ -18,12 +18,12 @@ IsShownFile name bytes None text = (fault : Fault) × ShowRefuses bytes fault ×
 abbrev pub side_lines : List ℕ → List ℕ → List ℕ
 side_lines left right = codes "--- " ++ (terminal left ++ (codes "\n+++ " ++ (terminal right ++ codes "\n")))
 
--- Of two texts that are different: both names, and a unified diff from one to the other.
+-- Of two texts that are different: both names, and a unified diff from one to the other, with three kept lines around its changes.
 pub record TellsLines (left right : List ℕ) (old new : List ℕ) (text : List ℕ) : Type 0 where
   pub edits : List Edit
   pub script : IsScript old new edits
   pub hunks : List ℕ
-  pub are : AreHunks 1 1 edits hunks
+  pub are : AreHunks 3 1 1 edits hunks
   pub is : text ≡ side_lines left right ++ hunks
 
 abbrev pub TellsChanges : List ℕ → List ℕ → Option (List ℕ) → Option (List ℕ) → List ℕ → Type 0

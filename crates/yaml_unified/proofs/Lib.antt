@@ -1,1 +1,2 @@
 mod UnifiedLaws
+mod FramedLaws

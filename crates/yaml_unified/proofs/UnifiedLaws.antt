@@ -7,7 +7,7 @@ use Rattle.std.proofs.lemmas.List.{append_assoc, append-nil, take-take, take-app
 use Rattle.std.proofs.lemmas.List.Folds.{list_any_more, list_any-append}
 use Rattle.yaml_script.specs.Script.{is_change}
 use Rattle.yaml_script.specs.declared.script.Edit.{Edit}
-use Rattle.yaml_unified.specs.Unified.{lefts, rights, hunk_text, AreHunks, hunk, no_hunk, PutsHunk, PutsHunks}
+use Rattle.yaml_unified.specs.Unified.{lefts, rights, hunk_text, Framed, AreHunks, hunk, no_hunk, PutsHunk, PutsHunks}
 
 drop_next : {X : Type 0} (xs : List X) (i : ℕ) (d : X) → i < length xs → drop i xs ≡ get_or xs i d ∷ drop (i + 1) xs
 drop_next xs i d l = rw add-one (drop-cons xs i d l)
@@ -36,15 +36,16 @@ in_three : (es a b c d : List Edit) (m n : ℕ) → a ≡ take m es → b ≡ dr
 in_three es a b c d m n e f g h = sym (ap (λ z. a ++ z) (ap (λ z. z ++ d) g ∙ ap (λ z. take n b ++ z) h ∙ take-append-drop n b ∙ f) ∙ ap (λ z. z ++ drop m es) e ∙ take-append-drop m es)
 
 -- a hunk that is written of the second part, where no change is in the first
-pub hunk_put : (es a b c d : List Edit) (m n change l r lefts_of rights_of : ℕ) (old new : List ℕ) → a ≡ take m es → b ≡ drop m es → c ≡ take n b → d ≡ drop n b → m ≤ change → length a + length b ≡ length es → length d < length b
-    → list_any is_change (take change es) ≡ false → lefts_of ≡ lefts c → rights_of ≡ rights c → new ≡ old ++ hunk_text (l + length a) (r + length a) c
-    → PutsHunk es l r d (l + length a + lefts_of) (r + length a + rights_of) old new
-hunk_put es a b c d m n change l r lefts_of rights_of old new e f g h k len shorter none left right text =
+pub hunk_put : (context : ℕ) (es a b c d : List Edit) (m n change l r lefts_of rights_of : ℕ) (old new : List ℕ) → a ≡ take m es → b ≡ drop m es → c ≡ take n b → d ≡ drop n b → m ≤ change → length a + length b ≡ length es → length d < length b
+    → list_any is_change (take change es) ≡ false → Framed context a c d → lefts_of ≡ lefts c → rights_of ≡ rights c → new ≡ old ++ hunk_text (l + length a) (r + length a) c
+    → PutsHunk context es l r d (l + length a + lefts_of) (r + length a + rights_of) old new
+hunk_put context es a b c d m n change l r lefts_of rights_of old new e f g h k len shorter none framed left right text =
     record {
       skipped = a;
       shown = c;
       whole = in_three es a b c d m n e f g h;
       kept = subst (λ z. list_any is_change z ≡ false) (sym e) (kept_part es m change k none);
+      framed = framed;
       text = text;
       left = ap (λ z. l + length a + z) left;
       right = ap (λ z. r + length a + z) right;
@@ -52,21 +53,21 @@ hunk_put es a b c d m n change l r lefts_of rights_of old new e f g h k len shor
     }
 
 -- the hunks of what is left come behind one that is written
-pub hunk_more : (edits rest whole : List Edit) (l r l_next r_next : ℕ) (start old new : List ℕ) → PutsHunk edits l r rest l_next r_next old new
-    → ((t : List ℕ) → AreHunks l r edits t → PutsHunks whole start (old ++ t)) → (t : List ℕ) → AreHunks l_next r_next rest t → PutsHunks whole start (new ++ t)
-hunk_more edits rest whole l r l_next r_next start old new p so_far t h =
+pub hunk_more : (context : ℕ) (edits rest whole : List Edit) (l r l_next r_next : ℕ) (start old new : List ℕ) → PutsHunk context edits l r rest l_next r_next old new
+    → ((t : List ℕ) → AreHunks context l r edits t → PutsHunks context whole start (old ++ t)) → (t : List ℕ) → AreHunks context l_next r_next rest t → PutsHunks context whole start (new ++ t)
+hunk_more context edits rest whole l r l_next r_next start old new p so_far t h =
     let text = hunk_text (l + length p.skipped) (r + length p.skipped) p.shown in
-    let there : AreHunks (l + length p.skipped + lefts p.shown) (r + length p.skipped + rights p.shown) rest t = subst (λ z. AreHunks z (r + length p.skipped + rights p.shown) rest t) p.left (subst (λ z. AreHunks l_next z rest t) p.right h) in
-    let all : AreHunks l r edits (text ++ t) = subst (λ z. AreHunks l r z (text ++ t)) (sym p.whole) (hunk p.skipped p.shown p.kept there) in
-    subst (PutsHunks whole start) (sym (ap (λ z. z ++ t) p.text ∙ append_assoc old text t)) (so_far (text ++ t) all)
+    let there : AreHunks context (l + length p.skipped + lefts p.shown) (r + length p.skipped + rights p.shown) rest t = subst (λ z. AreHunks context z (r + length p.skipped + rights p.shown) rest t) p.left (subst (λ z. AreHunks context l_next z rest t) p.right h) in
+    let all : AreHunks context l r edits (text ++ t) = subst (λ z. AreHunks context l r z (text ++ t)) (sym p.whole) (hunk p.skipped p.shown p.kept p.framed there) in
+    subst (PutsHunks context whole start) (sym (ap (λ z. z ++ t) p.text ∙ append_assoc old text t)) (so_far (text ++ t) all)
 
 -- nothing is left to be written
-pub hunks_end : (edits whole : List Edit) (l r : ℕ) (start out : List ℕ) → list_any is_change edits ≡ false
-    → ((t : List ℕ) → AreHunks l r edits t → PutsHunks whole start (out ++ t)) → PutsHunks whole start out
-hunks_end edits whole l r start out none so_far = subst (PutsHunks whole start) (append-nil out) (so_far [] (no_hunk none))
+pub hunks_end : (context : ℕ) (edits whole : List Edit) (l r : ℕ) (start out : List ℕ) → list_any is_change edits ≡ false
+    → ((t : List ℕ) → AreHunks context l r edits t → PutsHunks context whole start (out ++ t)) → PutsHunks context whole start out
+hunks_end context edits whole l r start out none so_far = subst (PutsHunks context whole start) (append-nil out) (so_far [] (no_hunk none))
 
-pub hunks_start : (whole : List Edit) (start t : List ℕ) → AreHunks 1 1 whole t → PutsHunks whole start (start ++ t)
-hunks_start whole start t h = record { hunks = t; text = refl; are = h }
+pub hunks_start : (context : ℕ) (whole : List Edit) (start t : List ℕ) → AreHunks context 1 1 whole t → PutsHunks context whole start (start ++ t)
+hunks_start context whole start t h = record { hunks = t; text = refl; are = h }
 
 -- ---- a search for the first change
 

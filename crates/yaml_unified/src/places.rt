@@ -1,8 +1,8 @@
 //! Where hunks begin and end.
-ghost use Rattle.std.specs.Prelude.{◌≡◌, ◌<◌, ◌≤◌, length, take, false, None, IfSome};
+ghost use Rattle.std.specs.Prelude.{◌≡◌, ◌<◌, ◌≤◌, length, take, drop, false, None, IfSome};
 ghost use Rattle.std.specs.List.{list_any};
 ghost use Rattle.yaml_script.specs.Script.{is_change};
-ghost use Rattle.yaml_unified.specs.Unified.{IsFirstChange};
+ghost use Rattle.yaml_unified.specs.Unified.{IsFirstChange, EndsHunk};
 
 use yaml_script::Edit;
 
@@ -19,20 +19,28 @@ pub fn first_change(edits: &[Edit<'_>]) -> Option<usize>
     None
 }
 
-/// How many edits are a hunk that begins at the first one: up to the first change behind which there are more than twice so many kept
-/// lines, and so many of these.
-pub fn hunk_len(edits: &[Edit<'_>], context: usize) -> usize
-    requires few { context < 65536 }
-    ensures within { result ≤ length edits.now }
-    ensures some { 0 < length edits.now → 0 < result }
+/// So many edits from a place on, or all that there are.
+fn window<'s, 't>(edits: &'s [Edit<'t>], from: usize, len: usize) -> &'s [Edit<'t>]
+    requires { from ≤ length edits.now }
+    ensures { result.now ≡ take len (drop from edits.now) }
 {
-    let mut end = 0;
-    for (place, edit) in edits.iter().enumerate() {
-        if edit.is_change() {
-            end = place;
-        } else if place.saturating_sub(end) > 2 * context {
-            break;
-        }
+    let behind = &edits[from..];
+    &behind[..len.min(behind.len())]
+}
+
+/// How many edits are a hunk that begins with kept lines before its first change: up to the first change behind which there are more
+/// than twice so many kept lines, and so many of these.
+pub fn hunk_len(edits: &[Edit<'_>], first: usize, context: usize) -> usize
+    requires few { context < 65536 }
+    requires first { IsFirstChange edits.now first }
+    requires front { first ≤ context }
+    ensures within { result ≤ length edits.now }
+    ensures some { first < result }
+    ensures ends { EndsHunk context (take result edits.now) (drop result edits.now) }
+{
+    let mut end = first;
+    'changes: while let Some(next) = first_change(window(edits, end + 1, 2 * context + 1)) {
+        end += next + 1;
     }
     edits
         .len()

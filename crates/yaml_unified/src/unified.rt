@@ -28,11 +28,11 @@ fn put_next<'s, 't>(
     requires rights { rest.right + length rest.edits.now < 2 ^ 64 }
     ensures lefts { IfOk result (λ next. next.left + length next.edits.now ≤ rest.entry.left + length rest.entry.edits.now) }
     ensures rights { IfOk result (λ next. next.right + length next.edits.now ≤ rest.entry.right + length rest.entry.edits.now) }
-    ensures hunk { IfOk result (λ next. PutsHunk rest.entry.edits.now rest.entry.left rest.entry.right next.edits.now next.left next.right (string_bytes out.old) (string_bytes out.new)) }
+    ensures hunk { IfOk result (λ next. PutsHunk context rest.entry.edits.now rest.entry.left rest.entry.right next.edits.now next.left next.right (string_bytes out.old) (string_bytes out.new)) }
     ensures only { IfErr result (λ fault. fault ≡ Fault.OutOfMemory) }
 {
     let (skipped, more) = rest.edits.split_at(change.saturating_sub(context));
-    let (shown, after) = more.split_at(hunk_len(more, context));
+    let (shown, after) = more.split_at(hunk_len(more, change - skipped.len(), context));
     let left = rest.left + skipped.len();
     let right = rest.right + skipped.len();
     put_hunk(out, left, right, shown)?;
@@ -46,7 +46,7 @@ fn put_next<'s, 't>(
 /// Writes the changes of a script as hunks of a unified diff, each with so many kept lines before and behind its changes.
 pub fn put_unified(out: &mut String, edits: &[Edit<'_>], context: usize) -> Result<(), Fault>
     requires few { context < 65536 }
-    ensures hunks { OnOk result (PutsHunks edits.now (string_bytes out.old) (string_bytes out.new)) }
+    ensures hunks { OnOk result (PutsHunks context edits.now (string_bytes out.old) (string_bytes out.new)) }
     ensures only { IfErr result (λ fault. fault ≡ Fault.OutOfMemory) }
 {
     let mut rest = Rest {
