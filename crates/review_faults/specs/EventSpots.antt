@@ -7,9 +7,8 @@ use Rattle.yaml_definitions.specs.model.Text.{mark_len}
 use Rattle.yaml_text.specs.declared.fault.Fault.{Fault}
 use Rattle.yaml_text.specs.declared.fault.Fault.TheVariants as faults
 use Rattle.review_places.specs.Trace.{TraceHolds, shapes_in}
-use Rattle.review_places.specs.Trails.{documents_before, path_of}
+use Rattle.review_places.specs.Trails.{frames_of, path_text}
 use Rattle.review_places.specs.declared.trace.Trace.{Trace}
-use Rattle.review_places.specs.declared.trail.Trail.{Trail}
 use Rattle.review_text.specs.TagWords.{tag_words}
 use Rattle.review_faults.specs.EventPlaces.{IsEventOf, IsFirstOf, IsShownAt, noted_offset}
 use Rattle.review_faults.specs.declared.spots.Spot.{Spot}
@@ -28,11 +27,9 @@ ends_document mapping_end = false
 ends_document (scalar_event a t style text) = false
 ends_document (alias_event name) = false
 
--- The path that a trail of these events tells when as many documents have ended as end up to this event. Which collections the trail has open, its contract leaves open.
-pub record IsPathAt (events : List Event) (event : ℕ) (path : List ℕ) : Type 0 where
-  pub trail : Trail
-  pub document : documents_before trail ≡ count_by ends_document (take (event + 1) events)
-  pub is : path ≡ path_of trail events
+-- The path of the node that begins at the event of this number. As many documents have ended as end up to this event. The collections are those that are open behind it.
+abbrev pub path_at : List Event → ℕ → List ℕ
+path_at events event = path_text events (count_by ends_document (take (event + 1) events)) (frames_of (take (event + 1) events))
 
 -- ---- the words
 
@@ -51,7 +48,7 @@ HasNoNode spot = (spot.path ≡ None) × (spot.words ≡ None) × (spot.first �
 -- What is known of a fault of this event: where it is shown, the path of its node, what is said of its tag, and the offset that was noted at the first of two equal keys.
 pub record IsSpotAt (trace : Trace) (events : List Event) (text : List ℕ) (fault : Fault) (event : ℕ) (spot : Spot) : Type 0 where
   pub shown : IsShownAt trace text fault event spot.at
-  pub path : IsSomeAnd spot.path (λ path. IsPathAt events event (string_bytes path))
+  pub path : IsSomeAnd spot.path (λ path. string_bytes path ≡ path_at events event)
   pub words : option_map string_bytes spot.words ≡ fault_words fault (slice_get events event)
   pub key : Option ℕ
   pub of_key : IsFirstOf (shapes_in trace.events.items) fault key

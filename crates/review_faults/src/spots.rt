@@ -3,10 +3,10 @@ ghost use Rattle.std.specs.Prelude.{◌≡◌, ◌+◌, map, option_map, option_
 ghost use Rattle.std.specs.List.{count_by};
 ghost use Rattle.yaml_text.specs.EventModel.{event_of};
 ghost use Rattle.review_places.specs.Trace.{shapes_in};
-ghost use Rattle.review_places.specs.Trails.{documents_before};
+ghost use Rattle.review_places.specs.Trails.{documents_before, open_frames, frames_of};
 ghost use Rattle.review_faults.specs.Again.{CannotRead, CannotTell};
 ghost use Rattle.review_faults.specs.EventPlaces.{IsEventOf, IsFirstOf, IsShownAt, noted_offset};
-ghost use Rattle.review_faults.specs.EventSpots.{ends_document, IsPathAt, fault_words, IsSpotAt, IsEventSpot};
+ghost use Rattle.review_faults.specs.EventSpots.{ends_document, path_at, fault_words, IsSpotAt, IsEventSpot};
 ghost use Rattle.review_faults.specs.Explained.{AreWords};
 ghost use Rattle.review_faults.specs.FaultLines.{offset_in, names_event, IsPlaceAt, IsPlaceOf, IsSpot, IsTold};
 
@@ -188,6 +188,7 @@ fn events_to<'e, 'a>(events: &'e [Event<'a>], number: usize) -> &'e [Event<'a>]
 /// The trail of these events.
 fn trail_of(alloc: Global, events: &[Event<'_>]) -> Result<Trail, Fault>
     ensures ok { IfOk result (λ trail. documents_before trail ≡ count_by ends_document (map event_of events.now)) }
+    ensures frames { IfOk result (λ trail. open_frames trail ≡ frames_of (map event_of events.now)) }
     ensures err { IfErr result (λ fault. fault ≡ Fault.OutOfMemory) }
 {
     let mut trail = Trail::new(alloc);
@@ -199,7 +200,7 @@ fn trail_of(alloc: Global, events: &[Event<'_>]) -> Result<Trail, Fault>
 
 /// The path of the node that begins at the event of this number.
 fn path_at(alloc: Global, events: &[Event<'_>], number: usize) -> Result<String, Fault>
-    ensures ok { IfOk result (λ path. IsPathAt (map event_of events.now) number (string_bytes path)) }
+    ensures ok { IfOk result (λ path. string_bytes path ≡ path_at (map event_of events.now) number) }
     ensures err { IfErr result (λ fault. fault ≡ Fault.OutOfMemory) }
 {
     let trail = trail_of(alloc, events_to(events, number))?;

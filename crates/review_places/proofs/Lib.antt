@@ -1,4 +1,5 @@
 mod TraceLaws
+pub mod TrailLaws
 mod Lists
 mod NodeLaws
 mod LayoutLaws

@@ -1,5 +1,5 @@
 -- What a trail of events holds, and the steps of its path.
-use Rattle.std.specs.Prelude.{ℕ, ◌+◌, ◌^◌, ◌-◌, min, ◌%◌, ◌==◌, ◌&&◌, nat_lt, Bool, true, false, not, cond, List, [], ◌++◌, codes, length, flat_map, slice_get, Option, Some, None, Ok, Err}
+use Rattle.std.specs.Prelude.{ℕ, ◌+◌, ◌^◌, ◌-◌, min, ◌%◌, ◌==◌, ◌&&◌, nat_lt, Bool, true, false, not, cond, List, [], ◌∷◌, ◌++◌, codes, length, take, flat_map, slice_get, Option, Some, None, Ok, Err}
 use Rattle.std.specs.List.{count_by}
 use Rattle.std.specs.Fmt.{decimal}
 use Rattle.yaml_definitions.specs.model.Event.{Event, stream_start, stream_end, document_start, document_end, sequence_start, sequence_end, mapping_start, mapping_end, scalar_event, alias_event}
@@ -13,7 +13,7 @@ use Rattle.review_places.specs.declared.trail.Frame.{Frame}
 abbrev pub documents_before : Trail → ℕ
 documents_before trail = trail.document
 
--- the collections that are open
+-- the collections that are open, the outermost one first
 abbrev pub open_frames : Trail → List Frame
 open_frames trail = trail.frames.items
 
@@ -21,6 +21,62 @@ open_frames trail = trail.frames.items
 abbrev pub documents_after : Event → ℕ → ℕ
 documents_after (document_end explicit) n = min (n + 1) (2 ^ 64 - 1)
 documents_after _ n = n
+
+-- a collection when a part begins in it at the event of this number; parts are counted up to the greatest u64
+abbrev pub begun : ℕ → Frame → Frame
+begun at frame = record {
+  event = frame.event;
+  is_mapping = frame.is_mapping;
+  parts = min (frame.parts + 1) (2 ^ 64 - 1);
+  last = at;
+  key = frame.last;
+}
+
+-- The same of the innermost one. Where none is open, a document's root begins.
+abbrev pub begun_in : ℕ → List Frame → List Frame
+begun_in at [] = []
+begun_in at (frame ∷ []) = begun at frame ∷ []
+begun_in at (outer ∷ inner ∷ frames) = outer ∷ begun_in at (inner ∷ frames)
+
+-- a collection in which no part began
+abbrev pub new_frame : ℕ → Bool → Frame
+new_frame at is_mapping = record {
+  event = at;
+  is_mapping = is_mapping;
+  parts = 0;
+  last = at;
+  key = at;
+}
+
+-- a collection is a part of the innermost one, and then the innermost one itself
+abbrev pub opened : ℕ → Bool → List Frame → List Frame
+opened at is_mapping frames = begun_in at frames ++ (new_frame at is_mapping ∷ [])
+
+-- all but the innermost one
+abbrev pub closed : List Frame → List Frame
+closed frames = take (length frames - 1) frames
+
+-- The collections that are open behind the event of this number. A node begins at a scalar, at an alias and at the start of a collection.
+abbrev pub frames_after : ℕ → Event → List Frame → List Frame
+frames_after at (scalar_event a t style text) frames = begun_in at frames
+frames_after at (alias_event name) frames = begun_in at frames
+frames_after at (sequence_start flow a t) frames = opened at false frames
+frames_after at (mapping_start flow a t) frames = opened at true frames
+frames_after at sequence_end frames = closed frames
+frames_after at mapping_end frames = closed frames
+frames_after at stream_start frames = frames
+frames_after at stream_end frames = frames
+frames_after at (document_start explicit) frames = frames
+frames_after at (document_end explicit) frames = frames
+
+-- the same behind all of these events, of which the first has this number
+abbrev pub frames_from : ℕ → List Event → List Frame → List Frame
+frames_from at [] frames = frames
+frames_from at (event ∷ events) frames = frames_from (at + 1) events (frames_after at event frames)
+
+-- the collections that are open behind these events, of which the first has the number 0
+abbrev pub frames_of : List Event → List Frame
+frames_of events = frames_from 0 events []
 
 -- the step to the value of a key that no path has
 abbrev pub untold : List ℕ
@@ -88,6 +144,10 @@ steps_text events frames = flat_map (frame_step events) frames
 abbrev pub or_dot : List ℕ → List ℕ
 or_dot text = cond (length text == 0) (codes ".") text
 
--- the path of the node that began last, in the stream of these events
+-- the path of the node that began last, by the number of its document and the collections that are open
+abbrev pub path_text : List Event → ℕ → List Frame → List ℕ
+path_text events document frames = or_dot (number_text events document ++ steps_text events frames)
+
+-- the same by a trail, in the stream of these events
 abbrev pub path_of : Trail → List Event → List ℕ
-path_of trail events = or_dot (number_text events (documents_before trail) ++ steps_text events (open_frames trail))
+path_of trail events = path_text events (documents_before trail) (open_frames trail)

@@ -3,7 +3,7 @@ ghost use Rattle.std.specs.Prelude.{◌≡◌, ◌++◌, [], codes, map, find, r
 ghost use Rattle.std.specs.Fmt.{decimal};
 ghost use Rattle.yaml_definitions.specs.model.Core.{resolve};
 ghost use Rattle.yaml_text.specs.EventModel.{event_of, written_of, style_of};
-ghost use Rattle.review_places.specs.Trails.{documents_before, documents_after, open_frames, untold, resolved_step, key_step, has_part, is_key, frame_step, begins_document, is_numbered, number_text, steps_text, or_dot, path_of};
+ghost use Rattle.review_places.specs.Trails.{documents_before, documents_after, open_frames, begun_in, opened, frames_after, untold, resolved_step, key_step, has_part, is_key, frame_step, begins_document, is_numbered, number_text, steps_text, or_dot, path_of};
 
 use review_text::text::{put_all, put_scalar_key};
 use std::alloc::Global;
@@ -63,7 +63,8 @@ impl Trail {
 
     /// A node begins at the event of this number.
     fn begin(&mut self, at: usize)
-        ensures { documents_before self.new ≡ documents_before self.old }
+        ensures document { documents_before self.new ≡ documents_before self.old }
+        ensures frames { open_frames self.new ≡ begun_in at (open_frames self.old) }
     {
         if let Some(frame) = self.frames.last_mut() {
             frame.key = frame.last;
@@ -74,6 +75,7 @@ impl Trail {
 
     fn open(&mut self, at: usize, is_mapping: bool) -> Result<(), Fault>
         ensures document { documents_before self.new ≡ documents_before self.old }
+        ensures frames { IfOk result (λ _. open_frames self.new ≡ opened at is_mapping (open_frames self.old)) }
         ensures err { IfErr result (λ fault. fault ≡ Fault.OutOfMemory) }
     {
         self.begin(at);
@@ -93,6 +95,7 @@ impl Trail {
     /// `OutOfMemory`
     pub fn take(&mut self, at: usize, event: &Event<'_>) -> Result<(), Fault>
         ensures document { IfOk result (λ _. documents_before self.new ≡ documents_after (event_of event.now) (documents_before self.old)) }
+        ensures frames { IfOk result (λ _. open_frames self.new ≡ frames_after at (event_of event.now) (open_frames self.old)) }
         ensures err { IfErr result (λ fault. fault ≡ Fault.OutOfMemory) }
     {
         match event {
