@@ -1,5 +1,5 @@
 -- Which scalars of a stream `warn` reports, where, and in which lines.
-use Rattle.std.specs.Prelude.{◌≡◌, ◌≤◌, ◌+◌, ℕ, Bool, nat_le, bytes_eq, cond, length, drop, take, map, slice_get, List, [], ◌∷◌, ◌++◌, Option, Some, None, codes, string_bytes}
+use Rattle.std.specs.Prelude.{◌≡◌, ◌≤◌, ◌+◌, ℕ, Bool, nat_le, bytes_eq, cond, length, drop, take, map, find, reverse, slice_get, List, [], ◌∷◌, ◌++◌, Option, Some, None, codes, string_bytes}
 use Rattle.std.specs.Borrow.{Bor}
 use Rattle.std.specs.List.{list_any, flat_map}
 use Rattle.yaml_definitions.specs.model.Event.{Event, untagged, plain, scalar_event}
@@ -16,6 +16,8 @@ use Rattle.review_text.specs.Terminal.{terminal}
 use Rattle.review_text.specs.Yaml11.{new_kind, older_of, IsOlder}
 use Rattle.review_text.specs.declared.yaml11.Older.{Older}
 use Rattle.review_lines.specs.Lines.{more_text}
+use Rattle.review_places.specs.Trails.{frames_after, is_key, has_part}
+use Rattle.review_places.specs.declared.trail.Frame.{Frame}
 use Rattle.review_faults.specs.Heads.{head}
 use Rattle.review_faults.specs.declared.warn.Warning.{Warning}
 use Rattle.review_faults.specs.declared.warn.Warnings.{Warnings}
@@ -39,24 +41,30 @@ unless_word words (Some text) = cond (is_word words text) None (Some text)
 abbrev pub asked_text : List (Bor (List ℕ)) → Event → Option (List ℕ)
 asked_text allowed e = unless_word allowed (plain_text e)
 
--- What YAML 1.1 makes of this text, if it reads it otherwise. It is read as a key or as no key, which tells for `<<` alone.
-abbrev pub TellsOlder : Option (List ℕ) → Option Older → Type 0
-TellsOlder None told = told ≡ None
-TellsOlder (Some text) told = (is_key : Bool) × IsOlder (older_of text is_key) (new_kind text) told
+-- What YAML 1.1 makes of this text, if it reads it otherwise, as a key or as no key.
+abbrev pub TellsOlder : Bool → Option (List ℕ) → Option Older → Type 0
+TellsOlder is_key None told = told ≡ None
+TellsOlder is_key (Some text) told = IsOlder (older_of text is_key) (new_kind text) told
+
+-- where these collections are open, the node that began last is a key
+abbrev pub is_at_key : List Frame → Bool
+is_at_key frames = is_key (find has_part (reverse frames))
 
 abbrev pub noted : ℕ → Option Older → List (ℕ × Older)
 noted at None = []
 noted at (Some why) = (at, why) ∷ []
 
--- All warnings of events of which the first has this number, in their order: the number of each event that is asked about and read otherwise, and what YAML 1.1 makes of it.
-abbrev pub AllWarned : List (Bor (List ℕ)) → ℕ → List code.Event → List (ℕ × Older) → Type 0
-AllWarned allowed at [] all = all ≡ []
-AllWarned allowed at (e ∷ es) all = (told : Option Older) × (rest : List (ℕ × Older)) × TellsOlder (asked_text allowed (event_of e)) told × AllWarned allowed (at + 1) es rest × (all ≡ noted at told ++ rest)
+-- All warnings of events of which the first has this number, in their order: the number of each event that is asked about and read otherwise, and what YAML 1.1 makes of it. These collections are open before the first.
+abbrev pub AllWarned : List (Bor (List ℕ)) → ℕ → List Frame → List code.Event → List (ℕ × Older) → Type 0
+AllWarned allowed at frames [] all = all ≡ []
+AllWarned allowed at frames (e ∷ es) all =
+    let next = frames_after at (event_of e) frames in
+    (told : Option Older) × (rest : List (ℕ × Older)) × TellsOlder (is_at_key next) (asked_text allowed (event_of e)) told × AllWarned allowed (at + 1) next es rest × (all ≡ noted at told ++ rest)
 
 -- the first of them, as many as there is room for, and whether these are all
 pub record FindsWarned (allowed : List (Bor (List ℕ))) (room : ℕ) (events : List code.Event) (list : List (ℕ × Older)) (whole : Bool) : Type 0 where
   pub all : List (ℕ × Older)
-  pub warned : AllWarned allowed 0 events all
+  pub warned : AllWarned allowed 0 [] events all
   pub first : list ≡ take room all
   pub are_all : whole ≡ nat_le (length all) room
 
@@ -86,7 +94,7 @@ AreWarnings events text (told ∷ found) list = (one : Warning) × (rest : List 
 pub record ListsFirst (bytes : List ℕ) (allowed : List (Bor (List ℕ))) (all : List (ℕ × Older)) (lines : ℕ) (list : List Warning) : Type 0 where
   pub events : List code.Event
   pub reads : Reads bytes (map event_of events)
-  pub warned : AllWarned allowed 0 events all
+  pub warned : AllWarned allowed 0 [] events all
   pub are : AreWarnings events (drop (mark_len bytes) bytes) (take lines all) list
 
 -- as many as there is room for, and whether these are all

@@ -1,7 +1,9 @@
 //! Where in a file a node is that JSON cannot express.
-ghost use Rattle.std.specs.Prelude.{◌≡◌, ◌++◌, ℕ, List, drop, IfOk, IfErr, OnOk, string_bytes};
+ghost use Rattle.std.specs.Prelude.{◌≡◌, ◌++◌, ℕ, List, drop, map, IfOk, IfErr, IfSome, OnOk, string_bytes};
 ghost use Rattle.yaml_definitions.specs.model.Text.{mark_len};
+ghost use Rattle.yaml_text.specs.EventModel.{event_of};
 ghost use Rattle.review_faults.specs.Again.{CannotRead};
+ghost use Rattle.review_faults.specs.EventSpots.{path_at};
 ghost use Rattle.review_faults.specs.NoJson.{IsOfText, BeginsSomewhere};
 
 use crate::faults::put_head;
@@ -133,6 +135,7 @@ fn anchor_of<'e>(event: &'e Event<'_>) -> Option<&'e str> {
 
 /// The number and the path of the first event whose node JSON cannot express, and why.
 fn find_lack(alloc: Global, events: &[Event<'_>]) -> Result<Option<(usize, String, Lack)>, Fault>
+    ensures path { IfOk result (λ found. IfSome found (λ f. string_bytes f.1 ≡ path_at (map event_of events.now) f.0)) }
     ensures err { IfErr result (λ fault. fault ≡ Fault.OutOfMemory) }
 {
     let mut trail = Trail::new(alloc);

@@ -63,7 +63,7 @@ fn asked_text<'e>(event: &'e Event<'_>, allowed: &[&str]) -> Option<&'e str>
 
 /// What YAML 1.1 makes of a text that is asked about, where it reads it otherwise.
 fn older_of(text: Option<&str>, is_key: bool) -> Option<Older>
-    ensures { TellsOlder (option_map (λ t. t.now) text.entry) result }
+    ensures { TellsOlder is_key (option_map (λ t. t.now) text.entry) result }
 {
     match text {
         Some(text) => read_older(text, is_key),

@@ -22,7 +22,7 @@ abbrev pub documents_after : Event → ℕ → ℕ
 documents_after (document_end explicit) n = min (n + 1) (2 ^ 64 - 1)
 documents_after _ n = n
 
--- a collection when a part begins in it at the event of this number; parts are counted up to the greatest u64
+-- A part begins in a collection, at the event of this number. Parts are counted up to the greatest u64.
 abbrev pub begun : ℕ → Frame → Frame
 begun at frame = record {
   event = frame.event;
@@ -32,13 +32,13 @@ begun at frame = record {
   key = frame.last;
 }
 
--- The same of the innermost one. Where none is open, a document's root begins.
+-- A node begins at the event of this number. It is a part of the innermost collection. A document's root is a part of none.
 abbrev pub begun_in : ℕ → List Frame → List Frame
 begun_in at [] = []
 begun_in at (frame ∷ []) = begun at frame ∷ []
 begun_in at (outer ∷ inner ∷ frames) = outer ∷ begun_in at (inner ∷ frames)
 
--- a collection in which no part began
+-- a collection that begins at the event of this number, before its first part
 abbrev pub new_frame : ℕ → Bool → Frame
 new_frame at is_mapping = record {
   event = at;
@@ -48,11 +48,11 @@ new_frame at is_mapping = record {
   key = at;
 }
 
--- a collection is a part of the innermost one, and then the innermost one itself
+-- A collection begins at the event of this number. It is then the innermost one.
 abbrev pub opened : ℕ → Bool → List Frame → List Frame
 opened at is_mapping frames = begun_in at frames ++ (new_frame at is_mapping ∷ [])
 
--- all but the innermost one
+-- the innermost one ends
 abbrev pub closed : List Frame → List Frame
 closed frames = take (length frames - 1) frames
 

@@ -1,4 +1,4 @@
-use Rattle.std.proofs.Common.{◌∙◌, drop, subst, rules}
+use Rattle.std.proofs.Common.{[], ◌∙◌, drop, subst, rules}
 use Rattle.yaml_definitions.specs.grammar.Reading.{Reads}
 use Rattle.yaml_definitions.specs.model.Text.{mark_len}
 use Rattle.yaml_text.specs.Source.{text_of}
@@ -20,7 +20,7 @@ returns-clause-ok c =
       first = record {
         events = events;
         reads = (text_of c.in_ok-source.source, c.in_ok-source.ensures.read, c.in_ok-events.ensures.ok);
-        warned = subst (λ z. AllWarned c.args.allowed.now 0 z f.all) c.deref.ensures.value f.warned;
+        warned = subst (λ z. AllWarned c.args.allowed.now 0 [] z f.all) c.deref.ensures.value f.warned;
         are = subst (λ z. AreWarnings events (drop (mark_len bytes) bytes) z list) (c.deref-3.ensures.value ∙ f.first) bare;
       };
       whole = f.are_all;
