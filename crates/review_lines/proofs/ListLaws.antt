@@ -5,6 +5,6 @@ pub if_ok : {T E : Type 0} {P Q : T → Type 0} (r : Result T E) → ((x : T) �
 if_ok (Ok x) f h = f x h
 if_ok (Err e) f h = tt
 
-pub if_both : {T E : Type 0} {P Q : T → Type 0} {asked : Type 0} (r : Result T E) → IfOk r P → (asked → IfOk r Q) → IfOk r (λ x. P x × (asked → Q x))
-if_both (Ok x) p q = (p, q)
-if_both (Err e) p q = tt
+pub if_both : {T E : Type 0} (P Q : T → Type 0) (asked : Type 0) (r : Result T E) → IfOk r P → (asked → IfOk r Q) → IfOk r (λ x. P x × (asked → Q x))
+if_both P Q asked (Ok x) p q = (p, q)
+if_both P Q asked (Err e) p q = tt
