@@ -2,7 +2,7 @@
  *
  * tools/library builds libyamlcanon.a, libyamlcanon.so.1 and yamlcanon.pc. What a call answers is proved against its
  * contract in crates/yaml_c/src (calls.rt, show.rt, diff.rt, values.rt), which say which text, which answer and which
- * refusal. Not proved are the bound of memory and yamlcanon_release; nothing checks this header against the contracts,
+ * error. Not proved are the bound of memory and yamlcanon_release; nothing checks this header against the contracts,
  * nor what a caller passes.
  *
  * A caller owes, for the time of the call:
@@ -20,7 +20,7 @@
  * The calls print nothing, open nothing, never end the process, hold no state but the bound of memory, keep no memory
  * and no pointer after they return, and may run on any number of threads at once. An input has at most 67,108,864
  * bytes, and so has a text. A text is UTF-8, ends in a line feed (an input with no document has the empty text), and
- * has no null byte behind it.
+ * has no null byte after it.
  */
 #ifndef YAMLCANON_H
 #define YAMLCANON_H
@@ -46,7 +46,7 @@ extern "C" {
 enum {
     YAMLCANON_DONE = 0,      /* done; of two streams: the same */
     YAMLCANON_DIFFERENT = 1, /* the two streams differ, and yamlcanon_diff gives a text */
-    YAMLCANON_REFUSED = 2,   /* an input is refused, and *fault tells why */
+    YAMLCANON_REFUSED = 2,   /* an input is rejected, and *fault says why */
     YAMLCANON_SHORT = 3,     /* out has less room than the text, whose length is in *len */
     YAMLCANON_NO_JSON = 4,   /* yamlcanon_json alone: JSON cannot express the stream */
     YAMLCANON_UNLIKE = 5     /* yamlcanon_json alone: the lines did not pass their check. No input is known for this */
@@ -74,10 +74,10 @@ enum {
     YAMLCANON_FAULT_TOO_HIGH = 18,   /* a document */
     YAMLCANON_FAULT_EQUAL_KEYS = 19, /* a node, and first and second: its two entries */
     YAMLCANON_FAULT_TEXT_TOO_LONG = 20,
-    YAMLCANON_FAULT_OUT_OF_MEMORY = 21 /* says nothing of the input: memory was refused */
+    YAMLCANON_FAULT_OUT_OF_MEMORY = 21 /* says nothing of the input: there is no memory */
 };
 
-/* Why an input is refused. */
+/* Why an input is rejected. */
 typedef struct yamlcanon_fault {
     uint32_t number; /* 1 to 21 */
     uint32_t side;   /* 0, or 1 where it is the right one of two inputs */
@@ -97,9 +97,9 @@ uint32_t yamlcanon_form(void);
 const char *yamlcanon_release(void);
 
 /* Puts the canonical text of the n bytes at input at the start of out, and its length into *len.
- * DONE: the text is out[0 .. *len]; behind it out is as it was, and so is *fault.
+ * DONE: the text is out[0 .. *len]; after it out is as it was, and so is *fault.
  * SHORT: *len is the text's length, which is above cap; out and *fault are as they were.
- * REFUSED: *fault tells why; out and *len are as they were. */
+ * REFUSED: *fault says why; out and *len are as they were. */
 uint32_t yamlcanon_canonical(const uint8_t *input, size_t n, uint8_t *out, size_t cap, size_t *len,
                              yamlcanon_fault *fault);
 
@@ -119,13 +119,14 @@ uint32_t yamlcanon_show(const uint8_t *input, size_t n, uint8_t *out, size_t cap
 uint32_t yamlcanon_json(const uint8_t *input, size_t n, uint8_t *out, size_t cap, size_t *len,
                         yamlcanon_fault *fault);
 
-/* Whether two streams mean the same: DONE, DIFFERENT, or REFUSED, and then *fault tells why, and else is as it was. */
+/* Whether two streams mean the same: DONE, DIFFERENT, or REFUSED, and then *fault says why, and else is as it was. */
 uint32_t yamlcanon_same(const uint8_t *left, size_t left_n, const uint8_t *right, size_t right_n,
                         yamlcanon_fault *fault);
 
 /* Puts where two streams differ at the start of out, and the length into *len, as yamlreview diff --format=json prints it: a
- * JSON object on a line for each difference and for each item that moved, at most so many lines, and behind them
- * {"kind":"more"} if there are more. With lines 0 there is no text.
+ * JSON object on a line for each difference and then for each item that moved, at most so many lines, and behind them
+ * how many no line tells, as {"differences":12,"kind":"more","moves":300,"whole":true}, if there are more. whole is
+ * false if not all were looked for. With lines 0 there is no text.
  * DONE: they mean the same, and *len is 0. DIFFERENT: they don't, and the text is out[0 .. *len]. With both out is as it was
  * behind the text, and so is *fault. SHORT and REFUSED: as yamlcanon_canonical; a fault is one of yamlcanon_same. */
 uint32_t yamlcanon_diff(const uint8_t *left, size_t left_n, const uint8_t *right, size_t right_n, size_t lines,
@@ -179,7 +180,7 @@ typedef struct yamlcanon_lengths {
 /* Puts the values of the n bytes at input at the start of the rooms, and the lengths into *lengths. There is one value for each different
  * node, and equal nodes are one value: what aliases repeat is there once. The parts of a value have lower numbers than the value. The
  * documents are the values of the first numbers among the parts, as many as lengths->documents.
- * DONE: the values are there; behind them the rooms are as they were, and so is *fault.
+ * DONE: the values are there; after them the rooms are as they were, and so is *fault.
  * SHORT: a room is too small; *lengths has the lengths, and the rooms and *fault are as they were.
  * REFUSED: as yamlcanon_canonical; the rooms and *lengths are as they were. A stream whose canonical text would be too long (20) has
  * values. */
@@ -198,12 +199,12 @@ uint32_t yamlcanon_message(const yamlcanon_fault *fault, char *out, size_t cap, 
 /* Puts the line and the column of a fault from 2 to 11 in its input, which is the right one where fault->side is 1,
  * into *line and *column, both from 1. They are those that yamlreview faults prints: a line ends with a line feed, a
  * carriage return or both (YAML 1.2.2, 5.4), and a column counts characters; a byte order mark at the start has none.
- * REFUSED: the fault has another number, or its place is behind the input; *line and *column are as they were. */
+ * REFUSED: the fault has another number, or its place is after the end of the input; *line and *column are as they were. */
 uint32_t yamlcanon_position(const uint8_t *input, size_t n, const yamlcanon_fault *fault, size_t *line,
                             size_t *column);
 
 /* Bounds the memory that calls on this thread may hold at once, in bytes, with 16 more for each block that they ask
- * for; 0, as at the start, is no bound. Past it a call is refused with 21. What the allocator needs beside is not
+ * for; 0, as at the start, is no bound. Beyond it a call answers 21. What the allocator needs besides is not
  * counted. The bound stays until it is set anew. */
 void yamlcanon_budget(size_t bytes);
 
@@ -212,7 +213,7 @@ void yamlcanon_budget(size_t bytes);
 size_t yamlcanon_held(void);
 size_t yamlcanon_peak(void);
 
-/* The same calls under a bound of their own, as by yamlcanon_budget(memory); behind them the bound of the thread is
+/* The same calls under a bound of their own, as by yamlcanon_budget(memory); after them the bound of the thread is
  * what it was. */
 uint32_t yamlcanon_canonical_within(const uint8_t *input, size_t n, uint8_t *out, size_t cap, size_t *len,
                                     yamlcanon_fault *fault, size_t memory);

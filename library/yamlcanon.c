@@ -1,5 +1,6 @@
 /* The commands canon, same and events of the program, over the library: what a caller in C looks like. */
 #include "yamlcanon.h"
+#include <signal.h>
 #include <stdio.h>
 #include <stdlib.h>
 #include <string.h>
@@ -95,12 +96,23 @@ static int same(const char *left_name, const char *right_name)
     return (int)status;
 }
 
+/* The status, or 3 where the output fails. */
+static int ended(int status)
+{
+    if (!fflush(stdout) && !ferror(stdout)) return status;
+    fputs("yaml: 23 WriteFault\n", stderr);
+    return 3;
+}
+
 int main(int n, char **words)
 {
     const char *file = n == 3 ? words[2] : NULL;
-    if (n >= 2 && n <= 3 && !strcmp(words[1], "canon")) return text(yamlcanon_canonical, file);
-    if (n >= 2 && n <= 3 && !strcmp(words[1], "events")) return text(yamlcanon_events, file);
-    if (n == 4 && !strcmp(words[1], "same")) return same(words[2], words[3]);
+#ifdef SIGPIPE
+    signal(SIGPIPE, SIG_IGN); /* A pipe that nobody reads is error 23, as in the proved program. */
+#endif
+    if (n >= 2 && n <= 3 && !strcmp(words[1], "canon")) return ended(text(yamlcanon_canonical, file));
+    if (n >= 2 && n <= 3 && !strcmp(words[1], "events")) return ended(text(yamlcanon_events, file));
+    if (n == 4 && !strcmp(words[1], "same")) return ended(same(words[2], words[3]));
     fputs("yaml: usage\n", stderr);
     return 3;
 }

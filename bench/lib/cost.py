@@ -58,10 +58,15 @@ def measured(command, text, space):
 
 
 def cost(kind, name, asked):
+    """The cost of a shape. A text whose canonical text is too long is halved until it has another end, since that end hides the costs."""
     shape, _, end = name.partition(" before ")
-    text = SHAPES[shape](asked.size) + ENDS.get(end, b"")
-    command = "canon" if kind == "later" else kind
-    seconds, memory, output, ended = measured(command, text, asked.space)
+    command, size = "canon" if kind == "later" else kind, asked.size
+    while True:
+        text = SHAPES[shape](size) + ENDS.get(end, b"")
+        seconds, memory, output, ended = measured(command, text, asked.space)
+        if "20 TextTooLong" not in ended:
+            break
+        size //= 2
     free = measured(command, b"", asked.space)
     each = len(text)
     return Cost((seconds - free[0]) * 1e6 / each, max(0, memory - free[1]) / each, output / each, ended)

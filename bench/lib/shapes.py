@@ -5,6 +5,8 @@ stands for the piece's number, in seven hexadecimal digits.
 """
 DEEP = 1000
 PREFIX = "p" * 1016
+# The characters that the rest of a tag may have, but for `%` (YAML 1.2.2, 6.9.1).
+TAG_CHARACTERS = "abcdefghijklmnopqrstuvwxyzABCDEFGHIJKLMNOPQRSTUVWXYZ0123456789-;/?:@&=+$_.~*'()#"
 
 
 def filled(head, piece, tail, size):
@@ -406,6 +408,15 @@ for order in (falling, shuffled):
         ("seqs", "[", "[" + "a," * 300 + "%07x],", "]"),
     ]:
         SHAPES[name + "_" + order.__name__] = ordered(head, form, tail, order)
+
+
+@shape
+def tags_of_prefixes(size):
+    """Documents, each with a prefix of its own of 1,022 bytes and all tags of two characters: four bytes are a new tag of 1,024 bytes."""
+    items = "".join("!" + a + b + "," for a in TAG_CHARACTERS for b in TAG_CHARACTERS)
+    document = "%%TAG ! %s\n---\n[" + items + "]\n"
+    many = max(1, size // len(document % ("p" * 1022)))
+    return "...\n".join(document % ("%06d" % number).ljust(1022, "p") for number in range(many)).encode()
 
 
 @shape

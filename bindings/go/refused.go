@@ -54,7 +54,12 @@ const (
 )
 
 // String is only, left or right.
-func (s Side) String() string { return [...]string{"only", "left", "right"}[s] }
+func (s Side) String() string {
+	if s > Right {
+		return fmt.Sprintf("Side(%d)", uint8(s))
+	}
+	return [...]string{"only", "left", "right"}[s]
+}
 
 // Refused says why an input is rejected. Its text is the message that the program prints.
 type Refused struct {

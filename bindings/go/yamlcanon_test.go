@@ -72,8 +72,8 @@ func TestLimits(t *testing.T) {
 }
 
 func TestNames(t *testing.T) {
-	told := fmt.Sprint(TooLong, EqualKeys, OutOfMemory, Kind(0), Kind(22), Only, Left, Right)
-	if told != "TooLong EqualKeys OutOfMemory Kind(0) Kind(22) only left right" {
+	told := fmt.Sprint(TooLong, EqualKeys, OutOfMemory, Kind(0), Kind(22), Only, Left, Right, Side(9))
+	if told != "TooLong EqualKeys OutOfMemory Kind(0) Kind(22) only left right Side(9)" {
 		t.Error(told)
 	}
 	for text, r := range map[string]*Refused{

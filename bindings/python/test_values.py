@@ -2,6 +2,11 @@
 
 import doctest
 import math
+import os
+import pickle
+import random
+import subprocess
+import sys
 import threading
 import unittest
 from decimal import Decimal
@@ -9,6 +14,12 @@ from decimal import Decimal
 import yamlcanon
 import yamlcanon.values
 from yamlcanon import Refused, Tagged, TooManyNodes, Unhashable, budget, load, load_one
+
+
+# A command finds the module where these tests have found it.
+ENVIRONMENT = {**os.environ, "PYTHONPATH": os.path.dirname(os.path.dirname(os.path.realpath(yamlcanon.__file__)))}
+# Numbers that differ by a multiple of it have one hash.
+MODULUS = sys.hash_info.modulus
 
 
 def unfolding(levels):
@@ -103,8 +114,98 @@ class Values(unittest.TestCase):
             load_one("a")
         self.assertEqual(load(bytearray(b"a"), memory=10_000_000), ["a"])
 
+    def test_keys_that_are_equal_or_cannot_be_hashed_among_many(self):
+        many = "".join(f"{number}: a, " for number in range(300))
+        for more, key in (("true: b", True), ("7.0: b", Decimal(7)), ("? [a] : b", ["a"])):
+            with self.assertRaises(Unhashable) as raised:
+                load("{" + many + more + "}")
+            self.assertEqual((raised.exception.key, raised.exception.is_slow), (key, False))
+
     def test_examples(self):
         self.assertEqual(doctest.testmod(yamlcanon.values).failed, 0)
+
+
+def mapping(keys):
+    return "{" + ", ".join(f"{key}: 0" for key in keys) + "}"
+
+
+def chosen_keys(size=8192):
+    """Ints of different hashes. The first are in most of the places of a dict, next to one another in the order in which it looks when no
+    bits of a hash are left. Of the others, which are behind them in the order of their texts, all of its looks before are at those."""
+    run = [1]
+    while len(run) < size * 6 // 10:
+        run.append((5 * run[-1] + 1) % size)
+    chance, taken, found = random.Random(1), set(run), []
+    while len(found) < 400:
+        own = rest = chance.getrandbits(60)
+        at = own % size
+        while at in taken and rest:
+            rest >>= 5
+            at = (5 * at + rest + 1) % size
+        if at in taken:
+            found.append(own + (9999 * 10**34 - own) // MODULUS * MODULUS + MODULUS)
+    return run + found
+
+
+# What 3 MB of keys of one hash take beside 3 MB of other keys, in seconds of the processor.
+ONE_HASH = """
+import sys, time, yamlcanon
+def seconds(step):
+    data = "{" + ", ".join(f"{10**20 + number * step}: 0" for number in range(116_000)) + "}"
+    assert 3_000_000 < len(data) < 4_000_000
+    began = time.process_time()
+    try:
+        yamlcanon.load(data)
+        told = "a dict"
+    except yamlcanon.Unhashable as fault:
+        told = fault.is_slow
+    return told, time.process_time() - began
+(other, least), (one_hash, most) = seconds(10**15 + 1), seconds(sys.hash_info.modulus)
+print(other, one_hash, most < 2 * least + 1)
+"""
+
+
+class Hashes(unittest.TestCase):
+    def is_slow(self, data):
+        with self.assertRaises(Unhashable) as raised:
+            load(data)
+        again = pickle.loads(pickle.dumps(raised.exception))
+        self.assertEqual((str(again), again.is_slow), (str(raised.exception), raised.exception.is_slow))
+        return raised.exception.is_slow
+
+    def test_3_mb_of_keys_of_one_hash(self):
+        done = subprocess.run([sys.executable, "-c", ONE_HASH], capture_output=True, env=ENVIRONMENT, timeout=100)
+        self.assertEqual((done.stdout, done.stderr), (b"a dict True True\n", b""))
+
+    def test_keys_of_one_hash(self):
+        for keys in (
+            [number * MODULUS for number in range(400)],
+            [-number * MODULUS - 7 for number in range(400)],
+            [f"{number * MODULUS}.5" for number in range(400)],
+            [f"{number * MODULUS}{'.0' * (number % 2)}" for number in range(400)],
+        ):
+            self.assertTrue(self.is_slow(mapping(keys)), keys[1])
+            self.assertEqual(len(load_one(mapping(keys[:256]))), 256)
+
+    def test_keys_whose_hashes_differ_and_meet(self):
+        keys = chosen_keys()
+        self.assertEqual(len({hash(key) for key in keys}), len(keys))
+        self.assertTrue(self.is_slow(mapping(keys)))
+
+    def test_keys_that_nobody_chose_for_their_hashes(self):
+        count = range(5000)
+        for keys in (
+            *([number << bits for number in count] for bits in range(0, 112, 13)),
+            *([-number << bits for number in count] for bits in (0, 39, 60)),
+            *([number * 10**digits for number in count] for digits in range(0, 33, 4)),
+            *([Decimal(number) / 10**digits for number in count if number % 10] for digits in (1, 2, 9)),
+            [number**2 for number in count],
+            [1 << number for number in range(127)],
+            [(192 << 24) + (number >> 8 << 16) + (number & 255) for number in count],
+            [(0x2001 << 112) + (number >> 6 << 64) + (number & 63) for number in count],
+            [Decimal(f"1e{number}") for number in range(-2500, 2500)],
+        ):
+            self.assertEqual(load_one(mapping(keys)), dict.fromkeys(keys, 0))
 
 
 if __name__ == "__main__":

@@ -1,10 +1,12 @@
 """python3 -m unittest: the module over the library."""
 
+import array
 import asyncio
 import concurrent.futures
 import doctest
 import hashlib
 import json
+import mmap
 import multiprocessing
 import os
 import pathlib
@@ -209,8 +211,11 @@ class Calls(unittest.TestCase):
         self.assertTrue(same(many, text))
 
     def test_bytes_and_text_are_taken(self):
-        for data in (b"a", bytearray(b"a"), memoryview(b"a"), memoryview(b"abc")[:1], "a"):
+        for data in (b"a", bytearray(b"a"), memoryview(b"a"), memoryview(b"abc")[:1], array.array("B", b"a"), "a"):
             self.assertEqual(canonical(data), b'--- "a"\n')
+        with mmap.mmap(-1, 4096) as mapped:
+            mapped[:] = b" " * 4095 + b"a"
+            self.assertEqual(canonical(mapped), b'--- "a"\n')
         self.assertEqual(canonical("\ufeffé"), canonical(b"\xef\xbb\xbf\xc3\xa9"))
         self.assertTrue(same("é", b"\xc3\xa9"))
         for data in (5, None, [97], pathlib.Path("a")):
@@ -258,6 +263,7 @@ class Calls(unittest.TestCase):
     def test_the_message_of_an_error_that_the_library_does_not_know(self):
         self.assertIsNone(message_of(24, 0, 0, 0))
         self.assertEqual(str(Refused(24, "Later", 7, side="left")), "left: 24 Later")
+        self.assertEqual([Refused(number, "Later").kind for number in (0, 22, 24)], [Kind.Other] * 3)
 
     def test_refusals_are_equal_by_what_they_say(self):
         with self.assertRaises(Refused) as seen:
@@ -364,7 +370,7 @@ class Calls(unittest.TestCase):
         want, inner, is_inside = canonical(b"outer: 1"), [], []
 
         def tracer(frame, _event, _word):
-            if frame.f_code.co_name in ("_text_here", "keep_room", "take_room") and not is_inside:
+            if frame.f_code.co_name in ("_text", "called", "keep_room", "take_room") and not is_inside:
                 is_inside.append(True)
                 inner.append(canonical(b"inner: 2"))
                 is_inside.pop()

@@ -10,11 +10,12 @@ import unittest
 from scripts import TOP
 
 ACTION = f"{TOP}/packages/action/review"
-# A program that prints its words, and ends with 2 for a file of the name bad.yaml, and with 1 for differences.
+# A program that prints its words, and ends with 2 for a file of the name bad.yaml, and with 1 for differences. Of `diff` the left file is
+# standard input: the file .git/read has what was in it.
 FAKE = """\
 #!/bin/sh
 printf '%s\\n' "$*"
-[ "$1" = diff ] && exit 1
+[ "$1" = diff ] && printf '%s: %s\\n' "$5" "$(cat)" >>.git/read && exit 1
 case $* in *bad.yaml*) exit 2;; *) exit 0;; esac
 """
 
@@ -44,6 +45,7 @@ class Action(unittest.TestCase):
 
     def commit(self, files):
         for name, text in files.items():
+            os.makedirs(os.path.dirname(f"{self.room}/{name}"), exist_ok=True)
             with open(f"{self.room}/{name}", "w", encoding="utf-8") as file:
                 file.write(text)
         git(self.room, "add", "-A")
@@ -61,9 +63,30 @@ class Action(unittest.TestCase):
         self.commit({"changed.yaml": "a: 2\n", "-new $(x).yml": "a: 3\n", "no.txt": "y"})
         self.assertEqual(self.run_action(), (0, "warn --format=github -- -new $(x).yml changed.yaml\n"))
         with open(self.summary, encoding="utf-8") as file:
-            self.assertEqual(file.read(), "diff --format=markdown -- - changed.yaml\n\n")
-        with open(f"{self.pages}/1.html", encoding="utf-8") as file:
-            self.assertEqual(file.read(), "diff --format=html -- - changed.yaml\n")
+            self.assertEqual(file.read(), "".join(f"diff --format=markdown -- - {name}\n\n" for name in ("-new $(x).yml", "changed.yaml")))
+
+    def page(self, name):
+        with open(f"{self.pages}/{name}", encoding="utf-8") as file:
+            return file.read()
+
+    def test_a_page_has_the_name_of_its_file(self):
+        self.commit({"changed.yaml": "a: 2\n", "-new $(x).yml": "a: 3\n", "deep/er/new.yaml": "a: 3\n"})
+        self.assertEqual(self.run_action()[0], 0)
+        for name in ("changed.yaml", "-new $(x).yml", "deep/er/new.yaml"):
+            self.assertEqual(self.page(f"{name}.html"), f"diff --format=html -- - {name}\n")
+        self.assertEqual(sorted(os.listdir(self.pages)), ["-new $(x).yml.html", "changed.yaml.html", "deep"])
+
+    def test_a_new_file_is_compared_with_an_empty_one(self):
+        self.commit({"changed.yaml": "a: 2\n", "new.yaml": "a: 3\n"})
+        self.assertEqual(self.run_action(WARN="no")[0], 0)
+        with open(f"{self.room}/.git/read", encoding="utf-8") as file:
+            self.assertEqual(file.read(), "changed.yaml: a: 1\nchanged.yaml: a: 1\nnew.yaml: \nnew.yaml: \n")
+
+    def test_a_page_that_cannot_be_written(self):
+        self.commit({"changed.yaml": "a: 2\n", "changed.yaml.html/new.yaml": "a: 3\n"})
+        status, said = self.run_action()
+        self.assertEqual(status, 3)
+        self.assertIn("::error title=yamlreview::a page cannot be written", said)
 
     def test_the_status(self):
         self.commit({"bad.yaml": "a: ["})

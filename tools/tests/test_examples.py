@@ -5,7 +5,7 @@ import unittest
 from unittest import mock
 
 from scripts import load, run
-from lib.examples import form, guide, programs, room, sessions, signing, tables
+from lib.examples import form, guide, programs, room, sessions, tables
 from lib.examples.checked import Checked
 
 EXAMPLES = load("tools/examples")
@@ -23,12 +23,6 @@ echo one
 ```
 ```text
 one
-```
-```sh sign
-touch left-to-signing; exit 9
-```
-```sh
-test ! -e left-to-signing
 ```
 """
 TABLE = """\
@@ -142,14 +136,14 @@ class Pages(WithAProgram):
 
     def test_section(self):
         self.assertEqual(guide.try_section(SECTION, "One", self.checked), SECTION)
-        self.assertEqual(self.found(), (2, 0))
+        self.assertEqual(self.found(), (1, 0))
 
     def test_section_that_prints_something_else(self):
         self.assertEqual(guide.try_section(SECTION.replace("text\none", "text 1\ntwo"), "One", self.checked), SECTION)
-        self.assertEqual(self.found(), (2, 1))
+        self.assertEqual(self.found(), (1, 1))
 
     def test_block_that_fails_in_silence(self):
-        guide.try_section(SECTION.replace("test !", "test"), "One", self.checked)
+        guide.try_section(SECTION + "```sh\nexit 9\n```\n", "One", self.checked)
         self.assertEqual(self.found(), (2, 1))
 
     def test_block_whose_program_is_not_installed(self):
@@ -174,13 +168,6 @@ class Pages(WithAProgram):
     def test_paths_of_the_form(self):
         form.try_paths("`crates/yaml_definitions/specs/model/Order.antt` (`trees_cmp`) and `Nothing.antt`", self.checked)
         self.assertEqual(self.found(), (3, 1))
-
-    def test_statement_of_signing_that_is_not_so(self):
-        os.mkdir(f"{self.folder}/room")
-        place = signing.Room(f"{self.folder}/room", {"verify": "echo more >../temporary/left; exit 1"}, self.checked)
-        self.assertTrue(place.fails("verify"))
-        self.assertEqual(self.found(), (1, 1))
-        self.assertTrue(signing.recipes())
 
 
 class Arguments(unittest.TestCase):

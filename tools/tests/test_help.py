@@ -9,7 +9,7 @@ import unittest
 
 from scripts import TOP
 
-FOLDERS = ("tools", "bench", "fuzz", "bindings")
+FOLDERS = ("tools", "bench", "fuzz", "bindings", "packages/signing")
 LEFT_OUT = ("target", "__pycache__", "found", "out")
 
 

@@ -1,7 +1,6 @@
-"""readme.py: README's two numbers, which have to be in bench/results.tsv."""
+"""readme.py: README's two numbers, which have to be those of bench/results.tsv, with one digit after the point."""
+import math
 import re
-
-from .page import number
 
 
 class Claim:
@@ -11,12 +10,17 @@ class Claim:
         self.pattern, self.value = re.compile(pattern), value
 
 
+def at_most(value):
+    """The next number with one digit after the point that is not less."""
+    return math.ceil(value * 10) / 10
+
+
 def claims(results):
     """The two numbers of README: speed on block mappings, and the most memory on the eight texts."""
-    memory = results.values(r"speed/.*/memory")
+    time, memory = results.value("speed/mappings/time"), results.values(r"speed/.*/memory")
     return (
-        Claim(r"takes (\d+\.\d+) times the processor time of libyaml's parser", number(results.value("speed/mappings/time"))),
-        Claim(r"peak memory is at most (\d+\.\d+) times the size of the input", f"{max(memory):.1f}" if memory else ""),
+        Claim(r"takes about (\d+\.\d+) times the processor time of libyaml's parser", "" if time is None else f"{time:.1f}"),
+        Claim(r"peak memory is at most (\d+\.\d+) times the size of the input", f"{at_most(max(memory)):.1f}" if memory else ""),
     )
 
 

@@ -14,7 +14,7 @@ r"""The canonical text of YAML 1.2 streams, and whether two streams mean the sam
     library_release() -> str          its release
     FORM, __version__                 the form of the canonical texts, the version of this module
 
-`data` is bytes, a bytearray, a memoryview, or a str, which stands for its bytes in UTF-8. An input that is rejected raises
+`data` is bytes, a bytearray, a memoryview, an mmap or another buffer, or a str, which is read as its bytes in UTF-8. An input that is rejected raises
 Refused, whose `kind` is one of Kind; what JSON cannot express raises NoJson. What needs more memory than there is, or than its limit, raises MemoryError.
 Each call lets Python's lock go, holds no state, and may run on any number of threads, also on those with a small stack.
 
@@ -33,14 +33,14 @@ import ctypes
 import os
 from ctypes import byref, c_size_t
 from decimal import Decimal
-from typing import Any, Callable, Iterator, List, Optional, Union
+from typing import TYPE_CHECKING, Any, Callable, Iterator, List, Optional, Union
 
 from yamlcanon.differences import Difference, differences_in, lines_of
 from yamlcanon.library import DONE, FORM, REFUSED, SHORT, Fault
 from yamlcanon.library import lib as _lib
 from yamlcanon.nojson import NoJson, unwritten as _unwritten
 from yamlcanon.refused import Kind, Refused
-from yamlcanon.stack import elsewhere, thread as _thread
+from yamlcanon.stack import status_of, thread as _thread
 from yamlcanon.values import Tagged, TooManyNodes, Unhashable, limit_for, records_of, values_in
 
 __all__ = [
@@ -71,7 +71,13 @@ __all__ = [
 
 __version__ = "1.1.0"
 
-Data = Union[bytes, bytearray, memoryview, str]
+if TYPE_CHECKING:
+    # What memoryview takes, as bytes, bytearray, array and mmap.
+    from _typeshed import ReadableBuffer
+
+    Data = Union[ReadableBuffer, str]
+else:
+    Data = Union[bytes, bytearray, memoryview, str]
 
 # No input has more bytes than this, so no more than one beyond it is read.
 _LONGEST = 67_108_864
@@ -114,45 +120,25 @@ def _bytes(data: Data) -> bytes:
         raise TypeError(told) from None
 
 
-def _here(size: int, work: Any, *words: Any) -> Any:
-    """Some work on inputs of at most so many bytes, where there is stack enough for it."""
-    return work(*words) if _thread.has_stack_for(size) else elsewhere(work, *words)
-
-
 def _text(call: Any, data: Data, memory: Optional[int]) -> bytes:
-    own = _bytes(data)
-    return bytes(_here(len(own), _text_here, call, own, _memory(memory)))
-
-
-def _text_here(call: Any, data: bytes, memory: int) -> bytes:
+    own, limit = _bytes(data), _memory(memory)
     length, fault = c_size_t(), Fault()
-    room = _thread.take_room(2 * len(data) + 64)
-    status = call(data, len(data), room, len(room), byref(length), byref(fault), memory)
+
+    def called(room: Any) -> int:
+        return status_of(len(own), call, own, len(own), room, len(room), byref(length), byref(fault), limit)
+
+    room = _thread.take_room(2 * len(own) + 64)
+    status = called(room)
     if status == SHORT:
         room = _thread.take_room(length.value)
-        status = call(data, len(data), room, len(room), byref(length), byref(fault), memory)
+        status = called(room)
     if status == REFUSED:
-        raise _raised(fault, data)
+        raise _raised(fault, own)
     if status != DONE:
         raise _unwritten(status)
     text = bytes(memoryview(room)[: length.value])
     _thread.keep_room(room)
     return text
-
-
-def _same_here(left: bytes, right: bytes, memory: int) -> bool:
-    fault = Fault()
-    status = _lib.yamlcanon_same_within(left, len(left), right, len(right), byref(fault), memory)
-    if status == REFUSED:
-        raise _raised(fault, left, right)
-    return bool(status == DONE)
-
-
-def _sha256_here(data: bytes, memory: int) -> bytes:
-    digest, fault = ctypes.create_string_buffer(_DIGEST), Fault()
-    if _lib.yamlcanon_sha256_within(data, len(data), digest, byref(fault), memory) != DONE:
-        raise _raised(fault, data)
-    return digest.raw
 
 
 @contextlib.contextmanager
@@ -243,7 +229,12 @@ def same(left: Data, right: Data, *, memory: Optional[int] = None) -> bool:
     yamlcanon.Refused: right: 4 Syntax at byte 5
     """
     left, right = _bytes(left), _bytes(right)
-    return bool(_here(max(len(left), len(right)), _same_here, left, right, _memory(memory)))
+    size, fault = max(len(left), len(right)), Fault()
+    call = _lib.yamlcanon_same_within
+    status = status_of(size, call, left, len(left), right, len(right), byref(fault), _memory(memory))
+    if status == REFUSED:
+        raise _raised(fault, left, right)
+    return status == DONE
 
 
 def diff(left: Data, right: Data, *, lines: int = 1000, memory: Optional[int] = None) -> List[Difference]:
@@ -263,7 +254,7 @@ def diff(left: Data, right: Data, *, lines: int = 1000, memory: Optional[int] = 
     if not 0 <= lines <= _MOST:
         raise ValueError(f"yamlcanon: lines is a number from 0 to {_MOST}, not {lines}")
     left, right = _bytes(left), _bytes(right)
-    text, fault = _here(max(len(left), len(right)), lines_of, left, right, lines, _memory(memory))
+    text, fault = lines_of(left, right, lines, _memory(memory))
     if text is None:
         raise _raised(fault, left, right)
     return differences_in(text)
@@ -277,8 +268,10 @@ def sha256(data: Data, *, memory: Optional[int] = None) -> bytes:
     >>> sha256("a: 0x3") == sha256("{a: 3}")
     True
     """
-    own = _bytes(data)
-    return bytes(_here(len(own), _sha256_here, own, _memory(memory)))
+    own, digest, fault = _bytes(data), ctypes.create_string_buffer(_DIGEST), Fault()
+    if status_of(len(own), _lib.yamlcanon_sha256_within, own, len(own), digest, byref(fault), _memory(memory)) != DONE:
+        raise _raised(fault, own)
+    return digest.raw
 
 
 def show(data: Data, *, memory: Optional[int] = None) -> bytes:
@@ -338,7 +331,7 @@ def load(data: Data, *, memory: Optional[int] = None, floats: Callable[[str], An
     yamlcanon.TooManyNodes: the values have 3 nodes, and the limit is 2
     """
     own = _bytes(data)
-    records, fault = _here(len(own), records_of, own, _memory(memory))
+    records, fault = records_of(own, _memory(memory))
     if records is None:
         raise _raised(fault, own)
     return values_in(records, floats, limit_for(own) if limit is None else limit)

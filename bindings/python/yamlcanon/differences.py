@@ -6,7 +6,7 @@ from dataclasses import dataclass
 from typing import Any, Dict, List, Optional, Tuple
 
 from yamlcanon.library import REFUSED, SHORT, Fault, lib
-from yamlcanon.stack import thread
+from yamlcanon.stack import status_of, thread
 
 __all__ = ["Difference", "differences_in", "lines_of"]
 
@@ -56,7 +56,8 @@ def lines_of(left: bytes, right: bytes, lines: int, memory: int) -> Tuple[Option
 
     def called(room: Any) -> int:
         inputs = (left, len(left), right, len(right), lines)
-        return int(lib.yamlcanon_diff_within(*inputs, room, len(room), byref(length), byref(fault), memory))
+        answers = (room, len(room), byref(length), byref(fault))
+        return status_of(max(len(left), len(right)), lib.yamlcanon_diff_within, *inputs, *answers, memory)
 
     room = thread.take_room(_ROOM)
     status = called(room)

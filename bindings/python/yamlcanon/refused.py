@@ -18,6 +18,8 @@ class Kind(enum.IntEnum):
     """
 
     __module__ = "yamlcanon"
+    # Of a number that this module does not know: a later library may have more.
+    Other = 0
     TooLong = 1
     NotUtf8 = 2
     NotPrintable = 3
@@ -57,6 +59,8 @@ class Refused(ValueError):
     right: 5 Tab at byte 4
     >>> fault.kind is Kind.Tab, fault == Refused(5, "Tab", 4), fault.line
     (True, False, None)
+    >>> Refused(99, "Later").kind
+    <Kind.Other: 0>
     """
 
     __module__ = "yamlcanon"
@@ -70,7 +74,7 @@ class Refused(ValueError):
 
     @property
     def kind(self) -> Kind:
-        return Kind(self.number)
+        return Kind(self.number) if self.number in [*Kind] else Kind.Other
 
     def locate(self, data: bytes) -> "Refused":
         """Sets line and column from the input that is rejected. Returns itself."""

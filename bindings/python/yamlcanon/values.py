@@ -1,11 +1,13 @@
 """The values of a stream as Python's own, from the records that the library gives."""
 
 import ctypes
+import sys
 from ctypes import POINTER, Structure, byref, c_size_t, c_uint8, c_uint32
 from dataclasses import dataclass
 from typing import Any, Callable, Dict, Iterator, List, Optional, Tuple
 
 from yamlcanon.library import DONE, REFUSED, Fault, lib
+from yamlcanon.stack import status_of
 
 __all__ = ["Records", "Tagged", "TooManyNodes", "Unhashable", "limit_for", "records_of", "values_in"]
 
@@ -18,6 +20,10 @@ _FLOATS = {".inf": "Infinity", "-.inf": "-Infinity", ".nan": "NaN"}
 _FIELDS = 5
 # As many nodes are allowed for any input, and beside them two for each of its bytes: more than it has without its aliases.
 _NODES, _NODES_A_BYTE = 1_000_000, 2
+# How many other keys a key may meet, on average, where a dict looks for it. Multiples of a power of 2 meet up to 70 where there are a
+# million of them. So few keys meet no more, whatever they are.
+_MEETINGS, _FEW = 128, 256
+_HASH_BITS = 2 * sys.maxsize + 1
 
 Path = Tuple[Any, ...]
 
@@ -51,22 +57,25 @@ class Tagged:
 
 
 class Unhashable(ValueError):
-    """A key that cannot be one of a dict: it cannot be hashed, or Python takes it for another key, as 1 for 1.0 and True.
+    """A key that cannot be one of a dict: it cannot be hashed; or Python takes it for another key, as 1 for 1.0 and True; or the keys up to
+    it are numbers with hashes for which a dict would take time by their square.
 
     key         the key
     document    the number of the document, from 0
     path        the keys and places that lead from the document to the mapping
+    is_slow     whether it is for the time
     """
 
     __module__ = "yamlcanon"
 
-    def __init__(self, key: Any, document: int, path: Path) -> None:
-        super().__init__(key, document, path)
-        self.key, self.document, self.path = key, document, path
+    def __init__(self, key: Any, document: int, path: Path, is_slow: bool = False) -> None:
+        super().__init__(key, document, path, is_slow)
+        self.key, self.document, self.path, self.is_slow = key, document, path, is_slow
 
     def __str__(self) -> str:
         where = "".join(f"[{step!r}]" for step in self.path)
-        return f"document {self.document}{where}: the key {self.key!r} cannot be one of a dict beside the others"
+        told = f"document {self.document}{where}: the key {self.key!r} cannot be one of a dict beside the others"
+        return told + ": with their hashes a dict of them is slow" if self.is_slow else told
 
 
 class TooManyNodes(ValueError):
@@ -129,7 +138,8 @@ def records_of(data: bytes, memory: int) -> Tuple[Optional[Records], Fault]:
         values, parts = (c_uint32 * (_FIELDS * lengths.values))(), (c_uint32 * lengths.parts)()
         texts = ctypes.create_string_buffer(lengths.texts)
         rooms = Rooms(values, lengths.values, parts, lengths.parts, ctypes.cast(texts, POINTER(c_uint8)), lengths.texts)
-        status = lib.yamlcanon_values_within(data, len(data), byref(rooms), byref(lengths), byref(fault), memory)
+        call = lib.yamlcanon_values_within
+        status = status_of(len(data), call, data, len(data), byref(rooms), byref(lengths), byref(fault), memory)
         if status == REFUSED:
             return None, fault
         if status == DONE:
@@ -140,22 +150,57 @@ def records_of(data: bytes, memory: int) -> Tuple[Optional[Records], Fault]:
 class _NoKey(Exception):
     """A key cannot be one of a dict."""
 
-    def __init__(self, key: Any) -> None:
-        super().__init__(key)
-        self.key = key
+    def __init__(self, key: Any, is_slow: bool = False) -> None:
+        super().__init__(key, is_slow)
+        self.key, self.is_slow = key, is_slow
+
+
+def _hash(key: Any) -> int:
+    """The hash of a key; what has none cannot be one."""
+    try:
+        return hash(key)
+    except TypeError:
+        raise _NoKey(key) from None
+
+
+def _slow_key(hashes: List[int]) -> Optional[int]:
+    """The number of the key at which keys with these hashes meet one another too often in a dict of CPython, if they do.
+
+    The hash of a number is no secret, so keys can be chosen for theirs. A dict looks for a key at the place that the lowest bits of its
+    hash name, and while another key is there at the next, which five more bits name. A third of its places is free: then it doubles.
+    """
+    size, fits = 8, 0
+    while fits < len(hashes):
+        fits, last, taken, meetings = 2 * size // 3, size - 1, bytearray(size), 0
+        for number, own in enumerate(hashes[:fits]):
+            place, rest = own & last, own & _HASH_BITS
+            while taken[place]:
+                meetings += 1
+                rest >>= 5
+                place = (5 * place + rest + 1) & last
+            taken[place] = 1
+            if meetings > _MEETINGS * fits:
+                return number
+        size *= 2
+    return None
 
 
 def _dict_of(made: List[Any]) -> Dict[Any, Any]:
     """The dict of keys and values in turn."""
-    found: Dict[Any, Any] = {}
-    for key, value in zip(made[::2], made[1::2]):
-        try:
-            is_there = key in found
-        except TypeError:
-            raise _NoKey(key) from None
-        if is_there:
-            raise _NoKey(key)
-        found[key] = value
+    keys = made[::2]
+    # The hashes of texts are a secret of Python's.
+    if {*map(type, keys)} != {str}:
+        hashes = [_hash(key) for key in keys]
+        number = _slow_key(hashes) if len(keys) > _FEW else None
+        if number is not None:
+            raise _NoKey(keys[number], True)
+    found = dict(zip(keys, made[1::2]))
+    if len(found) < len(keys):
+        found.clear()
+        for key in keys:
+            if key in found:
+                raise _NoKey(key)
+            found[key] = None
     return found
 
 
@@ -211,7 +256,8 @@ class _Maker:
                 try:
                     value = self.collection(at, made)
                 except _NoKey as fault:
-                    raise Unhashable(fault.key, number, tuple(self.step(above, before) for above, _, before in opened)) from None
+                    path = tuple(self.step(above, before) for above, _, before in opened)
+                    raise Unhashable(fault.key, number, path, fault.is_slow) from None
                 if not opened:
                     return value
                 opened[-1][2].append(value)

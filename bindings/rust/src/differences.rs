@@ -46,7 +46,7 @@ impl Limits {
 }
 
 /// Where two streams differ, as `yamlreview diff --format=json` prints it: a JSON object on a line for each difference, at most so many
-/// lines, and behind them `{"kind":"more"}` if there are more. It is empty if the streams mean the same.
+/// lines, and behind them one of the kind `more` if there are more, which says how many. It is empty if the streams mean the same.
 ///
 /// ```
 /// let told = yamlcanon::diff(b"replicas: 0x3", b"{replicas: 5}", 1000)?;

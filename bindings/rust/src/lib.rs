@@ -355,19 +355,25 @@ fn written(call: TextCall, input: &[u8], memory: usize) -> Result<Vec<u8>, Unwri
 ///
 /// ```
 /// use yamlcanon::{Kind, Limits};
-/// let limits = Limits { memory: 1 << 20 };
+/// let limits = Limits::memory(1 << 20);
 /// assert!(limits.same(b"a: 0x3", b"{a: 3}")?);
-/// let fault = Limits { memory: 1000 }.canonical(b"a: 3").unwrap_err();
+/// let fault = Limits::memory(1000).canonical(b"a: 3").unwrap_err();
 /// assert_eq!(fault.kind(), Kind::OutOfMemory);
 /// # Ok::<(), yamlcanon::Refused>(())
 /// ```
 #[derive(Clone, Copy, Debug, Default, PartialEq, Eq)]
+#[non_exhaustive]
 pub struct Limits {
     /// What a call may hold at once, in bytes, with 16 more for each block that it asks for; 0 is no limit. The answer is not counted.
     pub memory: usize,
 }
 
 impl Limits {
+    /// So many bytes of memory, and no other limit.
+    pub fn memory(bytes: usize) -> Limits {
+        Limits { memory: bytes }
+    }
+
     /// [`canonical`] under this limit.
     pub fn canonical(self, input: &[u8]) -> Result<Vec<u8>, Refused> {
         text(yamlcanon_canonical_within, input, self.memory)

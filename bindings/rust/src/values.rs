@@ -44,6 +44,7 @@ extern "C" {
 
 /// What a value is.
 #[derive(Clone, Copy, Debug, PartialEq, Eq)]
+#[non_exhaustive]
 pub enum ValueKind {
     /// `null`.
     Null,

@@ -152,7 +152,7 @@ fn json() {
 #[test]
 fn limits_of_memory() {
     let many = "- a\n".repeat(10_000).into_bytes();
-    let (small, none) = (Limits { memory: 10_000 }, Limits::default());
+    let (small, none) = (Limits::memory(10_000), Limits::default());
     let kinds = || {
         [
             small.canonical(&many).unwrap_err().kind(),

@@ -12,7 +12,8 @@ fn lines() {
     assert!(all.lines().zip([r#""path":".a""#, r#""path":".b[0]""#, r#""path":".c""#]).all(|(line, path)| line.contains(path)));
     assert_eq!(text(left, right, 3), all);
     let first = all.split_inclusive('\n').next().unwrap();
-    assert_eq!(text(left, right, 1), format!("{first}{{\"kind\":\"more\"}}\n"));
+    let rest = r#"{"differences":2,"kind":"more","moves":0,"whole":true}"#;
+    assert_eq!(text(left, right, 1), format!("{first}{rest}\n"));
     assert_eq!(text(left, right, 0), "");
 }
 
@@ -28,7 +29,7 @@ fn rejections_and_limits() {
     let fault = diff(b"a", b"a:\tb", 1).unwrap_err();
     assert_eq!((fault.kind(), fault.side, fault.to_string().as_str()), (Kind::Tab, Some(Side::Right), "right: 5 Tab at byte 2"));
     assert_eq!(diff(b"a:\tb", b"[", 0).unwrap_err().side, Some(Side::Left));
-    assert_eq!(Limits { memory: 1000 }.diff(b"a: b", b"a: c", 1).unwrap_err().kind(), Kind::OutOfMemory);
+    assert_eq!(Limits::memory(1000).diff(b"a: b", b"a: c", 1).unwrap_err().kind(), Kind::OutOfMemory);
 }
 
 #[test]

@@ -33,7 +33,7 @@ fn equal_nodes_are_one_value() {
 #[test]
 fn rejections_and_limits() {
     assert_eq!(values(b"{1: a, 0x1: b}").unwrap_err().kind(), Kind::EqualKeys);
-    assert_eq!(Limits { memory: 1000 }.values(b"a").unwrap_err().kind(), Kind::OutOfMemory);
+    assert_eq!(Limits::memory(1000).values(b"a").unwrap_err().kind(), Kind::OutOfMemory);
 }
 
 #[test]

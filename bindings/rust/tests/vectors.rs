@@ -99,7 +99,7 @@ fn an_answer_is_whole_or_memory_is_lacking() {
     for vector in vectors().iter().filter(short).step_by(7) {
         let (mut memory, mut lacked) = (16, 0);
         loop {
-            match (Limits { memory }).canonical(&vector.input) {
+            match Limits::memory(memory).canonical(&vector.input) {
                 Ok(got) => break assert!(Some(got) == vector.text, "{}: another text within {memory}", vector.name),
                 Err(fault) => assert_eq!(fault.kind(), Kind::OutOfMemory, "{}: within {memory}", vector.name),
             }

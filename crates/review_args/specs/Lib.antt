@@ -1,3 +1,4 @@
+pub mod Forms
 pub mod Order
 pub mod Grammar
 pub mod Words

@@ -146,11 +146,18 @@ pub record AsksWarn (rows : List Row) (warn : Warn) : Type 0 where
   pub is_strict : warn.is_strict ≡ is_on (codes "strict") rows
   pub allowed : texts warn.allowed.items ≡ texts_in (codes "allow") rows
 
+-- more than one of `--check`, `--strict` and `--textconv`
+abbrev pub has_two_modes : List Row → Bool
+has_two_modes rows = (is_on (codes "strict") rows && is_on (codes "textconv") rows)
+    || (is_on (codes "check") rows && (is_on (codes "strict") rows || is_on (codes "textconv") rows))
+
 pub record AsksShow (rows : List Row) (show : Show) : Type 0 where
   pub files : texts show.files.items ≡ files_in rows
   pub format : show.format ≡ format_in rows
   pub textconv : show.textconv ≡ is_on (codes "textconv") rows
   pub is_check : show.is_check ≡ is_on (codes "check") rows
+  pub is_strict : show.is_strict ≡ is_on (codes "strict") rows
+  pub one : has_two_modes rows ≡ false
 
 -- more than one of FILE, `--files-from` and `--check`
 abbrev pub are_several : List Row → Bool
@@ -238,6 +245,9 @@ RefusesPatterns rows k = (k ≡ kind.OutOfMemory) ⊎ ((k ≡ kind.ValueValidati
 abbrev pub RefusesDiff : List Row → ErrorKind → Type 0
 RefusesDiff rows k = RefusesPatterns rows k ⊎ ((k ≡ kind.ArgumentConflict) × (is_some (page_in rows) ≡ true) × (is_on (codes "stat") rows ≡ true))
 
+abbrev pub RefusesShow : List Row → ErrorKind → Type 0
+RefusesShow rows k = (k ≡ kind.OutOfMemory) ⊎ ((k ≡ kind.ArgumentConflict) × (has_two_modes rows ≡ true))
+
 abbrev pub RefusesSum : List Row → ErrorKind → Type 0
 RefusesSum rows k = (k ≡ kind.OutOfMemory) ⊎ ((k ≡ kind.ArgumentConflict) × (are_several rows ≡ true))
 
@@ -249,8 +259,9 @@ is_command name = list_any (λ command. bytes_eq name command)
 abbrev pub RefusesIn : Text → List Row → ErrorKind → Type 0
 RefusesIn name rows k = (k ≡ kind.OutOfMemory)
     ⊎ (((name ≡ codes "diff") × RefusesDiff rows k)
+    ⊎ (((name ≡ codes "show") × RefusesShow rows k)
     ⊎ (((name ≡ codes "sum") × RefusesSum rows k)
-    ⊎ ((k ≡ kind.MissingSubcommand) × (is_command name ≡ false))))
+    ⊎ ((k ≡ kind.MissingSubcommand) × (is_command name ≡ false)))))
 
 abbrev pub RefusesCall : Option (Text × List Row) → ErrorKind → Type 0
 RefusesCall None k = (k ≡ kind.OutOfMemory) ⊎ (k ≡ kind.MissingSubcommand)

@@ -49,15 +49,28 @@ const FAULTS_STATUSES: &str = "Exit status (of several files the greatest):
   2  a file is rejected
   3  the words, a file or a stream cannot be used";
 
-const WARN_STATUSES: &str = "Exit status (of several files the greatest):
+const WARN_STATUSES: &str = "There is a warning for each
+  plain scalar that YAML 1.1 reads otherwise, and for a float such as 3.10, which is 3.1
+  plain scalar in a flow collection that begins with `?` or `:`
+  anchor or alias whose name has another character than A to Z, a to z, 0 to 9, `-` and `_`
+  key that is equal to an earlier key of its mapping in Python, as true and 1, or in JavaScript, as 1 and \"1\"
+  int with the tag `!!int` that YAML 1.1 reads by base 8, as `!!int 010`
+  slip: `{{ x }}`, `{type:string}`, `data:{}`, `<<` that is no key, typographic quotes around a text, a no-break space
+    or a space of no width in it
+The first three were compared with PyYAML, libyaml and yaml.v3. Tags and characters that end a line in YAML 1.1 alone are not looked at.
+
+Exit status (of several files the greatest):
   0  no file is rejected, and with --strict there is no warning
   1  with --strict: there is a warning
   2  a file is rejected
   3  the words, a file or a stream cannot be used";
 
-const SHOW_STATUSES: &str = "Exit status (of several files the greatest):
+const SHOW_STATUSES: &str =
+    "What `yamlreview warn` lists of a file is printed on standard error, unless --check or --textconv is given.
+
+Exit status (of several files the greatest):
   0  each file is shown, or with --check as `show` writes it; with --textconv also if one is rejected
-  1  with --check: a file is not as `show` writes it
+  1  with --check: a file is not as `show` writes it; with --strict: a file has a warning, and is not shown
   2  a file is rejected, or JSON cannot express it
   3  the words, a file or a stream cannot be used";
 
@@ -160,7 +173,7 @@ fn warn<'a>(alloc: Global, choices: &Choices<'a>) -> Result<Command<'a>, AllocEr
             alloc,
             "allow",
             "WORD",
-            "Do not warn of the plain scalar WORD, as `on`; repeatable"
+            "Do not warn of WORD: a scalar, as `on`, or a name with its `&` or `*`; repeatable"
         ),
         lines(
             alloc,
@@ -171,7 +184,7 @@ fn warn<'a>(alloc: Global, choices: &Choices<'a>) -> Result<Command<'a>, AllocEr
     command(
         alloc,
         "warn",
-        "Prints what tools of YAML 1.1 read otherwise",
+        "Prints what other tools read otherwise",
         WARN_STATUSES,
         args,
     )
@@ -190,6 +203,11 @@ fn show<'a>(alloc: Global, choices: &Choices<'a>) -> Result<Command<'a>, AllocEr
             "Write nothing but the name of each file that is not as `show` writes it, with status 1"
         ),
         format(alloc, choices),
+        flag(
+            alloc,
+            "strict",
+            "Do not show a file with a warning, and end with status 1"
+        ),
         flag(
             alloc,
             "textconv",

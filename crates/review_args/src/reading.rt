@@ -17,9 +17,11 @@ ghost use Rattle.review_args.specs.Words.{
   RefusesDiff,
   RefusesIn,
   RefusesPatterns,
+  RefusesShow,
   RefusesSum,
   are_several,
   git_words,
+  has_two_modes,
   keys_in,
 };
 
@@ -75,17 +77,6 @@ fn diff_of<'a>(matches: &ArgMatches<'a>, by: &'a [&'a str], is_terminal: bool) -
         folds: folds_of(matches),
         paths: paths_of(matches),
     }
-}
-
-fn show_of<'a>(alloc: Global, matches: &ArgMatches<'a>) -> Result<Show<'a>, AllocError>
-    ensures { IfOk result (AsksShow (rows_of (found_of matches.now))) }
-{
-    Ok(Show {
-        files: files_of(alloc, matches)?,
-        format: format_of(matches),
-        textconv: is_on(matches, "textconv"),
-        is_check: is_on(matches, "check"),
-    })
 }
 
 fn merge_of<'a>(matches: &ArgMatches<'a>, is_terminal: bool) -> Merge<'a>
@@ -182,6 +173,35 @@ fn warn_asked<'a>(alloc: Global, inner: &ArgMatches<'a>) -> Result<Asked<'a>, Al
         None => Ok(Asked::Warn(report, warn)),
         Some(page) => Ok(Asked::WarnPage(page, report, warn)),
     }
+}
+
+/// What is wrong with two of the words that say what becomes of a file.
+const TWO_MODES: &str = "--check, --strict and --textconv cannot be used with one another";
+
+/// Whether more than one of `--check`, `--strict` and `--textconv` is given.
+fn has_two_modes(inner: &ArgMatches<'_>) -> bool
+    ensures { result ≡ has_two_modes (rows_of (found_of inner.now)) }
+{
+    let is_strict = is_on(inner, "strict");
+    let textconv = is_on(inner, "textconv");
+    (is_strict && textconv) || (is_on(inner, "check") && (is_strict || textconv))
+}
+
+/// What the words of `show` ask for.
+fn show_of<'a>(alloc: Global, inner: &ArgMatches<'a>) -> Result<Show<'a>, Error>
+    ensures ok { IfOk result (AsksShow (rows_of (found_of inner.now))) }
+    ensures err { IfErr result (λ e. RefusesShow (rows_of (found_of inner.now)) (kind_of e)) }
+{
+    if has_two_modes(inner) {
+        return Err(refusal(alloc, ErrorKind::ArgumentConflict, TWO_MODES)?);
+    }
+    Ok(Show {
+        files: files_of(alloc, inner)?,
+        format: format_of(inner),
+        textconv: is_on(inner, "textconv"),
+        is_check: is_on(inner, "check"),
+        is_strict: is_on(inner, "strict"),
+    })
 }
 
 /// What is wrong with two of the words that name what is summed.

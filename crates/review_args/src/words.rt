@@ -18,6 +18,21 @@ pub enum Form {
     Json,
 }
 
+impl Form {
+    ghost use Rattle.std.specs.Prelude.{◌≡◌};
+    ghost use Rattle.review_args.specs.Forms.{more_text};
+
+    /// The line which says that there are more.
+    pub fn more(self) -> &'static str
+        ensures { result.now ≡ more_text self }
+    {
+        match self {
+            Form::Line => "...\n",
+            Form::Json => "{\"kind\":\"more\"}\n",
+        }
+    }
+}
+
 /// In which form all that is found is written as a whole.
 #[derive(Clone, Copy, Debug, PartialEq, Eq)]
 pub enum Page {
@@ -108,6 +123,8 @@ pub struct Show<'a> {
     pub textconv: bool,
     /// Whether files are compared with what would be written, and nothing is.
     pub is_check: bool,
+    /// Whether a file with a warning is not shown.
+    pub is_strict: bool,
 }
 
 /// Digests of files.

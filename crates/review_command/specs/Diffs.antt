@@ -29,7 +29,7 @@ pub record IsFilePart (asked : Diff) (page : Page) (first second : List ℕ) (li
   pub unnamed : part.name ≡ None
   pub list : ListsAll asked.left.now asked.right.now listed part.list.items
   pub shown : ShowsLines page asked.left.now first asked.right.now second part.shown
-  pub whole : part.whole ≡ listed.whole
+  pub left_out : part.left_out ≡ listed.left_out
 
 -- The text is a page with that part alone; there is none where no line is asked for.
 abbrev pub IsFilePage : Diff → Page → List ℕ → List ℕ → Listed → List ℕ → Type 0

@@ -144,7 +144,7 @@ fn listed_text(
         name: None,
         list: list_found(alloc, listed, asked.left, asked.right)?,
         shown: lines_shown(alloc, page, asked.left, left, asked.right, right)?,
-        whole: listed.whole,
+        left_out: listed.left_out,
     })?;
     parts_text(alloc, asked, page, parts)
 }

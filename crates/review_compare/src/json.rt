@@ -49,8 +49,8 @@ fn refusal_of(alloc: Global, left: &[u8], right: &[u8]) -> (Side, Fault)
     }
 }
 
-/// Where two streams differ, as `yamlreview diff --format=json` prints it: a JSON object on a line for each difference and for each item
-/// that moved, at most so many, and behind them `{"kind":"more"}` if there are more. And whether the streams are the same.
+/// Where two streams differ, as `yamlreview diff --format=json` prints it: a JSON object on a line for each difference and then for each
+/// item that moved, at most so many, and behind them one of the kind `more` if there are more. And whether the streams are the same.
 ///
 /// # Errors
 /// Those of `same`. If both sides mean admitted documents, the only error is want of memory.

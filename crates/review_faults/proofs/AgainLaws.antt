@@ -11,7 +11,8 @@ use Rattle.yaml_text.specs.declared.fault.Fault.TheVariants as faults
 use Rattle.yaml_place.specs.declared.place.Place.{Place}
 use Rattle.yaml_read.specs.Decided.{HasNoReading}
 use Rattle.review_faults.specs.Again.{CannotRead, CannotTell}
-use Rattle.review_faults.specs.FaultLines.{names_event, IsPlaceAt}
+use Rattle.review_faults.specs.EventPlaces.{IsPlaceAt}
+use Rattle.review_faults.specs.FaultLines.{names_event}
 use Rattle.review_faults.specs.NoJson.{IsOfText}
 
 -- bytes that are no text

@@ -1,3 +1,7 @@
 pub mod AgainLaws
+mod CauseLaws
+pub mod FormLaws
+mod KeyLaws
+mod LabelLaws
 mod SpotLaws
-mod WarnLaws
+pub mod WarnLaws

@@ -1,7 +1,9 @@
 -- Where a fault of an event is: at the offset that was noted at that event when the text was read.
-use Rattle.std.specs.Prelude.{◌≡◌, ◌⊎◌, ◌<◌, ◌*◌, ◌^◌, ℕ, List, Option, Some, None, option_map, slice_get}
+use Rattle.std.specs.Prelude.{◌≡◌, ◌⊎◌, ◌<◌, ◌≤◌, ◌*◌, ◌^◌, ℕ, List, length, Option, Some, None, option_map, slice_get}
 use Rattle.yaml_text.specs.declared.fault.Fault.{Fault}
 use Rattle.yaml_text.specs.declared.fault.Fault.TheVariants as faults
+use Rattle.yaml_place.specs.LineModel.{IsPlace}
+use Rattle.yaml_place.specs.declared.place.Place.{Place}
 use Rattle.review_places.specs.Layout.{IsLayout, root_events, part_event}
 use Rattle.review_places.specs.Trace.{IsTagAt}
 use Rattle.review_places.specs.declared.layout.Layout.{Layout}
@@ -40,3 +42,13 @@ abbrev pub IsShownAt : Trace → List ℕ → Fault → ℕ → Option ℕ → T
 IsShownAt trace text (faults.WrongKind e) event at = IsTagOrEvent trace text event at
 IsShownAt trace text (faults.BadContent e) event at = IsTagOrEvent trace text event at
 IsShownAt trace text _ event at = at ≡ noted_offset trace event
+
+-- the line and the column of an offset of a text; none of one after its end
+abbrev pub IsPlaceAt : List ℕ → ℕ → Option Place → Type 0
+IsPlaceAt text at (Some place) = (at ≤ length text) × IsPlace text at place.line place.column
+IsPlaceAt text at None = length text < at
+
+-- the place of an offset, if there is an offset and the text has it
+abbrev pub IsPlaceOf : List ℕ → Option ℕ → Option Place → Type 0
+IsPlaceOf text None place = place ≡ None
+IsPlaceOf text (Some at) place = IsPlaceAt text at place

@@ -1,9 +1,15 @@
 pub mod Again
+pub mod Causes
 pub mod EventPlaces
 pub mod EventSpots
 pub mod Explained
 pub mod FaultLines
 pub mod Heads
+pub mod Keys
+pub mod Labels
 pub mod NoJson
+pub mod Says
+pub mod Seen
+pub mod Slips
 pub mod Spotted
 pub mod Warned

@@ -1,115 +1,131 @@
--- Which scalars of a stream `warn` reports, where, and in which lines.
-use Rattle.std.specs.Prelude.{◌≡◌, ◌≤◌, ◌+◌, ℕ, Bool, nat_le, bytes_eq, cond, length, drop, take, map, find, reverse, slice_get, List, [], ◌∷◌, ◌++◌, Option, Some, None, codes, string_bytes}
+-- Which events of a stream `warn` reports, where, and in which lines.
+use Rattle.std.specs.Prelude.{◌≡◌, ◌≤◌, ℕ, zero, suc, Bool, false, nat_le, cond, length, drop, take, slice_get, List, [], ◌∷◌, ◌++◌, Option, Some, None, option_map, option_and_then, codes, string_bytes}
 use Rattle.std.specs.Borrow.{Bor}
-use Rattle.std.specs.List.{list_any, flat_map}
-use Rattle.yaml_definitions.specs.model.Event.{Event, untagged, plain, scalar_event}
+use Rattle.std.specs.List.{flat_map}
+use Rattle.std.specs.declared.cmp.Ordering.{Ordering}
+use Rattle.yaml_definitions.specs.model.Event.{Event, sequence_start, mapping_start}
 use Rattle.yaml_definitions.specs.model.Text.{mark_len}
 use Rattle.yaml_definitions.specs.grammar.Reading.{Reads}
-use Rattle.yaml_text.specs.EventModel.{event_of}
-use Rattle.yaml_text.specs.declared.event.Event as code
 use Rattle.yaml_place.specs.LineModel.{IsPlace}
+use Rattle.review_args.specs.Forms.{more_text}
 use Rattle.review_args.specs.declared.words.Form.{Form}
 use Rattle.review_args.specs.declared.words.Form.TheVariants as form
 use Rattle.review_text.specs.Objects.{count_data, text_data, object_line}
 use Rattle.review_text.specs.Shown.{front}
 use Rattle.review_text.specs.Terminal.{terminal}
-use Rattle.review_text.specs.Yaml11.{new_kind, older_of, IsOlder}
-use Rattle.review_text.specs.declared.yaml11.Older.{Older}
-use Rattle.review_lines.specs.Lines.{more_text}
-use Rattle.review_places.specs.Trails.{frames_after, is_key, has_part}
-use Rattle.review_places.specs.declared.trail.Frame.{Frame}
+use Rattle.review_places.specs.Trails.{open_frames, frames_of, is_key}
+use Rattle.review_faults.specs.Causes.{name_cause, indicator_cause, equal_cause, tagged_cause, slip_cause, plain_text, TellsOlder, shown_label, is_allowed}
 use Rattle.review_faults.specs.Heads.{head}
+use Rattle.review_faults.specs.Keys.{begun_at, collection_at, IsEqualKey}
+use Rattle.review_faults.specs.Labels.{Label, whole}
+use Rattle.review_faults.specs.Says.{Says}
+use Rattle.review_faults.specs.Seen.{Holds}
+use Rattle.review_faults.specs.Slips.{is_doubled, has_no_value}
+use Rattle.review_faults.specs.declared.cause.Cause.{Cause}
+use Rattle.review_faults.specs.declared.find.Found.{Found}
+use Rattle.review_faults.specs.declared.find.Known.{Known}
+use Rattle.review_faults.specs.declared.keys.Key.{Key}
+use Rattle.review_faults.specs.declared.keys.Reader.TheVariants as readers
+use Rattle.review_faults.specs.declared.slip.Around.{Around}
 use Rattle.review_faults.specs.declared.warn.Warning.{Warning}
 use Rattle.review_faults.specs.declared.warn.Warnings.{Warnings}
 
 -- ---- which
 
--- a text is one of these words
-abbrev pub is_word : List (Bor (List ℕ)) → List ℕ → Bool
-is_word words text = list_any (λ word. bytes_eq word.now text) words
+-- the collection that begins at an event is a flow collection
+abbrev pub flow_of : Option Event → Bool
+flow_of (Some (sequence_start flow a t)) = flow
+flow_of (Some (mapping_start flow a t)) = flow
+flow_of _ = false
 
--- the text of a plain scalar without a tag
-abbrev pub plain_text : Event → Option (List ℕ)
-plain_text (scalar_event anchor untagged plain text) = Some text
-plain_text _ = None
+-- the innermost collection at the event of this number is a flow collection
+abbrev pub is_in_flow : List Event → ℕ → Bool
+is_in_flow events n = flow_of (option_and_then (slice_get events) (begun_at (collection_at events n)))
 
-abbrev pub unless_word : List (Bor (List ℕ)) → Option (List ℕ) → Option (List ℕ)
-unless_word words None = None
-unless_word words (Some text) = cond (is_word words text) None (Some text)
+-- what is around the event of this number
+abbrev pub around : List Event → ℕ → Around
+around events n = record { is_key = is_key (collection_at events n); is_in_flow = is_in_flow events n; is_doubled = is_doubled events n; has_no_value = has_no_value events n }
 
--- the text that is asked about: that of a plain scalar without a tag, unless it is one of the allowed words
-abbrev pub asked_text : List (Bor (List ℕ)) → Event → Option (List ℕ)
-asked_text allowed e = unless_word allowed (plain_text e)
+-- The causes for which the event of this number may be warned of: its name, its first character, the keys that are equal to it in Python and in JavaScript, YAML 1.1, an int with a tag, and a slip. A scalar is judged as a key where it is one.
+pub record AreCauses (events : List Event) (n : ℕ) (e : Event) (causes : List (Option Cause)) : Type 0 where
+  pub python : Option ℕ
+  pub script : Option ℕ
+  pub older : Option Cause
+  pub equal_in_python : IsEqualKey readers.Python events n python
+  pub equal_in_script : IsEqualKey readers.JavaScript events n script
+  pub tells : TellsOlder (is_key (collection_at events n)) (plain_text e) older
+  pub are : causes ≡ name_cause e ∷ indicator_cause (is_in_flow events n) e ∷ equal_cause readers.Python python ∷ equal_cause readers.JavaScript script ∷ older ∷ tagged_cause e ∷ slip_cause (around events n) (plain_text e) ∷ []
 
--- What YAML 1.1 makes of this text, if it reads it otherwise, as a key or as no key.
-abbrev pub TellsOlder : Bool → Option (List ℕ) → Option Older → Type 0
-TellsOlder is_key None told = told ≡ None
-TellsOlder is_key (Some text) told = IsOlder (older_of text is_key) (new_kind text) told
+-- the warning of an event for a cause, unless what it shows is one of these words
+abbrev pub noted : List (Bor (List ℕ)) → Event → ℕ → Option Cause → List (ℕ × Cause)
+noted allowed e n None = []
+noted allowed e n (Some cause) = cond (is_allowed allowed cause e) [] ((n, cause) ∷ [])
 
--- where these collections are open, the node that began last is a key
-abbrev pub is_at_key : List Frame → Bool
-is_at_key frames = is_key (find has_part (reverse frames))
+-- All warnings of the first so many events, in their order: for each the number of its event, and its cause.
+abbrev pub AllWarned : List (Bor (List ℕ)) → List Event → ℕ → List (ℕ × Cause) → Type 0
+AllWarned allowed events zero all = all ≡ []
+AllWarned allowed events (suc n) all =
+    (before : List (ℕ × Cause)) × (e : Event) × (causes : List (Option Cause))
+    × AllWarned allowed events n before × (slice_get events n ≡ Some e) × AreCauses events n e causes × (all ≡ before ++ flat_map (noted allowed e n) causes)
 
-abbrev pub noted : ℕ → Option Older → List (ℕ × Older)
-noted at None = []
-noted at (Some why) = (at, why) ∷ []
+-- the first of these, as many as there is room for, and whether these are all
+pub record Keeps (room : ℕ) (all : List (ℕ × Cause)) (found : Found) : Type 0 where
+  pub first : found.list.items ≡ take room all
+  pub are_all : found.whole ≡ nat_le (length all) room
 
--- All warnings of events of which the first has this number, in their order: the number of each event that is asked about and read otherwise, and what YAML 1.1 makes of it. These collections are open before the first.
-abbrev pub AllWarned : List (Bor (List ℕ)) → ℕ → List Frame → List code.Event → List (ℕ × Older) → Type 0
-AllWarned allowed at frames [] all = all ≡ []
-AllWarned allowed at frames (e ∷ es) all =
-    let next = frames_after at (event_of e) frames in
-    (told : Option Older) × (rest : List (ℕ × Older)) × TellsOlder (is_at_key next) (asked_text allowed (event_of e)) told × AllWarned allowed (at + 1) next es rest × (all ≡ noted at told ++ rest)
+pub record FindsWarned (allowed : List (Bor (List ℕ))) (room : ℕ) (events : List Event) (found : Found) : Type 0 where
+  pub all : List (ℕ × Cause)
+  pub warned : AllWarned allowed events (length events) all
+  pub keeps : Keeps room all found
 
--- the first of them, as many as there is room for, and whether these are all
-pub record FindsWarned (allowed : List (Bor (List ℕ))) (room : ℕ) (events : List code.Event) (list : List (ℕ × Older)) (whole : Bool) : Type 0 where
-  pub all : List (ℕ × Older)
-  pub warned : AllWarned allowed 0 [] events all
-  pub first : list ≡ take room all
-  pub are_all : whole ≡ nat_le (length all) room
+-- what is known of the first so many events: the collections that are open, the keys and the anchors
+pub record Knows (cmp : Key → Key → Ordering) (events : List Event) (n : ℕ) (known : Known) : Type 0 where
+  pub frames : open_frames known.trail ≡ frames_of (take n events)
+  pub keys : Holds cmp events n known.keys
 
 -- ---- where
 
-abbrev pub text_of : Option code.Event → Option (List ℕ)
-text_of None = None
-text_of (Some e) = plain_text (event_of e)
+abbrev pub shown_of : Cause → Option Event → Option Label
+shown_of cause None = None
+shown_of cause (Some e) = shown_label cause e
 
--- the text of the plain scalar of this number
-abbrev pub text_in : List code.Event → ℕ → Option (List ℕ)
-text_in events number = text_of (slice_get events number)
+-- what the warning shows of the event of this number
+abbrev pub label_in : List Event → ℕ × Cause → Option Label
+label_in events warning = shown_of warning.1 (slice_get events warning.0)
 
--- a warning has the text of its event, at the place of some offset of the text
-pub record IsWarning (events : List code.Event) (text : List ℕ) (told : ℕ × Older) (one : Warning) : Type 0 where
-  pub is : text_in events told.0 ≡ Some (string_bytes one.text)
+-- a warning has what is shown of its event and what is said of it, at the place of some offset of the text
+pub record IsWarning (events : List Event) (text : List ℕ) (warning : ℕ × Cause) (one : Warning) : Type 0 where
+  pub shows : option_map whole (label_in events warning) ≡ Some (string_bytes one.text)
+  pub says : Says events warning.1 (string_bytes one.text) (string_bytes one.words)
   pub at : ℕ
   pub within : at ≤ length text
   pub placed : IsPlace text at one.place.line one.place.column
 
 -- these are the warnings that were found, one by one
-abbrev pub AreWarnings : List code.Event → List ℕ → List (ℕ × Older) → List Warning → Type 0
+abbrev pub AreWarnings : List Event → List ℕ → List (ℕ × Cause) → List Warning → Type 0
 AreWarnings events text [] list = list ≡ []
-AreWarnings events text (told ∷ found) list = (one : Warning) × (rest : List Warning) × IsWarning events text told one × AreWarnings events text found rest × (list ≡ one ∷ rest)
+AreWarnings events text (warning ∷ found) list = (one : Warning) × (rest : List Warning) × IsWarning events text warning one × AreWarnings events text found rest × (list ≡ one ∷ rest)
 
 -- The bytes are read as some events, all warnings of these are as said, and the first so many are the list.
-pub record ListsFirst (bytes : List ℕ) (allowed : List (Bor (List ℕ))) (all : List (ℕ × Older)) (lines : ℕ) (list : List Warning) : Type 0 where
-  pub events : List code.Event
-  pub reads : Reads bytes (map event_of events)
-  pub warned : AllWarned allowed 0 [] events all
+pub record ListsFirst (bytes : List ℕ) (allowed : List (Bor (List ℕ))) (all : List (ℕ × Cause)) (lines : ℕ) (list : List Warning) : Type 0 where
+  pub events : List Event
+  pub reads : Reads bytes events
+  pub warned : AllWarned allowed events (length events) all
   pub are : AreWarnings events (drop (mark_len bytes) bytes) (take lines all) list
 
 -- as many as there is room for, and whether these are all
 pub record ListsWarnings (bytes : List ℕ) (allowed : List (Bor (List ℕ))) (room : ℕ) (warnings : Warnings) : Type 0 where
-  pub all : List (ℕ × Older)
+  pub all : List (ℕ × Cause)
   pub first : ListsFirst bytes allowed all room warnings.list.items
   pub whole : warnings.whole ≡ nat_le (length all) room
 
 -- ---- in which lines
 
--- the file, the line and the column, the scalar's text of 60 bytes at most, and what is said of it
+-- the file, the line and the column, 60 bytes at most of what is shown, and what is said of it
 abbrev pub warning_line : List ℕ → Warning → List ℕ
 warning_line name w = head name (Some w.place) ++ (codes "warning: " ++ (terminal (front 60 (string_bytes w.text)) ++ (codes ": " ++ (string_bytes w.words ++ codes "\n"))))
 
--- the same as an object, with all of the scalar's text
+-- the same as an object, with all of what is shown
 abbrev pub warning_object : List ℕ → Warning → List ℕ
 warning_object name w =
     object_line ((codes "file", text_data (Some name)) ∷ (codes "line", count_data w.place.line) ∷ (codes "column", count_data w.place.column) ∷ (codes "text", text_data (Some (string_bytes w.text))) ∷ (codes "words", text_data (Some (string_bytes w.words))) ∷ [])

@@ -2,11 +2,11 @@
 ghost use Rattle.std.specs.Prelude.{◌≡◌, ◌≤◌, ◌+◌, ◌++◌, ℕ, List, drop, length, option_map, IfSome, IfOk, IfErr, OnOk, string_bytes};
 ghost use Rattle.yaml_definitions.specs.model.Text.{mark_len};
 ghost use Rattle.review_faults.specs.Again.{CannotTell};
-ghost use Rattle.review_faults.specs.Explained.{path_part, IsSource, first_part, IsExplained};
+ghost use Rattle.review_faults.specs.Explained.{path_part, shown_point, IsSource, place_line, other_lines, IsExplained};
 ghost use Rattle.review_faults.specs.FaultLines.{called, byte_part, line_of, column_of, object_text, HasTold, TellsFault};
 ghost use Rattle.review_faults.specs.Heads.{place_part, head};
 
-use crate::spots::{Told, find_told};
+use crate::spots::{Point, Told, find_told, place_at_point};
 use review_args::Form;
 use review_places::places::{mark_len, unmarked};
 use review_text::fronts::{put_shown, put_source_line};
@@ -74,49 +74,62 @@ fn put_path(out: &mut String, path: &Option<String>) -> Result<(), Fault>
     Ok(())
 }
 
-/// Writes the source line and the caret, if there is a place.
-fn put_source(alloc: Global, out: &mut String, text: &[u8], told: &Told) -> Result<(), Fault>
-    requires { IfSome told.now.place (λ _. told.now.at ≤ length text.now) }
-    ensures ok { OnOk result ((shown : List ℕ) × (string_bytes out.new ≡ string_bytes out.old ++ shown) × IsSource text.now told.now.at told.now.place shown) }
-    ensures err { IfErr result (λ fault. fault ≡ Fault.OutOfMemory) }
-{
-    if told.place.is_some() {
-        put_source_line(alloc, out, text, told.at)?;
-    }
-    Ok(())
-}
-
-/// Writes where the first of two equal keys stands, if there is one.
-fn put_first(out: &mut String, name: &str, first: Option<Place>) -> Result<(), Fault>
-    ensures ok { OnOk result (string_bytes out.new ≡ string_bytes out.old ++ first_part name.now first) }
-    ensures err { IfErr result (λ fault. fault ≡ Fault.OutOfMemory) }
-{
-    if let Some(place) = first {
-        put_head(out, name, Some(place))?;
-        out.push_str("the first of the two\n")?;
-    }
-    Ok(())
-}
-
-/// What stands behind the number, the name and the offset of a fault: its path, what is said of it, the source line and the caret,
-/// and where the first of two equal keys stands.
-fn explained(
+/// Writes the source line and the caret of a point, if there is one.
+fn put_source(
     alloc: Global,
-    name: &str,
+    out: &mut String,
     text: &[u8],
+    point: Option<Point>,
+) -> Result<(), Fault>
+    requires { IfSome point (λ p. p.at ≤ length text.now) }
+    ensures ok { OnOk result ((shown : List ℕ) × (string_bytes out.new ≡ string_bytes out.old ++ shown) × IsSource text.now point shown) }
+    ensures err { IfErr result (λ fault. fault ≡ Fault.OutOfMemory) }
+{
+    if let Some(point) = point {
+        put_source_line(alloc, out, text, point.at)?;
+    }
+    Ok(())
+}
+
+/// Writes the line of another place, if there is one.
+fn put_place_line(
+    out: &mut String,
+    name: &str,
     words: &str,
-    told: &Told,
-) -> Result<String, Fault>
-    requires { IfSome told.now.place (λ _. told.now.at ≤ length text.now) }
-    ensures ok { IfOk result (λ more. IsExplained name.now text.now told.now words.now (string_bytes more)) }
+    place: Option<Place>,
+) -> Result<(), Fault>
+    ensures ok { OnOk result (string_bytes out.new ≡ string_bytes out.old ++ place_line name.now words.now place) }
+    ensures err { IfErr result (λ fault. fault ≡ Fault.OutOfMemory) }
+{
+    if place.is_some() {
+        put_head(out, name, place)?;
+        out.push_str(words)?;
+    }
+    Ok(())
+}
+
+/// Writes the lines of other places: where the reader stopped, if the cause is printed first, and the first of two equal keys.
+fn put_others(out: &mut String, name: &str, told: &Told) -> Result<(), Fault>
+    ensures ok { OnOk result (string_bytes out.new ≡ string_bytes out.old ++ other_lines name.now told.now) }
+    ensures err { IfErr result (λ fault. fault ≡ Fault.OutOfMemory) }
+{
+    put_place_line(out, name, "reading stopped here\n", told.second_place())?;
+    put_place_line(out, name, "the first of the two\n", told.first)
+}
+
+/// What is after the number, the name and the offset of a fault: its path, what is said of it, the source line and the caret, and
+/// the lines of other places.
+fn explained(alloc: Global, name: &str, text: &[u8], told: &Told) -> Result<String, Fault>
+    requires { IfSome (shown_point told.now) (λ p. p.at ≤ length text.now) }
+    ensures ok { IfOk result (λ more. IsExplained name.now text.now told.now (string_bytes more)) }
     ensures err { IfErr result (λ fault. fault ≡ Fault.OutOfMemory) }
 {
     let mut out = String::new(alloc);
     put_path(&mut out, &told.path)?;
-    out.push_str(words)?;
+    out.push_str(&told.words)?;
     out.push_str("\n")?;
-    put_source(alloc, &mut out, text, told)?;
-    put_first(&mut out, name, told.first)?;
+    put_source(alloc, &mut out, text, told.shown())?;
+    put_others(&mut out, name, told)?;
     Ok(out)
 }
 
@@ -128,7 +141,7 @@ fn byte_of(bytes: &[u8], told: &Told) -> usize
     mark_len(bytes).saturating_add(told.at)
 }
 
-/// The lines of a fault: the message, the source line and the caret, and where the first of two equal keys stands.
+/// The lines of a fault: the message, the source line and the caret, and other places.
 fn put_lines(
     alloc: Global,
     out: &mut String,
@@ -137,17 +150,16 @@ fn put_lines(
     fault: Fault,
     told: &Told,
 ) -> Result<(), Fault>
-    requires { IfSome told.now.place (λ _. told.now.at ≤ length (drop (mark_len bytes.now) bytes.now)) }
+    requires stop { IfSome told.now.place (λ _. told.now.at ≤ length (drop (mark_len bytes.now) bytes.now)) }
+    requires shown { IfSome (shown_point told.now) (λ p. p.at ≤ length (drop (mark_len bytes.now) bytes.now)) }
     ensures ok { OnOk result ((text : List ℕ) × (string_bytes out.new ≡ string_bytes out.old ++ text) × HasTold Form.Line name.now bytes.now fault told.now text) }
     ensures err { IfErr result (λ fault. fault ≡ Fault.OutOfMemory) }
 {
-    put_head(out, name, told.place)?;
+    put_head(out, name, told.shown_place())?;
     put_called(out, fault)?;
     put_byte(out, told.place, byte_of(bytes, told))?;
     out.push_str(": ")?;
-    let text = unmarked(bytes);
-    let words = told.words(alloc, fault, text)?;
-    let more = explained(alloc, name, text, words.as_str(), told)?;
+    let more = explained(alloc, name, unmarked(bytes), told)?;
     out.push_str(more.as_str())?;
     Ok(())
 }
@@ -188,14 +200,14 @@ fn put_members<'t>(
     alloc: Global,
     out: &mut String,
     name: &'t str,
-    words: &'t str,
     fault: Fault,
     told: &'t Told,
     byte: Option<usize>,
 ) -> Result<(), Fault>
-    ensures ok { OnOk result (string_bytes out.new ≡ string_bytes out.old ++ object_text name.now fault told.now byte words.now) }
+    ensures ok { OnOk result (string_bytes out.new ≡ string_bytes out.old ++ object_text name.now fault told.now byte) }
     ensures err { IfErr result (λ fault. fault ≡ Fault.OutOfMemory) }
 {
+    let cause = place_at_point(told.cause);
     let members = [
         ("file", Said::Text(Some(name))),
         ("line", Said::Number(line_of(told.place))),
@@ -204,9 +216,11 @@ fn put_members<'t>(
         ("number", Said::Number(Some(fault.number() as usize))),
         ("name", Said::Text(Some(fault.name()))),
         ("path", Said::Text(text_of(&told.path))),
-        ("words", Said::Text(Some(words))),
+        ("words", Said::Text(Some(told.words.as_str()))),
         ("first_line", Said::Number(line_of(told.first))),
         ("first_column", Said::Number(column_of(told.first))),
+        ("cause_line", Said::Number(line_of(cause))),
+        ("cause_column", Said::Number(column_of(cause))),
     ];
     put_object(alloc, out, &members)
 }
@@ -224,23 +238,14 @@ fn put_json(
     ensures ok { OnOk result ((text : List ℕ) × (string_bytes out.new ≡ string_bytes out.old ++ text) × HasTold Form.Json name.now bytes.now fault told.now text) }
     ensures err { IfErr result (λ fault. fault ≡ Fault.OutOfMemory) }
 {
-    let words = told.words(alloc, fault, unmarked(bytes))?;
-    put_members(
-        alloc,
-        out,
-        name,
-        words.as_str(),
-        fault,
-        told,
-        told_byte(bytes, told),
-    )
+    put_members(alloc, out, name, fault, told, told_byte(bytes, told))
 }
 
 /// Writes what is told of a fault: its number and its name, where it is, the path of its node, and what is said of it.
 ///
 /// # Errors
 /// `OutOfMemory`. For a fault of an event the bytes are read again; of bytes that the reader rejects, the reader's.
-#[tactic(auto, using(crate::proofs::AgainLaws::memory_told))]
+#[tactic(auto, using(crate::proofs::AgainLaws::memory_told, crate::proofs::SpotLaws::told_within, crate::proofs::SpotLaws::shown_within))]
 pub fn put_fault(
     alloc: Global,
     out: &mut String,

@@ -1,8 +1,14 @@
 //! The lines of `faults` and `warn`, and where a file is that JSON cannot express.
 #![tactic(auto)]
 
+pub mod cause;
+mod equal_keys;
 pub mod faults;
+mod find;
+pub mod keys;
+mod label;
 pub mod no_json;
+pub mod slip;
 mod spots;
 pub mod spotted;
 pub mod warn;

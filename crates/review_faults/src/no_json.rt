@@ -7,6 +7,7 @@ ghost use Rattle.review_faults.specs.EventSpots.{path_at};
 ghost use Rattle.review_faults.specs.NoJson.{IsOfText, BeginsSomewhere};
 
 use crate::faults::put_head;
+use crate::label::anchor_of;
 use crate::spots::place_of;
 use review_places::places::unmarked;
 use review_places::trace::{Trace, trace_of};
@@ -111,25 +112,6 @@ fn value_of(
         Event::MappingStart { tag, .. } => Ok(Some(collection_value(tag, core_tag::MAP))),
         Event::Alias { name } => Ok(named.get(name.as_str()).copied()),
         _ => Ok(None),
-    }
-}
-
-/// The anchor of the node that an event begins.
-fn anchor_of<'e>(event: &'e Event<'_>) -> Option<&'e str> {
-    match event {
-        Event::Scalar {
-            anchor: Some(name),
-            ..
-        }
-        | Event::SequenceStart {
-            anchor: Some(name),
-            ..
-        }
-        | Event::MappingStart {
-            anchor: Some(name),
-            ..
-        } => Some(name.as_str()),
-        _ => None,
     }
 }
 

@@ -5,12 +5,13 @@ ghost use Rattle.yaml_text.specs.EventModel.{event_of};
 ghost use Rattle.review_places.specs.Trace.{shapes_in};
 ghost use Rattle.review_places.specs.Trails.{documents_before, open_frames, frames_of};
 ghost use Rattle.review_faults.specs.Again.{CannotRead, CannotTell};
-ghost use Rattle.review_faults.specs.EventPlaces.{IsEventOf, IsFirstOf, IsShownAt, noted_offset};
+ghost use Rattle.review_faults.specs.EventPlaces.{IsEventOf, IsFirstOf, IsShownAt, IsPlaceAt, IsPlaceOf, noted_offset};
 ghost use Rattle.review_faults.specs.EventSpots.{ends_document, path_at, fault_words, IsSpotAt, IsEventSpot};
 ghost use Rattle.review_faults.specs.Explained.{AreWords};
-ghost use Rattle.review_faults.specs.FaultLines.{offset_in, names_event, IsPlaceAt, IsPlaceOf, IsSpot, IsTold};
+ghost use Rattle.review_faults.specs.FaultLines.{offset_in, names_event, other_line, IsCause, IsSpot, IsTold};
 
-use review_hints::words::words_of;
+use crate::equal_keys::equal_key_words;
+use review_hints::words::{Words, words_of};
 use review_places::layout::lay_out;
 use review_places::places::{mark_len, unmarked};
 use review_places::trace::{Trace, trace_of};
@@ -23,7 +24,7 @@ use yaml_text::chars::Chars;
 use yaml_text::event::Event;
 use yaml_text::fault::Fault;
 
-/// Where a fault is, in the text behind the byte order mark.
+/// Where a fault is, in the text after the byte order mark.
 #[derive(Drop)]
 struct Spot {
     at: Option<usize>,
@@ -31,8 +32,8 @@ struct Spot {
     path: Option<String>,
     /// What is said of the fault, where that depends on the node.
     words: Option<String>,
-    /// Where the first of two equal keys stands.
-    first: Option<usize>,
+    /// The place of the first of two equal keys.
+    first: Option<Place>,
 }
 
 impl Spot {
@@ -53,25 +54,65 @@ impl Spot {
     }
 }
 
-/// A spot with its lines and columns.
+/// An offset of a text, and its line and column.
+#[derive(Clone, Copy)]
+pub(crate) struct Point {
+    pub(crate) at: usize,
+    pub(crate) place: Place,
+}
+
+/// A spot with its lines and columns, and what is said of it.
 #[derive(Drop)]
 pub(crate) struct Told {
+    /// Where the reader stopped.
     pub(crate) place: Option<Place>,
     pub(crate) at: usize,
     pub(crate) path: Option<String>,
-    pub(crate) words: Option<String>,
+    pub(crate) words: String,
+    /// Where the cause is, if it is on another line.
+    pub(crate) cause: Option<Point>,
     pub(crate) first: Option<Place>,
 }
 
+/// The place of a point, if there is one.
+pub(crate) fn place_at_point(point: Option<Point>) -> Option<Place>
+    ensures { result ≡ option_map (λ p. p.place) point }
+{
+    match point {
+        Some(point) => Some(point.place),
+        None => None,
+    }
+}
+
 impl Told {
-    /// What is said of the fault in this text.
-    pub(crate) fn words(&self, alloc: Global, fault: Fault, text: &[u8]) -> Result<String, Fault>
-        ensures ok { IfOk result (λ words. AreWords text.now fault self.now (string_bytes words)) }
-        ensures err { IfErr result (λ fault. fault ≡ Fault.OutOfMemory) }
+    ghost use Rattle.std.specs.Prelude.{◌≡◌};
+    ghost use Rattle.review_faults.specs.Explained.{shown_place, shown_point, second_place};
+
+    /// The point that is printed first: that of the cause, or the one at which the reader stopped.
+    pub(crate) fn shown(&self) -> Option<Point>
+        ensures { result ≡ shown_point self.now }
     {
-        match &self.words {
-            Some(words) => Ok(words.clone()?),
-            None => words_of(alloc, fault, text, self.at),
+        match (self.cause, self.place) {
+            (Some(cause), _) => Some(cause),
+            (None, Some(place)) => Some(Point { at: self.at, place }),
+            (None, None) => None,
+        }
+    }
+
+    /// Its place.
+    pub(crate) fn shown_place(&self) -> Option<Place>
+        ensures { result ≡ shown_place self.now }
+    {
+        place_at_point(self.shown())
+    }
+
+    /// Where the reader stopped, if the cause is printed first.
+    pub(crate) fn second_place(&self) -> Option<Place>
+        ensures { result ≡ second_place self.now }
+    {
+        match self.cause {
+            Some(_) => self.place,
+            None => None,
         }
     }
 }
@@ -207,13 +248,14 @@ fn path_at(alloc: Global, events: &[Event<'_>], number: usize) -> Result<String,
     trail.path(alloc, events)
 }
 
-/// What is said of a fault of this event, where that depends on its node.
+/// What is said of a fault of this event, where that depends on its node. The place is that of the first of two equal keys.
 fn event_words(
     alloc: Global,
     fault: Fault,
+    first: Option<Place>,
     event: Option<&Event<'_>>,
 ) -> Result<Option<String>, Fault>
-    ensures ok { IfOk result (λ words. option_map string_bytes words ≡ fault_words fault (option_map (λ e. event_of e.now) event.entry)) }
+    ensures ok { IfOk result (λ words. option_map string_bytes words ≡ fault_words fault first (option_map (λ e. event_of e.now) event.entry)) }
     ensures err { IfErr result (λ fault. fault ≡ Fault.OutOfMemory) }
 {
     match (fault, event) {
@@ -221,6 +263,9 @@ fn event_words(
             let mut words = String::new(alloc);
             put_tag_words(&mut words, event)?;
             Ok(Some(words))
+        }
+        (Fault::EqualKeys(_, _, _), Some(event)) => {
+            Ok(Some(equal_key_words(alloc, event, first)?))
         }
         _ => Ok(None),
     }
@@ -240,11 +285,12 @@ fn spot_at(
     ensures ok { IfOk result (IsSpotAt trace.now (map event_of events.now) text.now fault number) }
     ensures err { IfErr result (λ fault. fault ≡ Fault.OutOfMemory) }
 {
+    let first = find_place(text, first_offset(trace, first));
     Ok(Spot {
         at: offset_of(fault, text, trace, number),
         path: Some(path_at(alloc, events, number)?),
-        words: event_words(alloc, fault, events.get(number))?,
-        first: first_offset(trace, first),
+        words: event_words(alloc, fault, first, events.get(number))?,
+        first,
     })
 }
 
@@ -303,18 +349,62 @@ fn find_place(text: &[u8], at: Option<usize>) -> Option<Place>
     }
 }
 
-/// The lines and columns of a fault's spot in the text behind the byte order mark.
+/// What is said of a fault at this offset of a text, if its node has no words of its own.
+fn words_at(
+    alloc: Global,
+    fault: Fault,
+    text: &[u8],
+    at: usize,
+    own: Option<String>,
+) -> Result<Words, Fault>
+    ensures ok { IfOk result (λ words. AreWords text.now fault at own words.cause (string_bytes words.text)) }
+    ensures err { IfErr result (λ fault. fault ≡ Fault.OutOfMemory) }
+{
+    match own {
+        Some(own) => Ok(Words {
+            text: own,
+            cause: None,
+        }),
+        None => words_of(alloc, fault, text, at),
+    }
+}
+
+/// The point of a cause, if it is on another line than the one where the reader stopped.
+fn other_line(stop: Option<Place>, at: usize, place: Option<Place>) -> Option<Point>
+    ensures { result ≡ other_line stop at place }
+{
+    match (stop, place) {
+        (Some(stop), Some(place)) if stop.line != place.line => Some(Point { at, place }),
+        _ => None,
+    }
+}
+
+/// The same of the offset of a cause, if there is one.
+fn find_cause(text: &[u8], stop: Option<Place>, cause: Option<usize>) -> Option<Point>
+    ensures { IsCause text.now stop cause result }
+{
+    match cause {
+        Some(at) => other_line(stop, at, place_of(text, at)),
+        None => None,
+    }
+}
+
+/// The lines and columns of a fault's spot in the text after the byte order mark, and what is said of it.
 pub(crate) fn find_told(alloc: Global, bytes: &[u8], fault: Fault) -> Result<Told, Fault>
     ensures ok { IfOk result (IsTold bytes.now fault) }
     ensures err { IfErr result (CannotTell bytes.now fault) }
 {
     let spot = find_spot(alloc, bytes, fault)?;
     let text = unmarked(bytes);
+    let at = spot.at.unwrap_or(0);
+    let place = find_place(text, spot.at);
+    let words = words_at(alloc, fault, text, at, spot.words)?;
     Ok(Told {
-        place: find_place(text, spot.at),
-        at: spot.at.unwrap_or(0),
+        place,
+        at,
         path: spot.path,
-        words: spot.words,
-        first: find_place(text, spot.first),
+        cause: find_cause(text, place, words.cause),
+        words: words.text,
+        first: spot.first,
     })
 }

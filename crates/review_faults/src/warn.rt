@@ -1,122 +1,35 @@
-//! What tools of YAML 1.1 read otherwise in a file.
-ghost use Rattle.std.specs.Prelude.{◌≡◌, ◌≤◌, ◌++◌, ◌∷◌, ◌&&◌, [], flat_map, length, nat_lt, option_map, take, IfOk, IfErr, OnOk, IfSome, Some, string_bytes};
+//! What other tools read otherwise in a file.
+ghost use Rattle.std.specs.Prelude.{◌≡◌, ◌≤◌, ◌++◌, flat_map, length, map, option_map, IfOk, IfErr, OnOk, string_bytes};
 ghost use Rattle.yaml_text.specs.EventModel.{event_of};
 ghost use Rattle.yaml_place.specs.LineModel.{IsPlace};
 ghost use Rattle.review_faults.specs.Again.{CannotRead};
-ghost use Rattle.review_faults.specs.Warned.{is_word, plain_text, asked_text, TellsOlder, FindsWarned, text_in, AreWarnings, ListsWarnings, warning_line, warning_object, warning_text, warnings_text};
+ghost use Rattle.review_faults.specs.Labels.{label_of, whole};
+ghost use Rattle.review_faults.specs.Says.{Says};
+ghost use Rattle.review_faults.specs.Warned.{label_in, AreWarnings, ListsWarnings, warning_line, warning_object, warning_text, warnings_text};
 
+use crate::cause::Cause;
 use crate::faults::put_head;
+use crate::find::find_warned;
+use crate::label::Label;
 use review_args::Form;
-use review_lines::lines::put_more;
 use review_places::places::unmarked;
 use review_places::trace::{Trace, trace_of};
-use review_places::trail::Trail;
 use review_text::fronts::put_shown;
 use review_text::json::{Said, put_object};
 use review_text::text::{CUT, front};
-use review_text::yaml11::{Older, read_older};
 use std::alloc::Global;
 use yaml_place::{Place, place_after, place_at};
 use yaml_read::read_events;
 use yaml_text::chars::Chars;
-use yaml_text::event::{Event, EventTag, Style};
+use yaml_text::event::Event;
 use yaml_text::fault::Fault;
 
-/// Warnings of a file: the number of an event, and what YAML 1.1 makes of it.
-#[derive(Drop)]
-struct Warned {
-    list: Vec<(usize, Older)>,
-    whole: bool,
-}
-
-/// The text of an event that is an untagged plain scalar.
-fn plain_text<'e>(event: &'e Event<'_>) -> Option<&'e str>
-    ensures { option_map (λ text. text.now) result ≡ plain_text (event_of event.now) }
-{
-    match event {
-        Event::Scalar {
-            tag: EventTag::None,
-            style: Style::Plain,
-            text,
-            ..
-        } => Some(text.as_str()),
-        _ => None,
-    }
-}
-
-/// Whether a text is one of these words.
-fn is_word(words: &[&str], text: &str) -> bool
-    ensures { result ≡ is_word words.now text.now }
-{
-    words.iter().any(|word| *word == text)
-}
-
-/// The same text, unless it is one of the allowed words.
-fn asked_text<'e>(event: &'e Event<'_>, allowed: &[&str]) -> Option<&'e str>
-    ensures { option_map (λ text. text.now) result ≡ asked_text allowed.now (event_of event.now) }
-{
-    match plain_text(event) {
-        Some(text) if !is_word(allowed, text) => Some(text),
-        _ => None,
-    }
-}
-
-/// What YAML 1.1 makes of a text that is asked about, where it reads it otherwise.
-fn older_of(text: Option<&str>, is_key: bool) -> Option<Older>
-    ensures { TellsOlder is_key (option_map (λ t. t.now) text.entry) result }
-{
-    match text {
-        Some(text) => read_older(text, is_key),
-        None => None,
-    }
-}
-
-/// Adds a warning, if there is room for it; if not, the list is not whole.
-fn add(found: &mut Warned, warning: (usize, Older), room: usize) -> Result<(), Fault>
-    requires few { length found.old.list.items ≤ room }
-    ensures list { OnOk result (found.new.list.items ≡ take room (found.old.list.items ++ (warning ∷ []))) }
-    ensures whole { OnOk result (found.new.whole ≡ (found.old.whole && nat_lt (length found.old.list.items) room)) }
-    ensures err { IfErr result (λ fault. fault ≡ Fault.OutOfMemory) }
-{
-    if found.list.len() < room {
-        found.list.push(warning)?;
-    } else {
-        found.whole = false;
-    }
-    Ok(())
-}
-
-/// The scalars of a file that YAML 1.1 reads otherwise and that are none of the allowed words, at most so many.
-fn find_warned(
-    alloc: Global,
-    events: &[Event<'_>],
-    allowed: &[&str],
-    room: usize,
-) -> Result<Warned, Fault>
-    ensures ok { IfOk result (λ found. FindsWarned allowed.now room events.now found.list.items found.whole) }
-    ensures err { IfErr result (λ fault. fault ≡ Fault.OutOfMemory) }
-{
-    let mut found = Warned {
-        list: Vec::new(alloc),
-        whole: true,
-    };
-    let mut trail = Trail::new(alloc);
-    for (at, event) in events.iter().enumerate() {
-        trail.take(at, event)?;
-        let is_key = trail.is_at_key();
-        if let Some(older) = older_of(asked_text(event, allowed), is_key) {
-            add(&mut found, (at, older), room)?;
-        }
-    }
-    Ok(found)
-}
-
-/// A scalar that YAML 1.1 reads otherwise.
+/// A scalar or a name that other tools read otherwise.
 #[derive(Drop)]
 pub struct Warning {
     pub place: Place,
     pub text: String,
-    /// What YAML 1.1 makes of it.
+    /// How they read it.
     pub words: String,
 }
 
@@ -140,57 +53,63 @@ fn go_on(text: &[u8], from: usize, place: Place, to: usize) -> Place
     }
 }
 
-/// The warning of a scalar that was found.
-fn warning_of(alloc: Global, text: &str, older: &Older, place: Place) -> Result<Warning, Fault>
-    ensures text { IfOk result (λ warning. string_bytes warning.text ≡ text.now) }
-    ensures place { IfOk result (λ warning. warning.place ≡ place) }
-    ensures err { IfErr result (λ fault. fault ≡ Fault.OutOfMemory) }
-{
-    Ok(Warning {
-        place,
-        text: text.to_string(alloc)?,
-        words: older.words(alloc, text)?,
-    })
-}
-
-/// The text of the plain scalar of this number.
-fn text_at<'e>(events: &'e [Event<'_>], number: usize) -> Option<&'e str>
-    ensures { IfSome result (λ text. text_in events.now number ≡ Some text.now) }
+/// What the warning of an event shows.
+fn label_at<'e>(events: &'e [Event<'_>], number: usize, cause: Cause) -> Option<Label<'e>>
+    ensures { option_map label_of result ≡ label_in (map event_of events.now) (number, cause) }
 {
     match events.get(number) {
-        Some(event) => plain_text(event),
+        Some(event) => cause.label(event),
         None => None,
     }
 }
 
-/// The warnings that were found, each at its event's offset in the text. For each there are a scalar and an offset, so that the
+/// The warning of an event that was found.
+fn warning_of(
+    alloc: Global,
+    events: &[Event<'_>],
+    cause: Cause,
+    label: Label<'_>,
+    place: Place,
+) -> Result<Warning, Fault>
+    ensures text { IfOk result (λ warning. string_bytes warning.text ≡ whole (label_of label.entry)) }
+    ensures place { IfOk result (λ warning. warning.place ≡ place) }
+    ensures words { IfOk result (λ warning. Says (map event_of events.now) cause (whole (label_of label.entry)) (string_bytes warning.words)) }
+    ensures err { IfErr result (λ fault. fault ≡ Fault.OutOfMemory) }
+{
+    let text = label.to_text(alloc)?;
+    let words = cause.words(alloc, events, &text)?;
+    Ok(Warning { place, text, words })
+}
+
+/// The warnings that were found, each at its event's offset in the text. For each there are a text and an offset, so that the
 /// error is want of memory.
 fn told(
     alloc: Global,
     events: &[Event<'_>],
     trace: &Trace,
     source: &[u8],
-    found: &[(usize, Older)],
+    found: &[(usize, Cause)],
 ) -> Result<Vec<Warning>, Fault>
-    ensures ok { IfOk result (λ list. AreWarnings events.now source.now found.now list.items) }
+    ensures ok { IfOk result (λ list. AreWarnings (map event_of events.now) source.now found.now list.items) }
     ensures err { IfErr result (λ fault. fault ≡ Fault.OutOfMemory) }
 {
     let mut list = Vec::new(alloc);
     let mut at = 0;
     let mut place = Place { line: 1, column: 1 };
-    'numbers: for (number, older) in found {
-        let (Some(text), Some(offset)) = (text_at(events, *number), trace.offset(*number)) else {
+    'numbers: for (number, cause) in found {
+        let label = label_at(events, *number, *cause);
+        let (Some(label), Some(offset)) = (label, trace.offset(*number)) else {
             return Err(Fault::OutOfMemory);
         };
         let to = offset.min(source.len());
         place = go_on(source, at, place, to);
         at = to;
-        list.push(warning_of(alloc, text, older, place)?)?;
+        list.push(warning_of(alloc, events, *cause, label, place)?)?;
     }
     Ok(list)
 }
 
-/// What YAML 1.1 reads otherwise in a file that is not refused, but for plain scalars that are one of these words: at most so many.
+/// What other tools read otherwise in a file that is not refused, but for what one of these words would be shown of: at most so many.
 ///
 /// # Errors
 /// `OutOfMemory`; of bytes that the reader rejects, the reader's.
@@ -295,7 +214,7 @@ pub fn put_warnings(
 {
     put_list(alloc, out, name, &warnings.list, form)?;
     if !warnings.whole {
-        put_more(out, form)?;
+        out.push_str(form.more())?;
     }
     Ok(())
 }

@@ -13,6 +13,7 @@ use Rattle.review_args.specs.declared.words.Form.{Form}
 use Rattle.review_args.specs.declared.words.Page.{Page}
 use Rattle.review_args.specs.declared.words.Page.TheVariants.{Html, Markdown, Sarif, Github}
 use Rattle.review_formats.specs.Findings.{sign_says}
+use Rattle.review_formats.specs.LeftOut.{no_left_out}
 use Rattle.review_formats.specs.declared.finding.Finding.{Finding}
 use Rattle.review_formats.specs.declared.finding.Level.TheVariants as levels
 use Rattle.review_formats.specs.declared.finding.Part.{Part}
@@ -75,7 +76,7 @@ pub record IsAlone (page : Page) (sign : Sign) (path : List ℕ) (one : Finding)
 pub record IsList (list : List Finding) (part : Part) : Type 0 where
   pub listed : part.list.items ≡ list
   pub unshown : part.shown ≡ None
-  pub whole : part.whole ≡ true
+  pub whole : part.left_out ≡ no_left_out
 
 -- ---- one file
 
@@ -85,7 +86,7 @@ module _ (holds : List ℕ → Option (List ℕ)) where
     pub compared : AreCompared holds asked ignored left right status
     pub list : ListsAll left right compared.listed part.list.items
     pub shown : ShowsLines page left compared.first right compared.second part.shown
-    pub whole : part.whole ≡ compared.listed.whole
+    pub left_out : part.left_out ≡ compared.listed.left_out
 
   -- the faults of two files that are not
   pub record RejectedFound (form : Form) (left right : List ℕ) (part : Part) (err : List ℕ) (status : ℕ) : Type 0 where
@@ -132,7 +133,7 @@ pub record IsNamed (name : List ℕ) (found part : Part) : Type 0 where
   pub named : option_map string_bytes part.name ≡ Some name
   pub list : part.list ≡ found.list
   pub shown : part.shown ≡ found.shown
-  pub whole : part.whole ≡ found.whole
+  pub left_out : part.left_out ≡ found.left_out
 
 -- there is a part of a file if something is found in it
 abbrev pub HasPart : List ℕ → Part → List Part → Type 0

@@ -13,7 +13,7 @@ use review_files::files::read_file;
 use review_files::rejected::{Named, put_not_compared, put_rejection, put_rejections};
 use review_files::telling::{put_line, tell_bare};
 use review_files::unread::{Unread, greater};
-use review_formats::{Finding, Level, Part, Sides, Sign};
+use review_formats::{Finding, LeftOut, Level, Part, Sides, Sign};
 use review_patterns::Pattern;
 use review_reports::pages::fault_list;
 use review_text::put_visible;
@@ -48,7 +48,7 @@ fn part_with(list: Vec<Finding>) -> Part
         name: None,
         list,
         shown: None,
-        whole: true,
+        left_out: LeftOut::none(),
     }
 }
 
@@ -275,7 +275,7 @@ fn both_found<S: Shelf>(
                 name: None,
                 list: list_found(alloc, &listed, first.name, second.name)?,
                 shown: lines_shown(alloc, page, first.name, one, second.name, other)?,
-                whole: listed.whole,
+                left_out: listed.left_out,
             };
             Ok(Found {
                 part,
@@ -322,7 +322,7 @@ fn add_part(alloc: Global, parts: &mut Vec<Part>, part: Part, name: &str) -> Res
         name: Some(name.to_string(alloc)?),
         list: part.list,
         shown: part.shown,
-        whole: part.whole,
+        left_out: part.left_out,
     })?;
     Ok(())
 }

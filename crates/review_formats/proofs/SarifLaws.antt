@@ -1,6 +1,6 @@
 -- Logs of SARIF: URIs of files, and values one behind the other.
 use Rattle.std.proofs.Common.{◌≡◌, ◌<◌, ◌≤◌, ℕ, zero, suc, ◌+◌, ◌==◌, Bool, true, false, ◌&&◌, ◌||◌, nat_lt, List, [], ◌∷◌, ◌++◌, map, drop, length, get_or, refl, sym, ◌∙◌, ap, subst, arith}
-use Rattle.std.specs.Prelude.{bytes_eq, cond, not, if◌then◌else◌, Option, Some, None, String, string_bytes}
+use Rattle.std.specs.Prelude.{bytes_eq, cond, not, if◌then◌else◌, Option, Some, None, String, codes, string_bytes}
 use Rattle.std.specs.declared.alloc.Global.{Global}
 use Rattle.std.specs.List.{flat_map, list_any}
 use Rattle.std.specs.Borrow.{Bor}
@@ -10,14 +10,17 @@ use Rattle.std.proofs.lemmas.Bool.Decides.{nat_tests}
 use lib.Pointwise.{bytes_decides}
 use Rattle.percent_encoding.specs.Percent.{percent_encode, percent_encode_byte, encode_byte}
 use Rattle.percent_encoding.specs.AsciiSet.{contains, should_percent_encode}
-use Rattle.serde_json.specs.Data.{Data}
+use Rattle.serde_json.specs.Data.{Data, Members, member, no_members, array}
 use Rattle.serde_json.specs.View.{items_of}
-use Rattle.serde_json.specs.Written.{has_float, items_have_float}
+use Rattle.serde_json.specs.Written.{has_float, items_have_float, members_have_float}
 use Rattle.yaml_place.specs.declared.place.Place.{Place}
+use Rattle.review_formats.specs.Findings.{left_out_of}
+use Rattle.review_formats.specs.LeftOut.{is_none}
 use Rattle.review_formats.specs.declared.finding.Finding.{Finding}
 use Rattle.review_formats.specs.declared.finding.Part.{Part}
+use Rattle.review_formats.specs.declared.left_out.LeftOut.{LeftOut}
 use Rattle.review_formats.specs.declared.sarif.TheConstants.{ESCAPED}
-use Rattle.review_formats.specs.Sarif.{is_kept, uri_byte, uri_text, physical_data, location_data, result_data, part_results, part_findings, with_rule, with_findings, rule_data, rules_data, log_data}
+use Rattle.review_formats.specs.Sarif.{is_kept, uri_byte, uri_text, physical_data, location_data, result_data, part_results, part_findings, with_rule, with_findings, rule_data, rules_data, tool_data, invocations_data, with_invocations, log_data}
 use Rattle.review_formats.proofs.PieceLaws.{drop_next}
 
 -- ---- URIs
@@ -155,8 +158,17 @@ results_no_float : (parts : List Part) → items_have_float (items_of (flat_map 
 results_no_float [] = refl
 results_no_float (part ∷ parts) = appended_no_float (part_results part) (flat_map part_results parts) (all_no_float result_data result_no_float part.list.items) (results_no_float parts)
 
+-- with what is not listed, if something is
+with_no_float : (l : LeftOut) (members : Members) → members_have_float (with_invocations l members) ≡ members_have_float members
+with_no_float l members = by (is_none l)
+  where
+    by : (b : Bool) → members_have_float (cond b members (member (codes "invocations") (invocations_data l) members)) ≡ members_have_float members
+    by true = refl
+    by false = refl
+
 pub log_no_float : (parts : List Part) → has_float (log_data parts) ≡ false
 log_no_float parts =
     let rules_have : Bool = items_have_float (items_of (rules_data parts)) in
-    ap (λ z. ((z || (((rules_have || false) || false) || false)) || false) || false) (results_no_float parts)
+    ap (λ z. (z || false) || false) (with_no_float (left_out_of parts) (member (codes "results") (array (items_of (flat_map part_results parts))) (member (codes "tool") (tool_data parts) no_members)))
+    ∙ ap (λ z. ((z || (((rules_have || false) || false) || false)) || false) || false) (results_no_float parts)
     ∙ ap (λ z. ((((z || false) || false) || false) || false) || false) (all_no_float rule_data (λ r. refl) (with_findings [] (flat_map part_findings parts)))

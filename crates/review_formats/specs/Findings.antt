@@ -4,6 +4,7 @@ use Rattle.std.specs.List.{list_all, sum_by}
 use Rattle.review_formats.specs.declared.finding.Part.{Part}
 use Rattle.review_formats.specs.declared.finding.Sign.{Sign}
 use Rattle.review_formats.specs.declared.finding.Sign.TheVariants.{Changed, Left, Right, Moved}
+use Rattle.review_formats.specs.declared.left_out.LeftOut.{LeftOut}
 
 -- what a difference is called
 abbrev pub sign_word : Sign → List ℕ
@@ -26,9 +27,18 @@ sign_says Left = codes "only on the left"
 sign_says Right = codes "only on the right"
 sign_says Moved = codes "moved"
 
--- whether all that was found is listed
+-- how many differences and moves were found in these parts and are not listed, as far as a number of 64 bits counts, and whether all were looked for
+abbrev pub differences_in : List Part → ℕ
+differences_in parts = min (sum_by (λ part. part.left_out.differences) parts) (2 ^ 64 - 1)
+
+abbrev pub moves_in : List Part → ℕ
+moves_in parts = min (sum_by (λ part. part.left_out.moves) parts) (2 ^ 64 - 1)
+
 abbrev pub are_whole : List Part → Bool
-are_whole parts = list_all (λ part. part.whole) parts
+are_whole parts = list_all (λ part. part.left_out.whole) parts
+
+abbrev pub left_out_of : List Part → LeftOut
+left_out_of parts = record { differences = differences_in parts; moves = moves_in parts; whole = are_whole parts }
 
 -- how many findings these parts have
 abbrev pub findings_in : List Part → ℕ

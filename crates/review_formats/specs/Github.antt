@@ -1,11 +1,12 @@
 -- Commands of GitHub's workflows, of which each is one line: `::COMMAND file=FILE,line=LINE,col=COLUMN,title=TITLE::MESSAGE`.
-use Rattle.std.specs.Prelude.{ℕ, cond, List, [], ◌++◌, Option, Some, None, String, codes, string_bytes}
+use Rattle.std.specs.Prelude.{ℕ, List, [], ◌++◌, Option, Some, None, String, codes, string_bytes}
 use Rattle.std.specs.declared.alloc.Global.{Global}
 use Rattle.std.specs.List.{flat_map}
 use Rattle.std.specs.Fmt.{decimal}
 use Rattle.yaml_place.specs.declared.place.Place.{Place}
 use Rattle.review_formats.specs.Escaped.{escaped}
-use Rattle.review_formats.specs.Findings.{are_whole}
+use Rattle.review_formats.specs.Findings.{left_out_of}
+use Rattle.review_formats.specs.LeftOut.{between_text}
 use Rattle.review_formats.specs.declared.escape.Escape.TheVariants.{Message, Property}
 use Rattle.review_formats.specs.declared.finding.Finding.{Finding}
 use Rattle.review_formats.specs.declared.finding.Findings.{Findings}
@@ -45,9 +46,9 @@ finding_line one = head_text one ++ (place_text one.place ++ (title_text one.rul
 abbrev pub part_lines : Part → List ℕ
 part_lines part = flat_map finding_line part.list.items
 
--- that there are more findings, if there are
+-- what is not listed, if there is something
 abbrev pub more_text : Findings → List ℕ
-more_text found = cond (are_whole found.parts.items) [] (codes "::notice title=yamlreview::There is more than is listed.\n")
+more_text found = between_text (codes "::notice title=yamlreview::Not listed: ") (codes "\n") (left_out_of found.parts.items)
 
 -- the commands of all findings in turn
 abbrev pub github_text : Findings → List ℕ

@@ -6,7 +6,8 @@ use Rattle.std.specs.Fmt.{decimal}
 use Rattle.yaml_place.specs.declared.place.Place.{Place}
 use Rattle.review_formats.specs.Changes.{without_tab, changed_lines}
 use Rattle.review_formats.specs.Escaped.{escaped}
-use Rattle.review_formats.specs.Findings.{sign_says, are_whole, count_of}
+use Rattle.review_formats.specs.Findings.{sign_says, left_out_of, count_of}
+use Rattle.review_formats.specs.LeftOut.{between_text}
 use Rattle.review_formats.specs.declared.escape.Escape.TheVariants.{Markdown}
 use Rattle.review_formats.specs.declared.finding.Finding.{Finding}
 use Rattle.review_formats.specs.declared.finding.Findings.{Findings}
@@ -120,9 +121,9 @@ none_text parts = cond (count_of parts == 0) (codes "Nothing is found.\n") []
 abbrev pub head_text : Findings → List ℕ
 head_text found = codes "**yamlreview " ++ (found.command.now ++ (codes "**" ++ (names_text found.names ++ (codes "\n\n" ++ none_text found.parts.items))))
 
--- that there are more findings, if there are
+-- what is not listed, if there is something
 abbrev pub more_text : Findings → List ℕ
-more_text found = cond (are_whole found.parts.items) [] (codes "\nThere is more than is listed.\n")
+more_text found = between_text (codes "\nNot listed: ") (codes "\n") (left_out_of found.parts.items)
 
 -- what was compared, and then each part in turn
 abbrev pub markdown_text : Findings → List ℕ

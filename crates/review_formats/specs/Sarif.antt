@@ -1,17 +1,20 @@
 -- Logs of SARIF 2.1.0. Members of an object stand in the order of their keys.
-use Rattle.std.specs.Prelude.{ℕ, Bool, ◌&&◌, ◌||◌, ◌==◌, nat_le, cond, map, List, [], ◌∷◌, ◌++◌, Option, Some, None, String, codes, string_bytes, bytes_eq}
+use Rattle.std.specs.Prelude.{ℕ, Bool, true, ◌&&◌, ◌||◌, ◌==◌, nat_le, cond, map, List, [], ◌∷◌, ◌++◌, Option, Some, None, String, codes, string_bytes, bytes_eq}
 use Rattle.std.specs.declared.alloc.Global.{Global}
 use Rattle.std.specs.List.{flat_map, list_any}
 use Rattle.percent_encoding.specs.Percent.{percent_encode_byte}
-use Rattle.serde_json.specs.Data.{Data, number, unsigned, string, array, object, item, no_items, member, no_members}
+use Rattle.serde_json.specs.Data.{Data, Members, boolean, number, unsigned, string, array, object, item, no_items, member, no_members}
 use Rattle.serde_json.specs.View.{items_of}
 use Rattle.serde_json.specs.Written.{compact_text}
 use Rattle.yaml_place.specs.declared.place.Place.{Place}
+use Rattle.review_formats.specs.Findings.{left_out_of}
+use Rattle.review_formats.specs.LeftOut.{is_none, left_out_text}
 use Rattle.review_formats.specs.declared.finding.Finding.{Finding}
 use Rattle.review_formats.specs.declared.finding.Findings.{Findings}
 use Rattle.review_formats.specs.declared.finding.Level.{Level}
 use Rattle.review_formats.specs.declared.finding.Level.TheVariants.{Error, Warning, Note}
 use Rattle.review_formats.specs.declared.finding.Part.{Part}
+use Rattle.review_formats.specs.declared.left_out.LeftOut.{LeftOut}
 
 -- ---- where something is found
 
@@ -103,10 +106,26 @@ tool_data parts =
     (object (member (codes "name") (string (codes "yamlreview")) (member (codes "rules") (array (items_of (rules_data parts))) (member (codes "version") (string program_version) no_members))))
     no_members)
 
+-- what the program says of the run: what is not listed
+abbrev pub note_data : LeftOut → Data
+note_data l =
+    object (member (codes "level") (string (codes "note"))
+    (member (codes "message") (object (member (codes "text") (string (codes "Not listed: " ++ left_out_text l)) no_members)) no_members))
+
+abbrev pub invocations_data : LeftOut → Data
+invocations_data l =
+    array (item (object (member (codes "executionSuccessful") (boolean true)
+    (member (codes "toolExecutionNotifications") (array (item (note_data l) no_items)) no_members))) no_items)
+
+-- this member, if something is not listed
+abbrev pub with_invocations : LeftOut → Members → Members
+with_invocations l members = cond (is_none l) members (member (codes "invocations") (invocations_data l) members)
+
 abbrev pub run_data : List Part → Data
 run_data parts =
     object (member (codes "columnKind") (string (codes "unicodeCodePoints"))
-    (member (codes "results") (array (items_of (flat_map part_results parts))) (member (codes "tool") (tool_data parts) no_members)))
+    (with_invocations (left_out_of parts)
+    (member (codes "results") (array (items_of (flat_map part_results parts))) (member (codes "tool") (tool_data parts) no_members))))
 
 abbrev pub log_data : List Part → Data
 log_data parts =

@@ -1,7 +1,8 @@
 //! What is found in files.
 ghost use Rattle.std.specs.Prelude.{◌≡◌};
-ghost use Rattle.review_formats.specs.Findings.{sign_word, sign_mark, sign_says, are_whole, count_of};
+ghost use Rattle.review_formats.specs.Findings.{sign_word, sign_mark, sign_says, differences_in, moves_in, are_whole, left_out_of, count_of};
 
+use crate::left_out::LeftOut;
 use yaml_place::Place;
 
 /// How much something that is found matters.
@@ -104,8 +105,8 @@ pub struct Part {
     pub list: Vec<Finding>,
     /// The lines of both files, if a page shows them.
     pub shown: Option<(Shown, Shown)>,
-    /// Whether all that was found is listed.
-    pub whole: bool,
+    /// What was found and is not listed.
+    pub left_out: LeftOut,
 }
 
 /// What a command found.
@@ -130,10 +131,43 @@ impl Findings {
         count
     }
 
-    /// Whether all that was found is listed.
-    pub fn is_whole(&self) -> bool
+    /// How many differences are not listed.
+    fn differences(&self) -> usize
+        ensures { result ≡ differences_in self.now.parts.items }
+    {
+        let mut differences: usize = 0;
+        'parts: for part in &self.parts {
+            differences = differences.saturating_add(part.left_out.differences);
+        }
+        differences
+    }
+
+    /// How many moves are not.
+    fn moves(&self) -> usize
+        ensures { result ≡ moves_in self.now.parts.items }
+    {
+        let mut moves: usize = 0;
+        'parts: for part in &self.parts {
+            moves = moves.saturating_add(part.left_out.moves);
+        }
+        moves
+    }
+
+    /// Whether all were looked for.
+    fn is_whole(&self) -> bool
         ensures { result ≡ are_whole self.now.parts.items }
     {
-        self.parts.iter().all(|part| part.whole)
+        self.parts.iter().all(|part| part.left_out.whole)
+    }
+
+    /// What was found and is not listed, of all parts.
+    pub fn left_out(&self) -> LeftOut
+        ensures { result ≡ left_out_of self.now.parts.items }
+    {
+        LeftOut {
+            differences: self.differences(),
+            moves: self.moves(),
+            whole: self.is_whole(),
+        }
     }
 }

@@ -141,15 +141,14 @@ fn put_parts(out: &mut String, parts: &[Part]) -> Result<(), Fault>
     Ok(())
 }
 
-/// Writes that there is more, if there is.
+/// Writes what is not listed, if there is something.
 fn put_more(out: &mut String, found: &Findings) -> Result<(), Fault>
     ensures ok { OnOk result (string_bytes out.new ≡ string_bytes out.old ++ more_text found.now) }
     ensures err { IfErr result (λ fault. fault ≡ Fault.OutOfMemory) }
 {
-    if !found.is_whole() {
-        out.push_str("::notice title=yamlreview::There is more than is listed.\n")?;
-    }
-    Ok(())
+    found
+        .left_out()
+        .put_between(out, "::notice title=yamlreview::Not listed: ", "\n")
 }
 
 /// What is found as annotations: a line for each.

@@ -3,9 +3,10 @@ ghost use Rattle.std.specs.Prelude.{◌≡◌, ◌++◌, map, string_bytes, IfOk
 ghost use Rattle.std.specs.List.{flat_map, list_any};
 ghost use Rattle.serde_json.specs.Data.{array};
 ghost use Rattle.serde_json.specs.View.{view, items_of};
-ghost use Rattle.review_formats.specs.Sarif.{uri_text, region_data, artifact_data, physical_data, location_data, level_word, path_front, message_data, result_data, part_results, with_rule, with_findings, rule_data, rules_data, tool_data, run_data, log_data, sarif_text};
+ghost use Rattle.review_formats.specs.Sarif.{uri_text, region_data, artifact_data, physical_data, location_data, level_word, path_front, message_data, result_data, part_results, with_rule, with_findings, rule_data, rules_data, tool_data, invocations_data, run_data, log_data, sarif_text};
 
 use crate::finding::{Finding, Findings, Level, Part};
+use crate::left_out::LeftOut;
 use percent_encoding::{AsciiSet, NON_ALPHANUMERIC, ascii_set, utf8_percent_encode};
 use serde_json::{Map, Value, json, put};
 use std::alloc::Global;
@@ -247,27 +248,46 @@ fn tool_of(alloc: Global, parts: &[Part]) -> Result<Value, Fault>
     Ok(Value::Object(tool))
 }
 
-/// The run with the results of all parts.
-fn run_of(alloc: Global, parts: &[Part]) -> Result<Value, Fault>
-    ensures ok { IfOk result (λ value. view value ≡ run_data parts.now) }
+/// What the program says of the run: what is not listed.
+fn invocations_of(alloc: Global, left_out: LeftOut) -> Result<Value, Fault>
+    ensures ok { IfOk result (λ value. view value ≡ invocations_data left_out) }
+    ensures err { IfErr result (λ fault. fault ≡ Fault.OutOfMemory) }
+{
+    let mut text = String::new(alloc);
+    text.push_str("Not listed: ")?;
+    left_out.put(&mut text)?;
+    Ok(
+        json!(in alloc; [{"executionSuccessful": true, "toolExecutionNotifications": [{"level": "note", "message": {"text": (text.as_str())}}]}])?,
+    )
+}
+
+/// The run with the results of all parts, and what is not listed, if there is something.
+fn run_of(alloc: Global, found: &Findings) -> Result<Value, Fault>
+    ensures ok { IfOk result (λ value. view value ≡ run_data found.now.parts.items) }
     ensures err { IfErr result (λ fault. fault ≡ Fault.OutOfMemory) }
 {
     let mut run = Map::new(alloc);
     let kind = Value::try_from_str(alloc, "unicodeCodePoints")?;
-    put(&mut run, alloc, "tool", tool_of(alloc, parts)?)?;
+    put(&mut run, alloc, "tool", tool_of(alloc, &found.parts)?)?;
     put(&mut run, alloc, "columnKind", kind)?;
-    put(&mut run, alloc, "results", results_of(alloc, parts)?)?;
+    put(&mut run, alloc, "results", results_of(alloc, &found.parts)?)?;
+    let left_out = found.left_out();
+    if left_out.is_none() {
+        return Ok(Value::Object(run));
+    }
+    let invocations = invocations_of(alloc, left_out)?;
+    put(&mut run, alloc, "invocations", invocations)?;
     Ok(Value::Object(run))
 }
 
 /// The log with one run.
-fn log_of(alloc: Global, parts: &[Part]) -> Result<Value, Fault>
-    ensures ok { IfOk result (λ value. view value ≡ log_data parts.now) }
+fn log_of(alloc: Global, found: &Findings) -> Result<Value, Fault>
+    ensures ok { IfOk result (λ value. view value ≡ log_data found.now.parts.items) }
     ensures err { IfErr result (λ fault. fault ≡ Fault.OutOfMemory) }
 {
     let mut log = Map::new(alloc);
     let mut runs = Vec::new(alloc);
-    runs.push(run_of(alloc, parts)?)?;
+    runs.push(run_of(alloc, found)?)?;
     let schema = Value::try_from_str(alloc, SCHEMA)?;
     let version = Value::try_from_str(alloc, "2.1.0")?;
     put(&mut log, alloc, "$schema", schema)?;
@@ -285,7 +305,7 @@ pub fn sarif_text(alloc: Global, found: &Findings) -> Result<String, Fault>
     ensures ok { IfOk result (λ text. string_bytes text ≡ sarif_text found.now) }
     ensures err { IfErr result (λ fault. fault ≡ Fault.OutOfMemory) }
 {
-    let mut text = log_of(alloc, &found.parts)?.to_string(alloc)?;
+    let mut text = log_of(alloc, found)?.to_string(alloc)?;
     text.push('\n')?;
     Ok(text)
 }

@@ -56,9 +56,8 @@ HoldsLimit (Some limit) words = holds (decimal limit) (without_commas words) ≡
 
 -- ---- which place they tell
 
--- They tell the line of some offset of the text, which is not behind the fault.
-pub record TellsLine (text : List ℕ) (at : ℕ) (words : List ℕ) : Type 0 where
-  pub offset : ℕ
+-- They tell the line of this offset of the text, which is not after the fault.
+pub record TellsLine (text : List ℕ) (at offset : ℕ) (words : List ℕ) : Type 0 where
   pub row : ℕ
   pub column : ℕ
   pub before : offset ≤ at
@@ -73,9 +72,8 @@ is_mark byte = (byte == 34) || ((byte == 39) || ((byte == 91) || (byte == 123)))
 abbrev pub name_of : ℕ → List ℕ
 name_of mark = cond (mark == 91) (codes "bracket") (cond (mark == 123) (codes "brace") (codes "quote"))
 
--- They tell a place before the fault at which the text has such a character, and call it by its name.
-pub record TellsOpened (text : List ℕ) (at : ℕ) (words : List ℕ) : Type 0 where
-  pub offset : ℕ
+-- They tell the place of this offset, which is before the fault and at which the text has such a character, and call it by its name.
+pub record TellsOpened (text : List ℕ) (at offset : ℕ) (words : List ℕ) : Type 0 where
   pub mark : ℕ
   pub row : ℕ
   pub column : ℕ
@@ -86,6 +84,7 @@ pub record TellsOpened (text : List ℕ) (at : ℕ) (words : List ℕ) : Type 0 
   pub more : List ℕ
   pub is : words ≡ codes "the " ++ (name_of mark ++ (codes " opened at line " ++ (decimal row ++ (codes ", column " ++ (decimal column ++ (codes " " ++ more))))))
 
--- The words for a fault at this offset of a text tell no place, or one where this is so.
-abbrev pub IsHint : List ℕ → ℕ → List ℕ → Type 0
-IsHint text at words = (is_plain words ≡ true) ⊎ (TellsLine text at words ⊎ TellsOpened text at words)
+-- The words for a fault at this offset of a text tell no place, or that of its cause.
+abbrev pub IsHint : List ℕ → ℕ → Option ℕ → List ℕ → Type 0
+IsHint text at None words = is_plain words ≡ true
+IsHint text at (Some cause) words = TellsLine text at cause words ⊎ TellsOpened text at cause words

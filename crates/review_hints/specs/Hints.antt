@@ -1,5 +1,5 @@
 -- Hints that are not written out yet.
-use Rattle.std.specs.Prelude.{◌≡◌, ◌≤◌, ◌<◌, ◌⊎◌, ℕ, true, slice_get, List, Some, codes}
+use Rattle.std.specs.Prelude.{◌≡◌, ◌≤◌, ◌<◌, ◌⊎◌, ℕ, true, slice_get, List, Option, Some, None, codes}
 use Rattle.std.specs.List.{All}
 use Rattle.review_hints.specs.Hinted.{is_line, is_plain, is_mark}
 use Rattle.review_hints.specs.declared.hints.Hint.{Hint}
@@ -25,6 +25,13 @@ IsTrue text at (hints.Text words) = is_plain words.now ≡ true
 IsTrue text at (hints.Line offset words) = (offset ≤ at) × (is_line words.now ≡ true)
 IsTrue text at (hints.Opened opened words) = IsOpened text at opened × (is_line words.now ≡ true)
 IsTrue text at (hints.Indent what count) = IsIndented what.now
+
+-- the offset whose line or place they tell, if they tell one
+abbrev pub cause_of : Hint → Option ℕ
+cause_of (hints.Text words) = None
+cause_of (hints.Line offset words) = Some offset
+cause_of (hints.Opened opened words) = Some opened.at
+cause_of (hints.Indent what count) = None
 
 -- ---- what a text is scanned to
 

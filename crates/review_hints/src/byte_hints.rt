@@ -19,7 +19,7 @@ pub fn utf8_words(text: &[u8]) -> &'static str
     if is_utf16(text) {
         "this is UTF-16: convert the file by `iconv -f UTF-16 -t UTF-8`"
     } else {
-        "these bytes are not UTF-8: if they are Latin-1, convert the file by `iconv -f LATIN1 -t UTF-8`"
+        "these bytes are not UTF-8: if they are Windows-1252 or Latin-1, convert the file by `iconv -f CP1252 -t UTF-8`"
     }
 }
 
@@ -35,8 +35,34 @@ pub fn printable_words(text: &[u8], at: usize) -> &'static str
             "this is UTF-16: convert the file by `iconv -f UTF-16LE -t UTF-8`"
         }
         [0xEF, 0xBB, 0xBF, ..] =>
-            "a byte order mark past the start is no character of YAML: remove it",
-        _ => "a control character, or a byte order mark past the start, is no character of YAML",
+            "remove this byte order mark: one is allowed only at the start of a file",
+        _ =>
+            "YAML does not allow this character: remove it, or write it as an escape between double quotes, as `\\x1B`",
+    }
+}
+
+/// The number that an escape of so many digits has.
+fn escape_number(text: &str, count: usize) -> Option<u32> {
+    let digits = text.get(2..count.saturating_add(2))?;
+    u32::from_str_radix(digits, 16).ok()
+}
+
+/// Whether an escape of four digits has the number of a second surrogate.
+fn is_low(text: &str) -> bool {
+    text.starts_with("\\u") && matches!(escape_number(text, 4), Some(0xDC00..=0xDFFF))
+}
+
+/// What an escape of four digits is that is no character, or has fewer digits.
+fn short_words(text: &str) -> &'static str
+    ensures { is_plain result.now ≡ true }
+{
+    match escape_number(text, 4) {
+        Some(0xD800..=0xDBFF) if is_low(text.get(6..).unwrap_or("")) =>
+            "a pair of surrogates, as JSON has it: write the character, or one escape for it, as `\\U0001F600`",
+        Some(0xD800..=0xDFFF) =>
+            "half a pair of surrogates is no character: write the character that is meant",
+        _ =>
+            "`\\u` takes four hexadecimal digits: for a backslash write `\\\\`, or put the text between single quotes",
     }
 }
 
@@ -45,15 +71,17 @@ pub fn escape_words(behind: &str) -> &'static str
     ensures { is_plain result.now ≡ true }
 {
     match behind.as_bytes() {
+        [_, b'u', ..] => short_words(behind),
+        [_, b'U', ..] if escape_number(behind, 8).is_some() => {
+            "no character has this number: the last one is `\\U0010FFFF`"
+        }
         [_, b'U', ..] =>
-            "`\\U` has eight hexadecimal digits: a backslash is written `\\\\`, or the text stands between single quotes",
-        [_, b'u', ..] =>
-            "`\\u` has four hexadecimal digits: a backslash is written `\\\\`, or the text stands between single quotes",
+            "`\\U` takes eight hexadecimal digits: for a backslash write `\\\\`, or put the text between single quotes",
         [_, b'x', ..] =>
-            "`\\x` has two hexadecimal digits: a backslash is written `\\\\`, or the text stands between single quotes",
-        [_, b'\'', ..] => "a single quote has no backslash between double quotes: remove it",
+            "`\\x` takes two hexadecimal digits: for a backslash write `\\\\`, or put the text between single quotes",
+        [_, b'\'', ..] => "remove this backslash: between double quotes a single quote needs none",
         _ =>
-            "no escape begins so: a backslash is written `\\\\`, or the text stands between single quotes",
+            "this is no escape: for a backslash write `\\\\`, or put the text between single quotes",
     }
 }
 
@@ -63,15 +91,15 @@ pub fn directive_words(before: &str, behind: &str) -> &'static str
 {
     let line = behind.split('\n').next().unwrap_or("").trim_end();
     if line.starts_with("%YAML 1.1") {
-        "this reader reads YAML 1.2: without this line `yes`, `no`, `on` and `off` are strings, `012` is 12 and `<<` is an ordinary key (`yamlreview warn` shows where)"
+        "remove this line to read the file as YAML 1.2: there `yes`, `no`, `on` and `off` are strings, `012` is 12 and `<<` is an ordinary key (`yamlreview warn` shows where)"
     } else if line.starts_with("%YAML 1.2") && before.contains("%YAML") {
-        "a document has one `%YAML` line at most: remove it"
+        "remove this line: a document has one `%YAML` line at most"
     } else if line.starts_with("%YAML") {
-        "this reader reads YAML 1.2: write `%YAML 1.2`, or remove the line"
+        "write `%YAML 1.2`, or remove the line: other versions are not read"
     } else if line.starts_with("%TAG") && line.split(' ').count() < 3 {
-        "a `%TAG` line has a handle and a prefix, as `%TAG !e! tag:example.com,2000:`"
+        "write a handle and a prefix, as `%TAG !e! tag:example.com,2000:`"
     } else {
-        "a directive is `%YAML 1.2` or `%TAG`, each at most once for a document and a handle"
+        "remove or correct this line: a document has one `%YAML 1.2` at most, and one `%TAG` for a handle"
     }
 }
 
@@ -81,10 +109,16 @@ pub fn tag_words(behind: &str) -> &'static str
 {
     let word = behind.split([' ', '\n']).next().unwrap_or("");
     if word.starts_with("!<") && !word.contains('>') {
-        "the `>` of this tag is missing: a full tag is `!<URI>`"
+        "put a `>` at the end of this tag: a full tag is `!<URI>`"
     } else {
-        "this is no tag: a local one is `!name`, a full one `!<URI>`"
+        "this is no tag: write `!name`, `!!name` or `!<URI>`, or quote a value that starts with `!`"
     }
+}
+
+/// Whether a text is one that people give an anchor as its name.
+pub fn is_name(text: &str) -> bool {
+    let is_other = |c: char| !(c.is_alphanumeric() || c == '_' || c == '-');
+    !text.is_empty() && !text.starts_with('-') && !text.contains(is_other)
 }
 
 /// What an alias is that names nothing.
@@ -95,12 +129,9 @@ pub fn alias_words(behind: &str) -> &'static str
         .split([' ', '\n', ',', ']', '}'])
         .next()
         .unwrap_or("");
-    let rest = name.trim_start_matches('*');
-    if rest.contains(|c: char| !(c.is_alphanumeric() || c == '_' || c == '-'))
-        || name.starts_with("**")
-    {
-        "quote a value that starts with `*`; as an alias it names no node before it"
+    if !is_name(name.strip_prefix('*').unwrap_or("")) {
+        "quote a value that starts with `*`: as an alias it names no anchor before it"
     } else {
-        "no node before this one in its document has an anchor of this name"
+        "no anchor of this name comes before it in its document: define it first, or quote the value"
     }
 }

@@ -9,6 +9,7 @@ use crate::node_hints::node_hint;
 use crate::open_hints::open_hint;
 use crate::scan::Opened;
 use crate::spot::Spot;
+use crate::words::Words;
 use std::alloc::Global;
 use yaml_place::{Place, place_at};
 use yaml_text::fault::Fault;
@@ -51,13 +52,24 @@ fn place_in(text: &str, at: usize) -> Place
 impl Hint {
     ghost use Rattle.std.specs.Prelude.{◌≡◌, ◌≤◌, ℕ, true, length, IfOk, IfErr, string_bytes};
     ghost use Rattle.review_hints.specs.Hinted.{is_line, IsHint};
-    ghost use Rattle.review_hints.specs.Hints.{IsTrue};
+    ghost use Rattle.review_hints.specs.Hints.{cause_of, IsTrue};
+
+    /// The offset whose line or place the words tell, if they tell one.
+    fn cause(self) -> Option<usize>
+        ensures { result ≡ cause_of self }
+    {
+        match self {
+            Hint::Line(at, _) => Some(at),
+            Hint::Opened(opened, _) => Some(opened.at),
+            Hint::Text(_) | Hint::Indent(_, _) => None,
+        }
+    }
 
     /// The hint as a text.
     fn words(self, alloc: Global, text: &str) -> Result<String, Fault>
         requires { (at : ℕ) × IsTrue text.now at self }
         ensures line { IfOk result (λ words. is_line (string_bytes words) ≡ true) }
-        ensures hint { (at : ℕ) → at ≤ length text.now → IsTrue text.now at self → IfOk result (λ words. IsHint text.now at (string_bytes words)) }
+        ensures hint { (at : ℕ) → at ≤ length text.now → IsTrue text.now at self → IfOk result (λ words. IsHint text.now at (cause_of self) (string_bytes words)) }
         ensures err { IfErr result (λ fault. fault ≡ Fault.OutOfMemory) }
     {
         match self {
@@ -98,11 +110,15 @@ fn hint_of(spot: &Spot<'_>) -> Hint
 ///
 /// # Errors
 /// `OutOfMemory`
-pub fn syntax_words(alloc: Global, text: &str, at: usize) -> Result<String, Fault>
-    ensures line { IfOk result (λ words. is_line (string_bytes words) ≡ true) }
-    ensures hint { at ≤ length text.now → IfOk result (λ words. IsHint text.now at (string_bytes words)) }
+pub fn syntax_words(alloc: Global, text: &str, at: usize) -> Result<Words, Fault>
+    ensures line { IfOk result (λ words. is_line (string_bytes words.text) ≡ true) }
+    ensures hint { at ≤ length text.now → IfOk result (λ words. IsHint text.now at words.cause (string_bytes words.text)) }
     ensures err { IfErr result (λ fault. fault ≡ Fault.OutOfMemory) }
 {
     let spot = Spot::new(alloc, text, at)?;
-    hint_of(&spot).words(alloc, text)
+    let hint = hint_of(&spot);
+    Ok(Words {
+        text: hint.words(alloc, text)?,
+        cause: hint.cause(),
+    })
 }

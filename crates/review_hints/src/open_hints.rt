@@ -1,12 +1,14 @@
 //! Causes of syntax faults inside quotes, brackets and braces.
-ghost use Rattle.std.specs.Prelude.{ℕ, List, IfSome};
+ghost use Rattle.std.specs.Prelude.{◌≡◌, true, ℕ, List, IfSome};
+ghost use Rattle.review_hints.specs.Hinted.{is_plain};
 ghost use Rattle.review_hints.specs.Hints.{IsOpened, IsScanned, IsTrue};
 
 use crate::hints::Hint;
+use crate::quote_hints::quote_words;
 use crate::scan::Opened;
-use crate::spot::{Spot, is_entry, uncommented};
+use crate::spot::{Spot, is_assigned, is_entry, uncommented};
 
-const FLOW_LINE: &str = "a line of a flow collection stands deeper than its parent";
+const FLOW_LINE: &str = "indent this line more than the key or the item of its bracket or brace";
 
 /// What a fault inside a quoted scalar or a flow collection is.
 pub fn open_hint(spot: &Spot<'_>) -> Option<Hint>
@@ -76,21 +78,45 @@ fn flow_line_hint(spot: &Spot<'_>, bracket: Opened) -> Hint
 fn flow_hint(spot: &Spot<'_>, bracket: Opened) -> Option<Hint>
     ensures { (text : List ℕ) → IsOpened text spot.now.at bracket → IfSome result (IsTrue text spot.now.at) }
 {
-    let before = spot.before.trim_end();
+    if let Some(words) = quote_words(spot) {
+        return Some(Hint::Text(words));
+    }
     match spot.next() {
-        Some(',') if before.ends_with([',', '[', '{']) => {
-            Some(Hint::Text("a comma comes after an item or an entry: remove it"))
-        }
         Some(']') if bracket.mark == b'{' => Some(Hint::Opened(bracket, "is closed by a bracket")),
         Some('}') if bracket.mark == b'[' => Some(Hint::Opened(bracket, "is closed by a brace")),
-        Some(':') if bracket.mark == b'{' && is_second(before) => {
-            Some(Hint::Text("a comma is missing before this entry"))
+        Some(')') => Some(Hint::Opened(bracket, "is closed by a parenthesis")),
+        Some(next) => {
+            let words = flow_words(spot, spot.before.trim_end(), next)?;
+            Some(Hint::Text(words))
         }
-        Some('&' | '*' | '!' | '@' | '`' | '%' | '\t' | '#' | ':' | '|' | '>' | '-') => None,
-        _ if before.ends_with(['"', '\'', ']', '}']) => Some(Hint::Text(
-            "a comma is missing before it",
-        )),
-        _ => None,
+        None => None,
+    }
+}
+
+/// The words for such a character, after what is before it without blanks.
+fn flow_words(spot: &Spot<'_>, before: &str, next: char) -> Option<&'static str>
+    ensures { IfSome result (λ words. is_plain words.now ≡ true) }
+{
+    let word = before
+        .rsplit([' ', '\n', ',', '[', '{'])
+        .next()
+        .unwrap_or("");
+    match next {
+        _ if word == "*" => Some("an alias needs a name: quote `*`"),
+        ',' if word.is_empty() => Some("remove this comma: there is no item or entry before it"),
+        ',' | ']' | '}' => Some("quote the text before this"),
+        ':' if is_second(before) => Some("a comma is missing before this entry"),
+        '\t' | '#' | ':' | '@' | '`' | '%' => None,
+        '=' if is_assigned(spot.rest) => Some("write `: ` between a key and its value"),
+        _ if before.ends_with(['"', '\'', ']', '}']) || word.starts_with('*') => {
+            Some("a comma is missing here")
+        }
+        '-' if spot.rest.starts_with("- ") => {
+            Some("remove this dash: items in brackets have commas between them")
+        }
+        '-' => Some("quote this dash"),
+        '|' | '>' => Some("quote this text: a block scalar cannot be in brackets or braces"),
+        _ => Some("nothing is allowed here: a quote, a comma or a line break is missing before it"),
     }
 }
 

@@ -16,7 +16,7 @@ pub struct Spot<'a> {
     pub line: &'a str,
     pub rest: &'a str,
     pub whole: &'a str,
-    /// The last line above that is not blank, and the offset at which it starts.
+    /// The last line above that is not blank, and the offset of the first character there that is no space.
     pub above: &'a str,
     pub above_at: usize,
     pub scan: Scan,
@@ -64,16 +64,37 @@ impl<'a> Spot<'a> {
         self.behind.chars().next()
     }
 
-    /// Where the line of the offset starts.
+    /// The offset of the first character that is no space on the line of the offset, or the offset.
     pub fn start(&self) -> usize
         ensures { result ≤ self.now.at }
     {
-        self.at.saturating_sub(self.line.len())
+        let text = self.line.trim_start_matches(' ');
+        self.at.saturating_sub(text.len())
     }
 
     /// The text before the offset on its line, from the start of its value on.
     pub fn value(&self) -> &'a str {
         value_of(self.line)
+    }
+
+    /// The lines above the line of the offset.
+    fn lines_above(&self) -> &'a str {
+        self.before
+            .get(..self.before.len().saturating_sub(self.line.len()))
+            .unwrap_or("")
+    }
+
+    /// The last line above that is indented at most like the line of the offset.
+    pub fn host(&self) -> &'a str {
+        last_within(self.lines_above(), indent_of(self.whole))
+    }
+
+    /// The last line above that is indented less than the line of the offset.
+    pub fn parent(&self) -> &'a str {
+        match indent_of(self.whole) {
+            0 => "",
+            indent => last_within(self.lines_above(), indent.saturating_sub(1)),
+        }
     }
 
     /// Whether a document marker is at the offset.
@@ -89,7 +110,7 @@ fn front(text: &str, len: usize) -> &str
     text.get(..len).unwrap_or("")
 }
 
-/// The last line that is not blank, and the offset at which it starts.
+/// The last line that is not blank, and the offset of the first character there that is no space.
 fn line_above(text: &str) -> (usize, &str)
     ensures { result.0 ≤ length text.now }
 {
@@ -97,11 +118,23 @@ fn line_above(text: &str) -> (usize, &str)
     for line in text.rsplit('\n') {
         let start = end.saturating_sub(line.len());
         if !line.trim().is_empty() {
-            return (start, line.trim_end());
+            let first = start.saturating_add(indent_of(line)).min(end);
+            return (first, line.trim_end());
         }
         end = start.saturating_sub(1);
     }
     (0, "")
+}
+
+/// The last line that is indented by so many spaces at most, comments left out.
+pub fn last_within(text: &str, indent: usize) -> &str {
+    for line in text.rsplit('\n') {
+        let words = line.trim();
+        if !words.is_empty() && !words.starts_with('#') && indent_of(line) <= indent {
+            return line;
+        }
+    }
+    ""
 }
 
 /// A line without its indentation, its dashes and its first key.
@@ -134,6 +167,11 @@ pub fn is_entry(line: &str) -> bool {
 /// A line without the comment after a space, if there is one.
 pub fn uncommented(line: &str) -> &str {
     line.split(" #").next().unwrap_or(line).trim()
+}
+
+/// Whether a text begins with a sign of assignment, as in another language.
+pub fn is_assigned(text: &str) -> bool {
+    text.starts_with("= ") || text.starts_with("=> ")
 }
 
 /// Whether a line ends with the header of a block scalar.

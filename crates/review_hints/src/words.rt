@@ -11,6 +11,14 @@ use std::alloc::Global;
 use std::str;
 use yaml_text::fault::Fault;
 
+/// What is said of a fault.
+#[derive(Drop)]
+pub struct Words {
+    pub text: String,
+    /// The offset of the cause, if the text tells its line or its place.
+    pub cause: Option<usize>,
+}
+
 /// The bytes as a text, or none.
 fn source_of(text: &[u8]) -> &str
     ensures { IsUtf8 text.now → result.now ≡ text.now }
@@ -25,17 +33,21 @@ fn source_of(text: &[u8]) -> &str
 ///
 /// # Errors
 /// `OutOfMemory`
-pub fn words_of(alloc: Global, fault: Fault, text: &[u8], at: usize) -> Result<String, Fault>
-    ensures line { IfOk result (λ words. is_line (string_bytes words) ≡ true) }
-    ensures limit { IfOk result (λ words. HoldsLimit (limit_of fault) (string_bytes words)) }
-    ensures hint { IfOk result (λ words. IsUtf8 text.now → at ≤ length text.now → IsHint text.now at (string_bytes words)) }
+pub fn words_of(alloc: Global, fault: Fault, text: &[u8], at: usize) -> Result<Words, Fault>
+    ensures line { IfOk result (λ words. is_line (string_bytes words.text) ≡ true) }
+    ensures limit { IfOk result (λ words. HoldsLimit (limit_of fault) (string_bytes words.text)) }
+    ensures hint { IfOk result (λ words. IsUtf8 text.now → at ≤ length text.now → IsHint text.now at words.cause (string_bytes words.text)) }
     ensures err { IfErr result (λ fault. fault ≡ Fault.OutOfMemory) }
 {
     let source = source_of(text);
     if let Fault::Syntax(_) = fault {
         return syntax_words(alloc, source, at);
     }
-    Ok(plain_words(fault, text, at, source).to_string(alloc)?)
+    let words = plain_words(fault, text, at, source);
+    Ok(Words {
+        text: words.to_string(alloc)?,
+        cause: None,
+    })
 }
 
 /// What a fault is that has no hint of its own number or place.
@@ -48,25 +60,27 @@ fn plain_words(fault: Fault, text: &[u8], at: usize, source: &str) -> &'static s
         Fault::TooLong => "an input has at most 67,108,864 bytes",
         Fault::NotUtf8(_) => utf8_words(text),
         Fault::NotPrintable(_) => printable_words(text, at),
-        Fault::Syntax(_) => "no production of YAML goes on here",
-        Fault::Tab(_) => "indentation and separation are spaces, and this is a tab",
-        Fault::KeyTooLong(_) => "a key on its value's line has at most 1,024 characters",
-        Fault::TooDeep(_) => "collections nest at most 1,024 deep",
+        Fault::Syntax(_) => "YAML allows nothing here",
+        Fault::Tab(_) => "this is a tab: use spaces for indentation and separation",
+        Fault::KeyTooLong(_) => "shorten this key: it has at most 1,024 characters before its `:`",
+        Fault::TooDeep(_) => "nest less: collections are at most 1,024 deep",
         Fault::BadEscape(_) => escape_words(behind),
         Fault::BadDirective(_) => directive_words(source.get(..at).unwrap_or(""), behind),
-        Fault::UnknownHandle(_) => "no `%TAG` line of this document binds this tag's handle",
+        Fault::UnknownHandle(_) =>
+            "add a `%TAG` line for the handle of this tag to its document, or write the tag in full, as `!<URI>`",
         Fault::BadTag(_) => tag_words(behind),
         Fault::UndefinedAlias(_) => alias_words(behind),
-        Fault::CyclicAlias(_) => "an alias cannot stand inside the node that it names",
-        Fault::WrongKind(_) => "this tag is for another kind of node",
-        Fault::BadContent(_) => "this text is none of its tag",
-        Fault::IntRange(_) => "an int is between -2^127 and 2^127 - 1",
-        Fault::FloatRange(_) => "a float's exponent is between -1,000,000 and 1,000,000",
+        Fault::CyclicAlias(_) => "remove this alias: it is inside the node that it names",
+        Fault::WrongKind(_) => "remove this tag: it is for another kind of node",
+        Fault::BadContent(_) => "remove this tag, or correct the text: the tag does not allow it",
+        Fault::IntRange(_) => "quote it if it is no number: an int is between -2^127 and 2^127 - 1",
+        Fault::FloatRange(_) =>
+            "quote it if it is no number: a float's exponent is between -1,000,000 and 1,000,000",
         Fault::TooHigh(_) =>
-            "with its aliases in place the document is more than 1,023 levels high",
-        Fault::EqualKeys(_, _, _) => "the keys of a mapping differ, each from each",
+            "nest less: with its aliases replaced the document has more than 1,023 levels",
+        Fault::EqualKeys(_, _, _) => "a key stands twice in a mapping",
         Fault::TextTooLong => "the canonical text would have more than 67,108,864 bytes",
-        Fault::OutOfMemory => "memory was refused",
+        Fault::OutOfMemory => "there is not enough memory",
         Fault::ReadFault => "the file could not be read",
         Fault::WriteFault => "the output could not be written",
     }

@@ -4,7 +4,8 @@ use Rattle.std.specs.declared.alloc.Global.{Global}
 use Rattle.std.specs.List.{flat_map, enumerate_from}
 use Rattle.std.specs.Fmt.{decimal}
 use Rattle.review_formats.specs.Escaped.{escaped}
-use Rattle.review_formats.specs.Findings.{are_whole, count_of}
+use Rattle.review_formats.specs.Findings.{left_out_of, count_of}
+use Rattle.review_formats.specs.LeftOut.{between_text}
 use Rattle.review_formats.specs.declared.escape.Escape.TheVariants.{Html}
 use Rattle.review_formats.specs.declared.finding.Finding.{Finding}
 use Rattle.review_formats.specs.declared.finding.Findings.{Findings}
@@ -51,8 +52,9 @@ abbrev pub count_text : ℕ → ℕ → List ℕ
 count_text zero files = places_text 0
 count_text (suc n) files = places_text (suc n) ++ (files_text files ++ codes ".</p>")
 
+-- what is not listed, if there is something
 abbrev pub more_text : List Part → List ℕ
-more_text parts = cond (are_whole parts) [] (codes "<p><strong>There is more than is listed.</strong></p>")
+more_text parts = between_text (codes "<p><strong>Not listed: ") (codes "</strong></p>") (left_out_of parts)
 
 abbrev pub header_text : Findings → List ℕ
 header_text found =

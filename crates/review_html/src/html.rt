@@ -130,15 +130,14 @@ fn put_count(out: &mut String, count: usize, files: usize) -> Result<(), Fault>
     Ok(())
 }
 
-/// Writes that there is more, if there is.
+/// Writes what is not listed, if there is something.
 fn put_more(out: &mut String, found: &Findings) -> Result<(), Fault>
     ensures ok { OnOk result (string_bytes out.new ≡ string_bytes out.old ++ more_text found.now.parts.items) }
     ensures err { IfErr result (λ fault. fault ≡ Fault.OutOfMemory) }
 {
-    if !found.is_whole() {
-        out.push_str("<p><strong>There is more than is listed.</strong></p>")?;
-    }
-    Ok(())
+    found
+        .left_out()
+        .put_between(out, "<p><strong>Not listed: ", "</strong></p>")
 }
 
 /// Writes what the page is about, and how much is found.

@@ -1,9 +1,13 @@
--- The differences that are left where some are left out because of their paths.
-use Rattle.std.specs.Prelude.{◌≡◌, ℕ, Bool, ◌&&◌, nat_le, cond, take, length, map, List, [], ◌∷◌}
+-- The differences and moves that are left where some are left out because of their paths.
+use Rattle.std.specs.Prelude.{◌≡◌, ℕ, Bool, not, ◌||◌, map, List, [], ◌∷◌}
+use Rattle.std.specs.List.{filter}
 use Rattle.yaml_graph.specs.declared.graph.Graph.{Graph}
 use Rattle.yaml_path.specs.Ways.{Way}
 use Rattle.yaml_diff.specs.Lines.{way_of}
 use Rattle.yaml_diff.specs.declared.difference.Difference.{Difference}
+use Rattle.yaml_diff.specs.declared.difference.Move.{Move}
+use Rattle.yaml_diff.specs.declared.difference.Step as code
+use Rattle.yaml_diff.specs.declared.difference.Step.TheVariants.{Item}
 use Rattle.yaml_diff.specs.declared.difference.Found.{Found}
 use Rattle.review_text.specs.Hidden.{visible}
 use Rattle.review_text.specs.PathText.{first_text, step_text}
@@ -15,17 +19,27 @@ abbrev pub texts_of : Way → List (List ℕ)
 texts_of [] = []
 texts_of (s ∷ w) = visible (first_text s) ∷ map (λ t. visible (step_text t)) w
 
--- the difference is at or below a path that one of the patterns matches
-abbrev pub is_ignored : Graph → List Pattern → Difference → Bool
-is_ignored g patterns d = is_covered patterns (texts_of (way_of g d.path.items))
+-- the path, whose last step is the first here, is at or below one that a pattern matches
+abbrev pub is_ignored : Graph → List Pattern → List code.Step → Bool
+is_ignored g patterns path = is_covered patterns (texts_of (way_of g path))
 
--- the others, in their order
+-- the path to the items of a move
+abbrev pub item_path : Move → List code.Step
+item_path m = Item m.places ∷ m.path.items
+
+-- a pattern matches each document
+abbrev pub covers_all : List Pattern → Bool
+covers_all patterns = is_covered patterns ([] ∷ [])
+
+-- the differences and the moves that are left, in their order
 abbrev pub outside : Graph → List Pattern → List Difference → List Difference
-outside g patterns [] = []
-outside g patterns (d ∷ ds) = cond (is_ignored g patterns d) (outside g patterns ds) (d ∷ outside g patterns ds)
+outside g patterns ds = filter (λ d. not (is_ignored g patterns d.path.items)) ds
 
--- Of the differences that were found, as many of the others as there is room for. They are told to be all only if all were found, and there is room for all others. Moves are kept.
-pub record Keeps (g : Graph) (patterns : List Pattern) (room : ℕ) (found kept : Found) : Type 0 where
-  pub list : kept.list.items ≡ take room (outside g patterns found.list.items)
-  pub moves : kept.moves ≡ found.moves
-  pub whole : kept.whole ≡ (found.whole && nat_le (length (outside g patterns found.list.items)) room)
+abbrev pub moves_outside : Graph → List Pattern → List Move → List Move
+moves_outside g patterns ms = filter (λ m. not (is_ignored g patterns (item_path m))) ms
+
+-- Of the differences and moves that were found, those that are not at or below a path that a pattern matches. They are all if all were found, and none is left if a pattern matches each document.
+pub record Keeps (g : Graph) (patterns : List Pattern) (found kept : Found) : Type 0 where
+  pub list : kept.list.items ≡ outside g patterns found.list.items
+  pub moves : kept.moves.items ≡ moves_outside g patterns found.moves.items
+  pub whole : kept.whole ≡ (covers_all patterns || found.whole)

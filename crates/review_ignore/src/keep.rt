@@ -1,53 +1,116 @@
-//! The differences that no pattern covers.
-ghost use Rattle.std.specs.Prelude.{◌≡◌, ◌++◌, ◌∷◌, ◌&&◌, ◌≤◌, [], take, length, nat_lt, OnOk, IfOk, IfErr};
+//! The differences and moves that no pattern covers.
+ghost use Rattle.std.specs.Prelude.{◌≡◌, ◌∷◌, ◌||◌, [], IfOk, IfErr};
+ghost use Rattle.yaml_diff.specs.declared.difference.Step.TheVariants.{Item};
 ghost use Rattle.yaml_rank.specs.RanksView.{RanksAre};
-ghost use Rattle.review_ignore.specs.Ignored.{is_ignored, Keeps};
+ghost use Rattle.review_ignore.specs.Ignored.{is_ignored, item_path, covers_all, outside, moves_outside, Keeps};
 
 use crate::steps::step_texts;
 use review_patterns::Pattern;
 use review_patterns::pattern::is_covered;
 use review_text::both::Both;
 use std::alloc::Global;
-use yaml_diff::{Difference, Found};
+use yaml_diff::{Difference, Found, Move, Step};
 use yaml_text::fault::Fault;
 
-/// Whether a difference is at or below a path that one of the patterns matches.
+/// Whether a path is at or below one that one of the patterns matches.
 #[tactic(auto, using(crate::proofs::KeptLaws::none_ignored))]
 fn is_ignored(
     alloc: Global,
     both: &Both<'_>,
     patterns: &[Pattern<'_>],
-    difference: &Difference,
+    path: &[Step],
 ) -> Result<bool, Fault>
     requires ranked { RanksAre both.now.graph both.now.ranks }
-    ensures ok { IfOk result (λ answer. answer ≡ is_ignored both.now.graph patterns.now difference.now) }
+    ensures ok { IfOk result (λ answer. answer ≡ is_ignored both.now.graph patterns.now path.now) }
     ensures err { IfErr result (λ fault. fault ≡ Fault.OutOfMemory) }
 {
     if patterns.is_empty() {
         return Ok(false);
     }
-    let texts = step_texts(alloc, both, &difference.path)?;
+    let texts = step_texts(alloc, both, path)?;
     Ok(is_covered(patterns, &texts))
 }
 
-/// Adds a difference, if there is room for it; if not, the list is not whole.
-fn add(kept: &mut Found, difference: Difference, room: usize) -> Result<(), Fault>
-    requires few { length kept.old.list.items ≤ room }
-    ensures list { OnOk result (kept.new.list.items ≡ take room (kept.old.list.items ++ (difference ∷ []))) }
-    ensures moves { OnOk result (kept.new.moves ≡ kept.old.moves) }
-    ensures whole { OnOk result (kept.new.whole ≡ (kept.old.whole && nat_lt (length kept.old.list.items) room)) }
+/// The path to the items of a move, the last step first.
+pub fn item_path(alloc: Global, one: &Move) -> Result<Vec<Step>, Fault>
+    ensures ok { IfOk result (λ path. path.items ≡ item_path one.now) }
     ensures err { IfErr result (λ fault. fault ≡ Fault.OutOfMemory) }
 {
-    if kept.list.len() < room {
-        kept.list.push(difference)?;
-    } else {
-        kept.whole = false;
+    let mut path = Vec::new(alloc);
+    path.push(Step::Item(one.places))?;
+    for step in &one.path {
+        path.push(*step)?;
     }
-    Ok(())
+    Ok(path)
 }
 
-/// Of differences that were found, those that are not at or below a path that one of the patterns matches, at most so many, and all
-/// moves.
+/// Whether the items of a move are at or below such a path.
+fn is_move_ignored(
+    alloc: Global,
+    both: &Both<'_>,
+    patterns: &[Pattern<'_>],
+    one: &Move,
+) -> Result<bool, Fault>
+    requires ranked { RanksAre both.now.graph both.now.ranks }
+    ensures ok { IfOk result (λ answer. answer ≡ is_ignored both.now.graph patterns.now (item_path one.now)) }
+    ensures err { IfErr result (λ fault. fault ≡ Fault.OutOfMemory) }
+{
+    let path = item_path(alloc, one)?;
+    is_ignored(alloc, both, patterns, &path)
+}
+
+/// Whether one of the patterns matches each document.
+fn covers_all(alloc: Global, patterns: &[Pattern<'_>]) -> Result<bool, Fault>
+    ensures ok { IfOk result (λ answer. answer ≡ covers_all patterns.now) }
+    ensures err { IfErr result (λ fault. fault ≡ Fault.OutOfMemory) }
+{
+    let mut document = Vec::new(alloc);
+    document.push(String::new(alloc))?;
+    Ok(is_covered(patterns, &document))
+}
+
+/// The differences that are not at or below a path that one of the patterns matches.
+fn differences_outside(
+    alloc: Global,
+    both: &Both<'_>,
+    patterns: &[Pattern<'_>],
+    list: Vec<Difference>,
+) -> Result<Vec<Difference>, Fault>
+    requires ranked { RanksAre both.now.graph both.now.ranks }
+    ensures ok { IfOk result (λ kept. kept.items ≡ outside both.now.graph patterns.now list.items) }
+    ensures err { IfErr result (λ fault. fault ≡ Fault.OutOfMemory) }
+{
+    let mut kept = Vec::new(alloc);
+    for difference in list {
+        if !is_ignored(alloc, both, patterns, &difference.path)? {
+            kept.push(difference)?;
+        }
+    }
+    Ok(kept)
+}
+
+/// The moves whose items are not.
+fn moves_outside(
+    alloc: Global,
+    both: &Both<'_>,
+    patterns: &[Pattern<'_>],
+    moves: Vec<Move>,
+) -> Result<Vec<Move>, Fault>
+    requires ranked { RanksAre both.now.graph both.now.ranks }
+    ensures ok { IfOk result (λ kept. kept.items ≡ moves_outside both.now.graph patterns.now moves.items) }
+    ensures err { IfErr result (λ fault. fault ≡ Fault.OutOfMemory) }
+{
+    let mut kept = Vec::new(alloc);
+    for one in moves {
+        if !is_move_ignored(alloc, both, patterns, &one)? {
+            kept.push(one)?;
+        }
+    }
+    Ok(kept)
+}
+
+/// Of differences and moves that were found, those that are not at or below a path that one of the patterns matches. They are all if all
+/// were found, or if a pattern matches each document.
 ///
 /// # Errors
 /// `OutOfMemory`
@@ -56,22 +119,15 @@ pub fn kept(
     both: &Both<'_>,
     patterns: &[Pattern<'_>],
     found: Found,
-    room: usize,
 ) -> Result<Found, Fault>
     requires ranked { RanksAre both.now.graph both.now.ranks }
-    ensures ok { IfOk result (Keeps both.now.graph patterns.now room found) }
+    ensures ok { IfOk result (Keeps both.now.graph patterns.now found) }
     ensures err { IfErr result (λ fault. fault ≡ Fault.OutOfMemory) }
 {
     let Found { list, moves, whole } = found;
-    let mut kept = Found {
-        list: Vec::new(alloc),
-        moves,
-        whole,
-    };
-    for difference in list {
-        if !is_ignored(alloc, both, patterns, &difference)? {
-            add(&mut kept, difference, room)?;
-        }
-    }
-    Ok(kept)
+    Ok(Found {
+        list: differences_outside(alloc, both, patterns, list)?,
+        moves: moves_outside(alloc, both, patterns, moves)?,
+        whole: covers_all(alloc, patterns)? || whole,
+    })
 }

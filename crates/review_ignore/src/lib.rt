@@ -1,7 +1,7 @@
-//! Which differences are left out because of their paths.
+//! Which differences and moves are left out because of their paths.
 #![tactic(auto)]
 
 pub mod keep;
 mod steps;
 
-pub use keep::kept;
+pub use keep::{item_path, kept};

@@ -1,52 +1,128 @@
 -- The lines of the differences that were found.
-use Rattle.std.proofs.Common.{◌≡◌, ℕ, zero, suc, ◌+◌, ◌<◌, ◌≤◌, ◌==◌, ◌&&◌, Bool, true, false, cond, nat_le, List, [], ◌∷◌, ◌++◌, length, map, take, drop, get_or, refl, sym, ◌∙◌, ap, subst, arith, add-one, drop-cons, max}
+use Rattle.std.proofs.Common.{◌≡◌, ℕ, zero, suc, ◌+◌, ◌-◌, ◌<◌, ◌≤◌, ◌==◌, ◌&&◌, ◌||◌, Bool, true, false, cond, List, [], ◌∷◌, ◌++◌, length, take, drop, get_or, refl, sym, ◌∙◌, ap, subst, arith, add-one, drop-cons, max}
 use Rattle.std.proofs.Math.ListN.{drop_of_length-le}
-use Rattle.std.proofs.lemmas.Bool.{eqb-true}
-use Rattle.std.proofs.lemmas.List.{append_assoc, append-nil, map-append}
+use Rattle.std.specs.List.{sum_by}
+use Rattle.std.proofs.lemmas.List.{append_assoc, append-nil}
 use Rattle.yaml_diff.specs.declared.difference.Difference.{Difference}
 use Rattle.review_args.specs.declared.words.Diff.{Diff}
 use Rattle.review_text.specs.declared.both.Both.{Both}
-use Rattle.review_lines.specs.Lines.{line_text, lines_text, more_text}
+use Rattle.review_formats.specs.declared.left_out.LeftOut.{LeftOut}
+use Rattle.review_lines.specs.Lines.{line_text, lines_text, rest_text}
+use Rattle.review_lines.specs.Listed.{ListsFound}
+use Rattle.review_lines.specs.declared.listed.Listed.{Listed}
 use Rattle.review_lines.specs.declared.lines.Line.{Line}
 use Rattle.yaml_diff.specs.declared.difference.Found.{Found}
 use Rattle.yaml_diff.specs.declared.difference.Move.{Move}
 use Rattle.review_folds.specs.Moves.{Groups}
 use Rattle.review_folds.specs.declared.moves.Group.{Group}
-use Rattle.review_lines.specs.Listed.{ListsFound}
-use Rattle.review_lines.specs.declared.listed.Listed.{Listed}
 use Rattle.std.proofs.lemmas.List.{take_more, take_all}
 use Rattle.yaml_graph.specs.declared.graph.Graph.{Graph}
 use Rattle.review_patterns.specs.declared.pattern.Pattern.{Pattern}
-use Rattle.review_ignore.specs.Ignored.{Keeps}
-use Rattle.review_ignore.proofs.KeptLaws.{outside_none}
+use Rattle.review_ignore.specs.Ignored.{covers_all, Keeps}
+use Rattle.review_ignore.proofs.KeptLaws.{outside_none, moves_none}
 use Rattle.review_folds.specs.Folds.{Folds}
-use Rattle.review_lines.specs.Searched.{room_for, search_room}
-use Rattle.review_lines.specs.Compared.{folds_moves, is_line, is_plain, moves_room, TellsOne, TellsEach, TellsGroup, TellsGroups, TellsMoves, TellsFound, TellsAsked}
+use Rattle.review_lines.specs.Searched.{least_room, search_room}
+use Rattle.review_lines.specs.Compared.{is_line, is_plain, with_lines, left_out_of, TellsOne, TellsEach, TellsDifferences, TellsGroup, TellsGroups, TellsMoves, TellsFound, TellsAsked}
+
+-- ---- lines of differences
 
 -- one difference and its line more
-pub tells_more : (both : Both) (asked : Diff) (ds : List Difference) (ls : List Line) (d : Difference) (l : Line) → TellsEach both asked ds ls → TellsOne both asked d l → TellsEach both asked (ds ++ (d ∷ [])) (ls ++ (l ∷ []))
-tells_more both asked [] [] d l h k = (k, tt)
-tells_more both asked [] (m ∷ ls) d l h k = absurd h
-tells_more both asked (e ∷ ds) [] d l h k = absurd h
-tells_more both asked (e ∷ ds) (m ∷ ls) d l h k = (h.0, tells_more both asked ds ls d l h.1 k)
+tells_more : (both : Both) (asked : Diff) (ds : List (Difference × ℕ)) (ls : List Line) (d : Difference × ℕ) (l : Line) → TellsEach both asked ds ls → TellsOne both asked d.0 l → l.count ≡ d.1 → TellsEach both asked (ds ++ (d ∷ [])) (ls ++ (l ∷ []))
+tells_more both asked [] [] d l h k n = ((k, n), tt)
+tells_more both asked [] (m ∷ ls) d l h k n = absurd h
+tells_more both asked (e ∷ ds) [] d l h k n = absurd h
+tells_more both asked (e ∷ ds) (m ∷ ls) d l h k n = (h.0, tells_more both asked ds ls d l h.1 k n)
 
-pub tells_next : (both : Both) (asked : Diff) (ds : List Difference) (ls new : List Line) (i : ℕ) (d e : Difference) (l : Line) → i < length ds → e ≡ get_or ds i d → TellsEach both asked (take i ds) ls → TellsOne both asked e l → new ≡ ls ++ (l ∷ []) → TellsEach both asked (take (i + 1) ds) new
-tells_next both asked ds ls new i d e l m q h k p =
-    subst (λ z. TellsEach both asked z new) (sym (take_more ds i d m)) (subst (TellsEach both asked (take i ds ++ (get_or ds i d ∷ []))) (sym p) (tells_more both asked (take i ds) ls (get_or ds i d) l h (subst (λ z. TellsOne both asked z l) q k)))
+tells_level : (both : Both) (asked : Diff) (ds : List (Difference × ℕ)) (ls : List Line) → TellsEach both asked ds ls → length ds ≡ length ls
+tells_level both asked [] [] h = refl
+tells_level both asked [] (m ∷ ls) h = absurd h
+tells_level both asked (e ∷ ds) [] h = absurd h
+tells_level both asked (e ∷ ds) (m ∷ ls) h = ap suc (tells_level both asked ds ls h.1)
 
-pub tells_whole : (both : Both) (asked : Diff) (ds : List Difference) (ls : List Line) (i : ℕ) → length ds ≤ i → TellsEach both asked (take i ds) ls → TellsEach both asked ds ls
-tells_whole both asked ds ls i m h = subst (λ z. TellsEach both asked z ls) (take_all i ds m) h
+take_none : {X : Type 0} (room : ℕ) → ◌≡◌ {A = List X} (take room []) []
+take_none zero = refl
+take_none (suc room) = refl
 
--- and what each line tells
-pub counts_next : (ns : List ℕ) (ls new : List Line) (i d n : ℕ) (l : Line) → i < length ns → n ≡ get_or ns i d → map (λ m. m.count) ls ≡ take i ns → l.count ≡ n → new ≡ ls ++ (l ∷ []) → map (λ m. m.count) new ≡ take (i + 1) ns
-counts_next ns ls new i d n l m q h k p =
-    ap (map (λ m. m.count)) p ∙ map-append (λ m. m.count) ls (l ∷ []) ∙ ap (λ z. z ++ (l.count ∷ [])) h ∙ ap (λ z. take i ns ++ (z ∷ [])) (k ∙ q) ∙ sym (take_more ns i d m)
+-- one more where there is room, and where there is none
+take_next : {X : Type 0} (room : ℕ) (xs : List X) (x : X) → length (take room xs) < room → take room (xs ++ (x ∷ [])) ≡ take room xs ++ (x ∷ [])
+take_next zero xs x l = absurd (omega (arith, l))
+take_next (suc room) [] x l = ap (λ z. x ∷ z) (take_none room)
+take_next (suc room) (y ∷ xs) x l = ap (λ z. y ∷ z) (take_next room xs x (omega (arith, l)))
 
-pub counts_whole : (ns : List ℕ) (ls : List Line) (i : ℕ) → length ns ≤ i → map (λ m. m.count) ls ≡ take i ns → map (λ m. m.count) ls ≡ ns
-counts_whole ns ls i m h = h ∙ take_all i ns m
+take_full : {X : Type 0} (room : ℕ) (xs : List X) (x : X) → room ≤ length (take room xs) → take room (xs ++ (x ∷ [])) ≡ take room xs
+take_full zero xs x l = refl
+take_full (suc room) [] x l = absurd (omega (arith, l))
+take_full (suc room) (y ∷ xs) x l = ap (λ z. y ∷ z) (take_full room xs x (omega (arith, l)))
 
-pub folds_told : (folds : Bool) (ds : List Difference) (ns seen counts : List ℕ) → ns ≡ seen → seen ≡ counts → Folds folds ds counts → Folds folds ds ns
-folds_told folds ds ns seen counts e f h = subst (Folds folds ds) (sym (e ∙ f)) h
+-- one difference more, which has a line, or has none
+with_next : (ds : List Difference) (ns : List ℕ) (d : Difference) (n : ℕ) → length ns ≡ length ds → with_lines (ds ++ (d ∷ [])) (ns ++ (n ∷ [])) ≡ with_lines ds ns ++ with_lines (d ∷ []) (n ∷ [])
+with_next [] [] d n e = refl
+with_next [] (m ∷ ns) d n e = absurd (omega (arith, e))
+with_next (x ∷ ds) [] d n e = absurd (omega (arith, e))
+with_next (x ∷ ds) (zero ∷ ns) d n e = with_next ds ns d n (omega (arith, e))
+with_next (x ∷ ds) (suc m ∷ ns) d n e = ap (λ z. (x, suc m) ∷ z) (with_next ds ns d n (omega (arith, e)))
+
+with_some : (d : Difference) (n : ℕ) → 0 < n → with_lines (d ∷ []) (n ∷ []) ≡ (d, n) ∷ []
+with_some d zero l = absurd (omega (arith, l))
+with_some d (suc n) l = refl
+
+take_level : {X Y : Type 0} (i : ℕ) (xs : List X) (ys : List Y) → length xs ≡ length ys → length (take i xs) ≡ length (take i ys)
+take_level zero xs ys e = refl
+take_level (suc i) [] [] e = refl
+take_level (suc i) [] (y ∷ ys) e = absurd (omega (arith, e))
+take_level (suc i) (x ∷ xs) [] e = absurd (omega (arith, e))
+take_level (suc i) (x ∷ xs) (y ∷ ys) e = ap suc (take_level i xs ys (omega (arith, e)))
+
+-- the lines so far, of the differences before a number
+abbrev pub TellsBefore : Both → Diff → List Difference → List ℕ → ℕ → List Line → Type 0
+TellsBefore both asked ds ns i ls = TellsEach both asked (take asked.lines (with_lines (take i ds) (take i ns))) ls
+
+module _ (both : Both) (asked : Diff) (ds : List Difference) (ns : List ℕ) (ls : List Line) (i : ℕ) (d : Difference) (n e : ℕ) (within : i < length ds) (level : length ns ≡ length ds) (at : d ≡ get_or ds i d) (count : n ≡ get_or ns i e) (before : TellsBefore both asked ds ns i ls) where
+  abbrev so_far : List (Difference × ℕ)
+  so_far = with_lines (take i ds) (take i ns)
+
+  one_more : with_lines (take (i + 1) ds) (take (i + 1) ns) ≡ so_far ++ with_lines (d ∷ []) (n ∷ [])
+  one_more =
+      ap (λ z. with_lines z (take (i + 1) ns)) (take_more ds i d within ∙ ap (λ z. take i ds ++ (z ∷ [])) (sym at))
+      ∙ ap (with_lines (take i ds ++ (d ∷ []))) (take_more ns i e (omega (arith, within, level)) ∙ ap (λ z. take i ns ++ (z ∷ [])) (sym count))
+      ∙ with_next (take i ds) (take i ns) d n (take_level i ns ds level)
+
+  full : length (take asked.lines so_far) ≡ length ls
+  full = tells_level both asked (take asked.lines so_far) ls before
+
+  pub line_told : (l : Line) (new : List Line) → 0 < n → length ls < asked.lines → TellsOne both asked d l → l.count ≡ n → new ≡ ls ++ (l ∷ []) → TellsBefore both asked ds ns (i + 1) new
+  line_told l new some room one counted pushed =
+      subst (TellsEach both asked (take asked.lines (with_lines (take (i + 1) ds) (take (i + 1) ns)))) (sym pushed)
+      (subst (λ z. TellsEach both asked z (ls ++ (l ∷ []))) (sym (ap (take asked.lines) (one_more ∙ ap (λ z. so_far ++ z) (with_some d n some)) ∙ take_next asked.lines so_far (d, n) (omega (arith, full, room))))
+      (tells_more both asked (take asked.lines so_far) ls (d, n) l before one counted))
+
+  pub line_none : n ≡ 0 → TellsBefore both asked ds ns (i + 1) ls
+  line_none none = subst (λ z. TellsEach both asked (take asked.lines z) ls) (sym (one_more ∙ ap (λ z. so_far ++ with_lines (d ∷ []) (z ∷ [])) none ∙ append-nil so_far)) before
+
+  pub line_full : 0 < n → asked.lines ≤ length ls → TellsBefore both asked ds ns (i + 1) ls
+  line_full some room =
+      subst (λ z. TellsEach both asked z ls) (sym (ap (take asked.lines) (one_more ∙ ap (λ z. so_far ++ z) (with_some d n some)) ∙ take_full asked.lines so_far (d, n) (omega (arith, full, room)))) before
+
+pub all_told : (both : Both) (asked : Diff) (ds : List Difference) (ns : List ℕ) (ls : List Line) (i : ℕ) → length ds ≤ i → length ns ≡ length ds → TellsBefore both asked ds ns i ls → TellsEach both asked (take asked.lines (with_lines ds ns)) ls
+all_told both asked ds ns ls i l e h = subst (λ z. TellsEach both asked (take asked.lines (with_lines ds z)) ls) (take_all i ns (omega (arith, l, e))) (subst (λ z. TellsEach both asked (take asked.lines (with_lines z (take i ns))) ls) (take_all i ds l) h)
+
+pub differences_told : (columns folds : Bool) (both : Both) (asked : Diff) (ds : List Difference) (ns seen : List ℕ) (ls : List Line) → folds ≡ (columns && asked.folds) → Folds folds ds ns → seen ≡ ns → TellsEach both asked (take asked.lines (with_lines ds seen)) ls → TellsDifferences columns both asked ds ls
+differences_told columns folds both asked ds ns seen ls f h s e = record {
+  counts = ns;
+  folds = subst (λ z. Folds z ds ns) f h;
+  each = subst (λ z. TellsEach both asked (take asked.lines (with_lines ds z)) ls) s e;
+}
+
+-- without differences there is no line
+pub differences_none : (columns : Bool) (both : Both) (asked : Diff) (ds : List Difference) (ls : List Line) → ds ≡ [] → TellsDifferences columns both asked ds ls → ls ≡ []
+differences_none columns both asked [] ls e h = none ls (subst (λ z. TellsEach both asked z ls) (take_none asked.lines) h.each)
+  where
+    none : (ls : List Line) → TellsEach both asked [] ls → ls ≡ []
+    none [] h = refl
+    none (l ∷ ls) h = absurd h
+differences_none columns both asked (d ∷ ds) ls e h = absurd (cc)
+
+-- ---- lines of moves
 
 -- a line for each group of moves
 pub groups_more : (labels : Bool) (both : Both) (asked : Diff) (moves : List Move) (gs : List Group) (ls : List Line) (g : Group) (l : Line) → TellsGroups labels both asked moves gs ls → TellsGroup labels both asked moves g l → TellsGroups labels both asked moves (gs ++ (g ∷ [])) (ls ++ (l ∷ []))
@@ -67,38 +143,53 @@ pub first_all : (groups : List Group) (room : ℕ) → length groups ≤ room �
 first_all groups room l = sym (take_all room groups l)
 
 -- the lines of moves, of whose groups a list is seen
-pub moves_told : (folds labels has plain : Bool) (both : Both) (asked : Diff) (f : Found) (groups seen told : List Group) (moves : List Move) (ls : List Line) (room : ℕ) (whole : Bool) → has ≡ labels → plain ≡ is_plain asked.paths → Groups folds plain f 0 (length f.moves.items) groups → seen ≡ groups
-    → moves ≡ f.moves.items → room ≡ moves_room asked f → told ≡ take room seen → TellsGroups has both asked moves told ls → whole ≡ nat_le (length groups) room → TellsMoves folds labels both asked f ls whole
-moves_told folds labels has plain both asked f groups seen told moves ls room whole b p g s m r t h w = record {
+pub moves_told : (columns has folds plain : Bool) (both : Both) (asked : Diff) (f : Found) (groups seen told : List Group) (moves seen_moves : List Move) (ls : List Line) (room untold : ℕ) → has ≡ columns → folds ≡ (columns && asked.folds) → plain ≡ is_plain asked.paths → Groups folds plain f 0 (length f.moves.items) groups → seen ≡ groups
+    → moves ≡ f.moves.items → seen_moves ≡ f.moves.items → told ≡ take room seen → TellsGroups has both asked moves told ls → untold ≡ length seen_moves - sum_by (λ g. g.end - g.first) told → TellsMoves columns both asked f room ls untold
+moves_told columns has folds plain both asked f groups seen told moves seen_moves ls room untold b c p g s m n t h w = record {
   groups = groups;
-  grouped = subst (λ z. Groups folds z f 0 (length f.moves.items) groups) p g;
+  grouped = subst (λ z. Groups z (is_plain asked.paths) f 0 (length f.moves.items) groups) c (subst (λ z. Groups folds z f 0 (length f.moves.items) groups) p g);
   each =
-      subst (λ z. TellsGroups labels both asked z (take (moves_room asked f) groups) ls) m
-      (subst (λ z. TellsGroups labels both asked moves z ls) (t ∙ ap (take room) s ∙ ap (λ z. take z groups) r) (subst (λ z. TellsGroups z both asked moves told ls) b h));
-  all = w ∙ ap (nat_le (length groups)) r;
+      subst (λ z. TellsGroups columns both asked z (take room groups) ls) m
+      (subst (λ z. TellsGroups columns both asked moves z ls) (t ∙ ap (take room) s) (subst (λ z. TellsGroups z both asked moves told ls) b h));
+  others = w ∙ ap (λ z. length z - sum_by (λ g. g.end - g.first) told) n ∙ ap (λ z. length f.moves.items - sum_by (λ g. g.end - g.first) z) (t ∙ ap (take room) s);
 }
 
 -- where there is no room, or no move
-pub moves_untold : (folds labels plain : Bool) (both : Both) (asked : Diff) (f : Found) (groups seen told : List Group) (ls : List Line) (room : ℕ) (whole : Bool) → plain ≡ is_plain asked.paths → Groups folds plain f 0 (length f.moves.items) groups → seen ≡ groups
-    → room ≡ moves_room asked f → told ≡ take room seen → length told ≡ 0 → ls ≡ [] → whole ≡ nat_le (length groups) room → TellsMoves folds labels both asked f ls whole
-moves_untold folds labels plain both asked f groups seen told ls room whole p g s r t n e w =
-    moves_told folds labels labels plain both asked f groups seen told f.moves.items ls room whole refl p g s refl r t (none told ls n e) w
+pub moves_untold : (columns folds plain : Bool) (both : Both) (asked : Diff) (f : Found) (groups seen told : List Group) (seen_moves : List Move) (ls : List Line) (room untold : ℕ) → folds ≡ (columns && asked.folds) → plain ≡ is_plain asked.paths → Groups folds plain f 0 (length f.moves.items) groups → seen ≡ groups
+    → seen_moves ≡ f.moves.items → told ≡ take room seen → length told ≡ 0 → ls ≡ [] → untold ≡ length seen_moves - sum_by (λ g. g.end - g.first) told → TellsMoves columns both asked f room ls untold
+moves_untold columns folds plain both asked f groups seen told seen_moves ls room untold c p g s n t z e w =
+    moves_told columns columns folds plain both asked f groups seen told f.moves.items seen_moves ls room untold refl c p g s refl n t (none told ls z e) w
   where
-    none : (gs : List Group) (ls : List Line) → length gs ≡ 0 → ls ≡ [] → TellsGroups labels both asked f.moves.items gs ls
+    none : (gs : List Group) (ls : List Line) → length gs ≡ 0 → ls ≡ [] → TellsGroups columns both asked f.moves.items gs ls
     none [] [] n e = tt
     none [] (l ∷ ls) n e = absurd (cc)
     none (g ∷ gs) ls n e = absurd (omega (arith, n))
 
--- the lines of a list
-pub found_listed : (both : Both) (asked : Diff) (f : Found) (listed : Listed) (seen : List Difference) (all : Bool) → seen ≡ f.list.items → TellsEach both asked seen listed.lines.items → Folds false seen (map (λ l. l.count) listed.lines.items)
-    → TellsMoves false false both asked f listed.moves.items all → listed.whole ≡ (f.whole && all) → listed.same ≡ ((f.whole && (length f.list.items == 0)) && (length f.moves.items == 0)) → ListsFound both asked f listed
-found_listed both asked f listed seen all s h k m w n = record {
-  each = subst (λ z. TellsEach both asked z listed.lines.items) s h;
-  alone = subst (λ z. Folds false z (map (λ l. l.count) listed.lines.items)) s k;
-  all_moves = all;
-  moves = m;
-  whole = w;
+-- ---- a list
+
+pub found_listed : (both : Both) (asked : Diff) (f : Found) (listed : Listed) (seen : List Difference) (lines : List Line) (room untold : ℕ) → seen ≡ f.list.items → lines ≡ listed.lines.items → TellsDifferences false both asked seen lines → room ≡ asked.lines - length lines
+    → TellsMoves false both asked f room listed.moves.items untold → listed.left_out ≡ left_out_of f lines untold → listed.same ≡ ((f.whole && (length f.list.items == 0)) && (length f.moves.items == 0)) → ListsFound both asked f listed
+found_listed both asked f listed seen lines room untold s k h r m w n = record {
+  differences = subst (TellsDifferences false both asked f.list.items) k (subst (λ z. TellsDifferences false both asked z lines) s h);
+  untold = untold;
+  moves = subst (λ z. TellsMoves false both asked f z listed.moves.items untold) (r ∙ ap (λ z. asked.lines - length z) k) m;
+  left_out = w ∙ ap (λ z. left_out_of f z untold) k;
   is_none = n;
+}
+
+-- ---- a text
+
+pub found_told : (columns : Bool) (both : Both) (asked : Diff) (f : Found) (seen : List Difference) (ls ms : List Line) (room untold : ℕ) (o a c e : List ℕ) (l : LeftOut) → columns ≡ is_line asked.form → seen ≡ f.list.items → TellsDifferences columns both asked seen ls → room ≡ asked.lines - length ls
+    → TellsMoves columns both asked f room ms untold → o ≡ [] → a ≡ o ++ lines_text asked ls → c ≡ a ++ lines_text asked ms → l ≡ left_out_of f ls untold → e ≡ c ++ rest_text asked.form l → TellsFound both asked f e
+found_told columns both asked f seen ls ms room untold o a c e l b s h r m empty put more w rest = record {
+  lines = ls;
+  differences = subst (λ z. TellsDifferences z both asked f.list.items ls) b (subst (λ z. TellsDifferences columns both asked z ls) s h);
+  move_lines = ms;
+  untold = untold;
+  moves = subst (λ z. TellsMoves z both asked f (asked.lines - length ls) ms untold) b (subst (λ z. TellsMoves columns both asked f z ms untold) r m);
+  is =
+      rest ∙ ap (λ z. z ++ rest_text asked.form l) (more ∙ ap (λ z. z ++ lines_text asked ms) (put ∙ ap (λ z. z ++ lines_text asked ls) empty))
+      ∙ ap (λ z. (lines_text asked ls ++ lines_text asked ms) ++ rest_text asked.form z) w;
 }
 
 drop_next : {X : Type 0} (xs : List X) (i : ℕ) (d : X) → i < length xs → drop i xs ≡ get_or xs i d ∷ drop (i + 1) xs
@@ -113,37 +204,6 @@ lines_next f ls i d o a whole l h e =
 pub lines_all : (f : Diff) (ls : List Line) (i : ℕ) (o whole : List ℕ) → length ls ≤ i → o ++ lines_text f (drop i ls) ≡ whole → o ≡ whole
 lines_all f ls i o whole l h = sym (append-nil o) ∙ ap (λ z. o ++ lines_text f z) (sym (drop_of_length-le ls l)) ∙ h
 
-module _ (folds_asked labels : Bool) (both : Both) (asked : Diff) (f : Found) (ls ms : List Line) (all : Bool) (o a c : List ℕ) (asks : folds_asked ≡ folds_moves asked) (labelled : labels ≡ is_line asked.form) (each : TellsEach both asked f.list.items ls) (folds : Folds asked.folds f.list.items (map (λ l. l.count) ls)) (moves : TellsMoves folds_asked labels both asked f ms all) (empty : o ≡ []) (put : a ≡ o ++ lines_text asked ls) (more : c ≡ a ++ lines_text asked ms) where
-  all_put : c ≡ lines_text asked ls ++ lines_text asked ms
-  all_put = more ∙ ap (λ z. z ++ lines_text asked ms) (put ∙ ap (λ z. z ++ lines_text asked ls) empty)
-
-  as_asked : TellsMoves (folds_moves asked) (is_line asked.form) both asked f ms all
-  as_asked = subst (λ z. TellsMoves z (is_line asked.form) both asked f ms all) asks (subst (λ z. TellsMoves folds_asked z both asked f ms all) labelled moves)
-
-  -- the lines of a whole list
-  pub found_whole : (f.whole && all) ≡ true → TellsFound both asked f c
-  found_whole w = record {
-    lines = ls;
-    each = each;
-    folds = folds;
-    move_lines = ms;
-    whole = all;
-    moves = as_asked;
-    is = all_put ∙ sym (append-nil (lines_text asked ls ++ lines_text asked ms)) ∙ ap (λ z. (lines_text asked ls ++ lines_text asked ms) ++ cond z [] (more_text asked.form)) (sym w);
-  }
-
-  -- and of one that is cut
-  pub found_cut : (b : List ℕ) → (f.whole && all) ≡ false → b ≡ c ++ more_text asked.form → TellsFound both asked f b
-  found_cut b w h = record {
-    lines = ls;
-    each = each;
-    folds = folds;
-    move_lines = ms;
-    whole = all;
-    moves = as_asked;
-    is = h ∙ ap (λ z. z ++ more_text asked.form) all_put ∙ ap (λ z. (lines_text asked ls ++ lines_text asked ms) ++ cond z [] (more_text asked.form)) (sym w);
-  }
-
 -- ---- as many lines as are asked for
 
 pub asked_none : (n : ℕ) (both : Both) (asked : Diff) (f : Found) (text : List ℕ) → n ≡ 0 → text ≡ [] → TellsAsked n both asked f text
@@ -155,41 +215,25 @@ asked_some (suc n) both asked f text l h = h
 
 -- ---- differences that are left out
 
-no-more : (b : Bool) → (b && false) ≡ false
-no-more true = refl
-no-more false = refl
-
-is-false : (b : Bool) → (b ≡ true → ⊥) → b ≡ false
-is-false true h = absurd (h refl)
-is-false false h = refl
-
-some-there : {X : Type 0} (x : X) (xs : List X) → (length (x ∷ xs) == 0) ≡ false
-some-there x xs = is-false (length (x ∷ xs) == 0) (λ e. let q = eqb-true (length (x ∷ xs)) 0 e in absurd (omega (arith, q)))
-
-none-first : {X : Type 0} (whole : Bool) (xs : List X) (room : ℕ) → 0 < room → ((whole && nat_le (length xs) room) && (length (take room xs) == 0)) ≡ (whole && (length xs == 0))
-none-first false xs room r = refl
-none-first true xs zero r = absurd (omega (arith, r))
-none-first true [] (suc room) r = grind arith
-none-first true (x ∷ xs) (suc room) r = ap (λ z. nat_le (length (x ∷ xs)) (suc room) && z) (some-there x (take room xs)) ∙ no-more (nat_le (length (x ∷ xs)) (suc room)) ∙ sym (some-there x xs)
-
 -- without patterns nothing is kept exactly if nothing was found
-pub keeps_none : (g : Graph) (ps : List Pattern) (room : ℕ) (found kept : Found) → ps ≡ [] → 0 < room → Keeps g ps room found kept
+pub keeps_none : (g : Graph) (ps : List Pattern) (found kept : Found) → ps ≡ [] → Keeps g ps found kept
     → ((kept.whole && (length kept.list.items == 0)) && (length kept.moves.items == 0)) ≡ ((found.whole && (length found.list.items == 0)) && (length found.moves.items == 0))
-keeps_none g ps room found kept e r h =
-    let all = outside_none g ps found.list.items e in
-    ap (λ z. (kept.whole && (length z == 0)) && (length kept.moves.items == 0)) (h.list ∙ ap (take room) all)
-    ∙ ap (λ z. (z && (length (take room found.list.items) == 0)) && (length kept.moves.items == 0)) (h.whole ∙ ap (λ z. found.whole && nat_le (length z) room) all)
-    ∙ ap (λ z. z && (length kept.moves.items == 0)) (none-first found.whole found.list.items room r)
-    ∙ ap (λ z. (found.whole && (length found.list.items == 0)) && (length z.items == 0)) h.moves
+keeps_none g ps found kept e h =
+    ap (λ z. (kept.whole && (length z == 0)) && (length kept.moves.items == 0)) (h.list ∙ outside_none g ps found.list.items e)
+    ∙ ap (λ z. (z && (length found.list.items == 0)) && (length kept.moves.items == 0)) (h.whole ∙ ap (λ z. covers_all z || found.whole) e)
+    ∙ ap (λ z. (found.whole && (length found.list.items == 0)) && (length z == 0)) (h.moves ∙ moves_none g ps found.moves.items e)
 
 -- there is room for one at least
-pub some_room : (g : Graph) (ps : List Pattern) (lines room : ℕ) → search_room g ps (room_for lines) ≤ room → 0 < room
-some_room g ps lines room l = let s = some lines in omega (arith, l, s)
+pub some_room : (g : Graph) (ps : List Pattern) (lines : ℕ) → 0 < search_room g ps lines
+some_room g ps lines = at_least (least_room g (cond (length ps == 0) 100000 1000000)) lines (by _ _ (of (length ps == 0)))
   where
-    by : (b : Bool) (n m : ℕ) → 0 < n → 0 < cond b n (max m n)
-    by true n m p = p
-    by false n m p = omega (arith, p)
+    at_least : (n m : ℕ) → 0 < n → 0 < max n m
+    at_least n m p = omega (arith, p)
 
-    some : (lines : ℕ) → 0 < search_room g ps (room_for lines)
-    some zero = by _ 1 _ (omega arith)
-    some (suc lines) = by _ (suc lines) _ (omega arith)
+    of : (b : Bool) → 0 < cond b 100000 1000000
+    of true = omega arith
+    of false = omega arith
+
+    by : (b : Bool) (n : ℕ) → 0 < n → 0 < cond b 10000 n
+    by true n p = omega arith
+    by false n p = p

@@ -1,5 +1,5 @@
 -- The lines of moves.
-use Rattle.std.proofs.Common.{◌≡◌, ◌==◌, ℕ, zero, suc, ◌≤◌, Bool, true, false, cond, nat_le, List, [], ◌∷◌, ◌++◌, length, map, take, refl, sym, ◌∙◌, ap, subst, arith}
+use Rattle.std.proofs.Common.{◌≡◌, ◌==◌, ◌&&◌, ℕ, zero, suc, ◌≤◌, Bool, true, false, cond, List, [], ◌∷◌, ◌++◌, length, map, take, refl, sym, ◌∙◌, ap, subst, arith}
 use Rattle.std.specs.Prelude.{Option, Some, None, Result, Ok, Err, String, IfOk, IfSome, option_map, is_some, codes, string_bytes}
 use Rattle.std.specs.declared.alloc.Global.{Global}
 use Rattle.yaml_text.specs.declared.fault.Fault.{Fault}
@@ -23,9 +23,12 @@ use Rattle.yaml_diff.specs.declared.difference.Step as code
 use Rattle.yaml_diff.specs.declared.difference.Step.TheVariants.{Item}
 use Rattle.yaml_diff.specs.declared.difference.Difference.{Difference}
 use Rattle.review_args.specs.declared.words.Paths.{Paths}
+use Rattle.review_args.specs.declared.words.Paths.TheVariants.{Plain, Jq, JsonPointer}
 use Rattle.review_text.specs.PathText.{path_text, step_text, bracketed}
-use Rattle.review_lines.specs.Compared.{is_numbered, room_of, path_as, TellsMembers, range_of, before_text, range_path, group_text, last_of, moves_room, IsFirst, TellsGroup, TellsGroups, TellsMoves}
+use Rattle.review_lines.specs.Compared.{is_numbered, room_of, path_as, TellsMembers, is_plain, list_path, range_of, before_text, range_path, group_text, last_of, IsFirst, TellsGroup, TellsGroups, TellsMoves}
 use Rattle.review_lines.specs.declared.lines.Line.{Line}
+
+-- ---- no moves
 
 groups-rise : (folds ranges : Bool) (f : Found) (at end : ℕ) (gs : List Group) → Groups folds ranges f at end gs → at ≤ end
 groups-rise folds ranges f at end [] h = omega (arith, h)
@@ -40,19 +43,17 @@ no-lines labels both asked moves [] h = refl
 no-lines labels both asked moves (l ∷ ls) h = absurd h
 
 -- without moves there is no line, and none is left out
-pub moves_none : (folds labels : Bool) (both : Both) (asked : Diff) (f : Found) (ls : List Line) (whole : Bool) → f.moves.items ≡ [] → TellsMoves folds labels both asked f ls whole → (ls ≡ []) × (whole ≡ true)
-moves_none folds labels both asked f ls whole m t =
-    let none = no-groups folds _ f (length f.moves.items) t.groups (ap length m) t.grouped in (
-      no-lines labels both asked f.moves.items ls (subst (λ z. TellsGroups labels both asked f.moves.items z ls) (ap (take (moves_room asked f)) none ∙ none-taken (moves_room asked f)) t.each),
-      t.all ∙ ap (λ z. nat_le (length z) (moves_room asked f)) none ∙ least (moves_room asked f),
+pub moves_none : (columns : Bool) (both : Both) (asked : Diff) (f : Found) (room : ℕ) (ls : List Line) (untold : ℕ) → f.moves.items ≡ [] → TellsMoves columns both asked f room ls untold → (ls ≡ []) × (untold ≡ 0)
+moves_none columns both asked f room ls untold m t =
+    let none = no-groups (columns && asked.folds) (is_plain asked.paths) f (length f.moves.items) t.groups (ap length m) t.grouped in
+    let many = ap length m in (
+      no-lines columns both asked f.moves.items ls (subst (λ z. TellsGroups columns both asked f.moves.items z ls) (ap (take room) none ∙ none-taken room) t.each),
+      omega (arith, t.others, many),
     )
   where
     none-taken : {X : Type 0} (n : ℕ) → ◌≡◌ {A = List X} (take n []) []
     none-taken zero = refl
     none-taken (suc n) = refl
-
-    least : (n : ℕ) → nat_le 0 n ≡ true
-    least n = grind arith
 
 -- ---- paths
 
@@ -94,11 +95,37 @@ range_some g steps numbered s z before text not b t = t ∙ ap (λ y. y ++ brack
     by (x ∷ xs) (t ∷ w) l n = refl
 
 module _ (paths : Paths) (numbered : Bool) (g : Graph) where
+  pub list_pasted : (list : List code.Step) (text : List ℕ) → is_plain paths ≡ false → text ≡ path_as paths numbered None None (way_of g list) → text ≡ list_path paths numbered (way_of g list)
+  list_pasted list text p e = e ∙ by paths (way_of g list) p
+    where
+      by : (ps : Paths) (w : Way) → is_plain ps ≡ false → path_as ps numbered None None w ≡ list_path ps numbered w
+      by Plain w p = absurd (cc)
+      by Jq w p = refl
+      by JsonPointer w p = refl
+
+  pub list_inside : (list : List code.Step) (text : List ℕ) → is_plain paths ≡ true → (list ≡ [] → ⊥) → text ≡ path_as paths numbered None None (way_of g list) → text ≡ list_path paths numbered (way_of g list)
+  list_inside list text p not e = e ∙ by paths list (way_of g list) p (way-length g list) not
+    where
+      by : (ps : Paths) (xs : List code.Step) (w : Way) → is_plain ps ≡ true → length w ≡ length xs → (xs ≡ [] → ⊥) → path_as ps numbered None None w ≡ list_path ps numbered w
+      by Plain [] w p l n = absurd (n refl)
+      by Plain (x ∷ xs) [] p l n = absurd (omega (arith, l))
+      by Plain (x ∷ xs) (t ∷ w) p l n = refl
+      by Jq xs w p l n = absurd (cc)
+      by JsonPointer xs w p l n = absurd (cc)
+
+  pub list_of_all : (list : List code.Step) (text : List ℕ) → is_plain paths ≡ true → list ≡ [] → text ≡ codes "." → text ≡ list_path paths numbered (way_of g list)
+  list_of_all list text p l e = e ∙ subst (λ z. codes "." ≡ list_path paths numbered (way_of g z)) (sym l) (by paths p)
+    where
+      by : (ps : Paths) → is_plain ps ≡ true → codes "." ≡ list_path ps numbered []
+      by Plain p = refl
+      by Jq p = absurd (cc)
+      by JsonPointer p = absurd (cc)
+
   pub group_none : (whole : Bool) (last : Option Places) (path : List code.Step) (text : List ℕ) → path ≡ [] → text ≡ [] → text ≡ group_text paths numbered g whole last path
   group_none whole last path text p e = e ∙ subst (λ z. [] ≡ group_text paths numbered g whole last z) (sym p) refl
 
-  pub group_whole : (whole : Bool) (last : Option Places) (path list : List code.Step) (s : code.Step) (text : List ℕ) → path ≡ s ∷ list → whole ≡ true → text ≡ path_as paths numbered None None (way_of g list) → text ≡ group_text paths numbered g whole last path
-  group_whole whole last path list s text p w e = e ∙ subst (λ z. path_as paths numbered None None (way_of g list) ≡ group_text paths numbered g z last path) (sym w) (subst (λ z. path_as paths numbered None None (way_of g list) ≡ group_text paths numbered g true last z) (sym p) refl)
+  pub group_whole : (whole : Bool) (last : Option Places) (path list : List code.Step) (s : code.Step) (text : List ℕ) → path ≡ s ∷ list → whole ≡ true → text ≡ list_path paths numbered (way_of g list) → text ≡ group_text paths numbered g whole last path
+  group_whole whole last path list s text p w e = e ∙ subst (λ z. list_path paths numbered (way_of g list) ≡ group_text paths numbered g z last path) (sym w) (subst (λ z. list_path paths numbered (way_of g list) ≡ group_text paths numbered g true last z) (sym p) refl)
 
   pub group_range : (whole : Bool) (z : Places) (path list : List code.Step) (s : code.Step) (text : List ℕ) → path ≡ s ∷ list → whole ≡ false → text ≡ range_path numbered s z (way_of g list) → text ≡ group_text paths numbered g whole (Some z) path
   group_range whole z path list s text p w e = e ∙ subst (λ y. range_path numbered s z (way_of g list) ≡ group_text paths numbered g y (Some z) path) (sym w) (subst (λ y. range_path numbered s z (way_of g list) ≡ group_text paths numbered g false (Some z) y) (sym p) refl)

@@ -1,6 +1,6 @@
 -- What is told of two streams as text.
-use Rattle.std.specs.Prelude.{◌≡◌, ◌⊎◌, ◌==◌, ◌&&◌, ℕ, zero, suc, ◌-◌, Bool, true, false, not, cond, nat_le, nat_lt, take, drop, map, length, List, [], ◌∷◌, ◌++◌, Option, Some, None, option_map, codes, string_bytes}
-use Rattle.std.specs.List.{slice_get, flat_map}
+use Rattle.std.specs.Prelude.{◌≡◌, ◌⊎◌, ◌==◌, ◌&&◌, ℕ, zero, suc, ◌-◌, Bool, true, false, not, cond, nat_le, nat_lt, take, drop, length, List, [], ◌∷◌, ◌++◌, Option, Some, None, option_map, codes, string_bytes}
+use Rattle.std.specs.List.{slice_get, flat_map, sum_by}
 use Rattle.std.specs.Fmt.{decimal}
 use Rattle.yaml_definitions.specs.model.Tree.{scalar}
 use Rattle.yaml_scalar.specs.Spelling.{quoted_bytes}
@@ -26,6 +26,7 @@ use Rattle.review_args.specs.declared.words.Form.TheVariants as form
 use Rattle.review_patterns.specs.declared.pattern.Pattern.{Pattern}
 use Rattle.review_ignore.specs.Ignored.{Keeps}
 use Rattle.review_folds.specs.Folds.{Folds}
+use Rattle.review_formats.specs.declared.left_out.LeftOut.{LeftOut}
 use Rattle.review_folds.specs.Moves.{Groups}
 use Rattle.review_folds.specs.declared.moves.Group.{Group}
 use Rattle.review_labels.specs.Labels.{label}
@@ -38,8 +39,8 @@ use Rattle.review_args.specs.declared.words.Paths.TheVariants.{Plain, Jq, JsonPo
 use Rattle.review_text.specs.declared.both.Both.{Both}
 use Rattle.review_values.specs.Members.{SaysMembers}
 use Rattle.review_values.specs.declared.members.Members.{Members}
-use Rattle.review_lines.specs.Lines.{Text, lines_text, more_text}
-use Rattle.review_lines.specs.Searched.{room_for, Searches}
+use Rattle.review_lines.specs.Lines.{Text, lines_text, rest_text}
+use Rattle.review_lines.specs.Searched.{Searches}
 use Rattle.review_lines.specs.Stat.{stat_text}
 use Rattle.review_lines.specs.declared.lines.Changes.{Changes}
 use Rattle.review_lines.specs.declared.lines.Line.{Line}
@@ -117,14 +118,10 @@ ShowsChanges g context color d (Some c) = ShowsScript g context color d (string_
 
 -- ---- what a program reads beside the texts
 
--- differences and moves stand in columns
+-- differences and moves are in columns
 abbrev pub is_line : Form → Bool
 is_line form.Line = true
 is_line form.Json = false
-
--- one line may tell several moves: in columns, if that is asked for, and where lines are told
-abbrev pub folds_moves : Diff → Bool
-folds_moves asked = not asked.stat && (is_line asked.form && asked.folds)
 
 -- Where JSON is written, the path and the values of the nodes.
 abbrev pub TellsMembers : Form → Graph → Difference → Option Members → Type 0
@@ -157,11 +154,23 @@ pub record TellsOne (both : Both) (asked : Diff) (d : Difference) (l : Line) : T
   pub members : TellsMembers asked.form both.graph d l.members
   pub no_label : l.label ≡ None
 
--- a line for each difference, in order
-abbrev pub TellsEach : Both → Diff → List Difference → List Line → Type 0
+-- the differences that have a line, with how many each line tells: another line tells a difference of which the number is 0
+abbrev pub with_lines : List Difference → List ℕ → List (Difference × ℕ)
+with_lines (d ∷ ds) (zero ∷ counts) = with_lines ds counts
+with_lines (d ∷ ds) (suc n ∷ counts) = (d, suc n) ∷ with_lines ds counts
+with_lines _ _ = []
+
+-- a line for each of these differences, in order
+abbrev pub TellsEach : Both → Diff → List (Difference × ℕ) → List Line → Type 0
 TellsEach both asked [] [] = Unit {0}
-TellsEach both asked (d ∷ ds) (l ∷ ls) = TellsOne both asked d l × TellsEach both asked ds ls
+TellsEach both asked (d ∷ ds) (l ∷ ls) = (TellsOne both asked d.0 l × (l.count ≡ d.1)) × TellsEach both asked ds ls
 TellsEach both asked _ _ = ⊥
+
+-- Each difference has a line, or the line of another one of the same nodes tells it; the latter in columns alone, if that is asked for. Of these lines the first ones, as many as are asked for.
+pub record TellsDifferences (columns : Bool) (both : Both) (asked : Diff) (list : List Difference) (lines : List Line) : Type 0 where
+  pub counts : List ℕ
+  pub folds : Folds (columns && asked.folds) list counts
+  pub each : TellsEach both asked (take asked.lines (with_lines list counts)) lines
 
 -- ---- paths of moves
 
@@ -186,10 +195,15 @@ abbrev pub range_path : Bool → code.Step → Places → Way → List ℕ
 range_path numbered first last [] = range_of first last
 range_path numbered first last (s ∷ w) = before_text numbered (s ∷ w) ++ bracketed (range_of first last)
 
+-- the path to a list on both sides; to that of all documents a dot, which as a pattern is that of all
+abbrev pub list_path : Paths → Bool → Way → List ℕ
+list_path Plain numbered [] = codes "."
+list_path paths numbered w = path_as paths numbered None None w
+
 -- The path of a group, by the steps to its first items, the last one first: that of the list of which only the order changed; that of neighbours, of which the last one has these places; or that of one pair of items.
 abbrev pub group_text : Paths → Bool → Graph → Bool → Option Places → List code.Step → List ℕ
 group_text paths numbered g whole last [] = []
-group_text paths numbered g true last (s ∷ w) = path_as paths numbered None None (way_of g w)
+group_text paths numbered g true last (s ∷ w) = list_path paths numbered (way_of g w)
 group_text paths numbered g false (Some z) (s ∷ w) = range_path numbered s z (way_of g w)
 group_text paths numbered g false None (s ∷ w) = path_as paths numbered None None (way_of g (s ∷ w))
 
@@ -221,38 +235,37 @@ TellsGroups labels both asked moves [] [] = Unit {0}
 TellsGroups labels both asked moves (g ∷ gs) (l ∷ ls) = TellsGroup labels both asked moves g l × TellsGroups labels both asked moves gs ls
 TellsGroups labels both asked moves _ _ = ⊥
 
--- how many lines of moves there is room for, behind those of the differences
-abbrev pub moves_room : Diff → Found → ℕ
-moves_room asked f = room_for asked.lines - length f.list.items
-
--- The moves that were found are in groups, in order, of one move each if they are not folded. Each group has a line, as far as there is room; and whether these are all.
-pub record TellsMoves (folds labels : Bool) (both : Both) (asked : Diff) (f : Found) (lines : List Line) (whole : Bool) : Type 0 where
+-- The moves are in groups, in order, of one move each if they are not folded. Of the groups the first ones have a line, as far as there is room. The moves of the others are not told.
+pub record TellsMoves (columns : Bool) (both : Both) (asked : Diff) (f : Found) (room : ℕ) (lines : List Line) (untold : ℕ) : Type 0 where
   pub groups : List Group
-  pub grouped : Groups folds (is_plain asked.paths) f 0 (length f.moves.items) groups
-  pub each : TellsGroups labels both asked f.moves.items (take (moves_room asked f) groups) lines
-  pub all : whole ≡ nat_le (length groups) (moves_room asked f)
+  pub grouped : Groups (columns && asked.folds) (is_plain asked.paths) f 0 (length f.moves.items) groups
+  pub each : TellsGroups columns both asked f.moves.items (take room groups) lines
+  pub others : untold ≡ length f.moves.items - sum_by (λ g. g.end - g.first) (take room groups)
 
--- The text is the lines of the differences that were found, and behind them those of the moves as far as there is room, and tells if there are more. Each difference has a line; one that is told by another line of the same nodes, if that is asked for, has one without a text. In columns, if that is asked for, a line may tell several moves.
+-- how many differences and moves no line tells, and whether all were looked for
+abbrev pub left_out_of : Found → List Line → ℕ → LeftOut
+left_out_of f lines moves = record { differences = length f.list.items - sum_by (λ l. l.count) lines; moves = moves; whole = f.whole }
+
+-- The text is the lines of differences and then those of moves, all together as many as are asked for, and says what no line tells.
 pub record TellsFound (both : Both) (asked : Diff) (f : Found) (text : List ℕ) : Type 0 where
   pub lines : List Line
-  pub each : TellsEach both asked f.list.items lines
-  pub folds : Folds asked.folds f.list.items (map (λ l. l.count) lines)
+  pub differences : TellsDifferences (is_line asked.form) both asked f.list.items lines
   pub move_lines : List Line
-  pub whole : Bool
-  pub moves : TellsMoves (folds_moves asked) (is_line asked.form) both asked f move_lines whole
-  pub is : text ≡ (lines_text asked lines ++ lines_text asked move_lines) ++ cond (f.whole && whole) [] (more_text asked.form)
+  pub untold : ℕ
+  pub moves : TellsMoves (is_line asked.form) both asked f (asked.lines - length lines) move_lines untold
+  pub is : text ≡ (lines_text asked lines ++ lines_text asked move_lines) ++ rest_text asked.form (left_out_of f lines untold)
 
 -- No line is written where none is asked for, whether or not there are differences.
 abbrev pub TellsAsked : ℕ → Both → Diff → Found → List ℕ → Type 0
 TellsAsked zero both asked f text = text ≡ []
 TellsAsked (suc lines) both asked f text = TellsFound both asked f text
 
--- The text is the lines of the differences of two streams, of as many as were asked for, but for those that are at or below a path that one of the patterns matches; and whether there are none. If the numbers of differences and moves are asked for, they stand in place of the lines.
+-- The text is the lines of the differences and moves of two streams, as many as are asked for, but for those that are at or below a path that one of the patterns matches; and whether there are none. If the numbers of differences and moves are asked for, they stand in place of the lines.
 pub record TellsStreams (both : Both) (asked : Diff) (ignored : List Pattern) (none : Bool) (text : List ℕ) : Type 0 where
   pub found : Found
-  pub searches : Searches both ignored asked (folds_moves asked) found
+  pub searches : Searches both ignored asked found
   pub kept : Found
-  pub keeps : Keeps both.graph ignored (room_for asked.lines) found kept
+  pub keeps : Keeps both.graph ignored found kept
   pub is_none : none ≡ ((kept.whole && (length kept.list.items == 0)) && (length kept.moves.items == 0))
   pub tells : asked.stat ≡ false → TellsAsked asked.lines both asked kept text
   pub counts : asked.stat ≡ true → text ≡ stat_text asked kept

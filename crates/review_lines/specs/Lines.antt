@@ -6,9 +6,12 @@ use Rattle.yaml_place.specs.declared.place.Place.{Place}
 use Rattle.review_args.specs.declared.words.Form.{Form}
 use Rattle.review_args.specs.declared.words.Form.TheVariants as form
 use Rattle.review_args.specs.declared.words.Diff.{Diff}
+use Rattle.review_formats.specs.LeftOut.{is_none, between_text}
+use Rattle.review_formats.specs.declared.left_out.LeftOut.{LeftOut}
 use Rattle.review_text.specs.Hidden.{visible}
 use Rattle.review_values.specs.Json.{text_json, place_json, raw_text}
 use Rattle.review_values.specs.declared.members.Members.{Members}
+use Rattle.review_lines.specs.Stat.{whole_text}
 use Rattle.review_lines.specs.declared.lines.Changes.{Changes}
 use Rattle.review_lines.specs.declared.lines.Line.{Line}
 
@@ -116,6 +119,18 @@ line_text asked l = form_text asked.form asked.places asked.color l
 abbrev pub more_text : Form → List ℕ
 more_text form.Line = codes "...\n"
 more_text form.Json = codes "{\"kind\":\"more\"}\n"
+
+-- what no line tells as an object, if there is something
+abbrev pub rest_object : LeftOut → List ℕ
+rest_object l = (codes "{\"differences\":" ++ decimal l.differences) ++ ((codes ",\"kind\":\"more\",\"moves\":" ++ decimal l.moves) ++ whole_text l.whole)
+
+abbrev pub rest_json : LeftOut → List ℕ
+rest_json l = cond (is_none l) [] (rest_object l)
+
+-- the same in the form that is asked for
+abbrev pub rest_text : Form → LeftOut → List ℕ
+rest_text form.Line l = between_text (codes "... not listed: ") (codes "\n") l
+rest_text form.Json l = rest_json l
 
 -- one line after another
 abbrev pub lines_text : Diff → List Line → List ℕ

@@ -50,7 +50,7 @@ stat_line f right =
     (codes "+" ++ (decimal (added f) ++ (codes " -" ++ (decimal (removed f) ++ (codes " ~" ++ decimal (changed f))))))
     ++ (moves_text (moved f) ++ (cond f.whole (codes " ") (codes " ... ") ++ (terminal right ++ codes "\n")))
 
--- whether the numbers are all, and the end of the object
+-- whether all were looked for, and the end of the object
 abbrev pub whole_text : Bool → List ℕ
 whole_text whole = cond whole (codes ",\"whole\":true}\n") (codes ",\"whole\":false}\n")
 

@@ -1,22 +1,23 @@
 //! Where two streams differ, as lines.
-ghost use Rattle.std.specs.Prelude.{◌≡◌, ◌↔◌, ◌<◌, ◌≤◌, ◌&&◌, ◌==◌, ◌++◌, true, false, not, length, map, take, drop, [], string_bytes, OnOk, IfOk, IfErr};
+ghost use Rattle.std.specs.Prelude.{◌≡◌, ◌↔◌, ◌<◌, ◌≤◌, ◌&&◌, ◌==◌, ◌++◌, ◌-◌, true, false, not, length, map, take, drop, [], string_bytes, OnOk, IfOk, IfErr};
+ghost use Rattle.std.specs.List.{sum_by};
 ghost use Rattle.yaml_definitions.specs.model.Same.{Alike};
 ghost use Rattle.yaml_graph.specs.GraphView.{roots_of, tree};
 ghost use Rattle.yaml_rank.specs.RanksView.{RanksAre};
 ghost use Rattle.yaml_diff.specs.Lines.{way_of};
-ghost use Rattle.review_folds.specs.Folds.{Folds};
 ghost use Rattle.review_lines.specs.Lines.{lines_text};
 ghost use Rattle.review_lines.specs.Stat.{stat_text};
-ghost use Rattle.review_lines.specs.Compared.{room_of, is_numbered, has_left, has_right, path_as, ShowsNode, ShowsBoth, is_line, folds_moves, TellsMembers, TellsOne, TellsEach, TellsFound, TellsAsked, TellsStreams};
+ghost use Rattle.review_lines.specs.Compared.{room_of, is_numbered, has_left, has_right, path_as, ShowsNode, ShowsBoth, is_line, with_lines, left_out_of, TellsMembers, TellsOne, TellsEach, TellsDifferences, TellsFound, TellsAsked, TellsStreams};
 
-use crate::lines::{Line, put_more};
+use crate::lines::{Line, put_rest};
 use crate::moved::{MoveLines, lines_of_moves};
 use crate::nodes::{Places, find_places, place_at};
-use crate::search::{lists_none, room_for, searched};
+use crate::search::{lists_none, searched};
 use crate::stat::stat_text;
 use crate::strings::{Budget, changed_lines, differing_parts};
 use review_args::{Diff, Form, Paths};
 use review_folds::counts;
+use review_formats::LeftOut;
 use review_ignore::kept;
 use review_paths::pasted;
 use review_patterns::Pattern;
@@ -213,7 +214,7 @@ fn line_of(
     })
 }
 
-/// The lines of differences, each of which tells so many of them.
+/// The lines of the first differences, at most so many of those that have a line, with how many each tells.
 fn lines_with(
     alloc: Global,
     both: &Both<'_>,
@@ -224,41 +225,71 @@ fn lines_with(
 ) -> Result<Vec<Line>, Fault>
     requires ranked { RanksAre both.now.graph both.now.ranks }
     requires level { length counts.now ≡ length list.now }
-    ensures each { IfOk result (λ lines. TellsEach both.now asked.now list.now lines.items) }
-    ensures counts { IfOk result (λ lines. map (λ line. line.count) lines.items ≡ counts.now) }
+    ensures ok { IfOk result (λ lines. TellsEach both.now asked.now (take asked.now.lines (with_lines list.now counts.now)) lines.items) }
     ensures err { IfErr result (λ fault. fault ≡ Fault.OutOfMemory) }
 {
     let mut lines = Vec::new(alloc);
     let mut budget = Budget::new();
     for (number, difference) in list.iter().enumerate() {
-        let at = (
-            place_at(&places.left, number),
-            place_at(&places.right, number),
-        );
         let count = counts[number];
-        lines.push(line_of(alloc, both, difference, asked, at, count, &mut budget)?)?;
+        if count > 0 && lines.len() < asked.lines {
+            let at = (
+                place_at(&places.left, number),
+                place_at(&places.right, number),
+            );
+            lines.push(line_of(alloc, both, difference, asked, at, count, &mut budget)?)?;
+        }
     }
     Ok(lines)
 }
 
-/// The lines of differences: of those of the same cause one tells all, if that is asked for.
-#[tactic(auto, using(crate::proofs::CompareLaws::folds_told))]
+/// The lines of differences, as many as are asked for. In columns, of those of the same cause one tells all, if that is asked for.
+#[tactic(auto, using(crate::proofs::CompareLaws::differences_told))]
 pub(crate) fn lines_of(
     alloc: Global,
     both: &Both<'_>,
     list: &[Difference],
     asked: &Diff<'_>,
-    folds: bool,
-    places: &Places,
+    columns: bool,
+    sides: Option<(Traced<'_>, Traced<'_>)>,
 ) -> Result<Vec<Line>, Fault>
     requires ranked { RanksAre both.now.graph both.now.ranks }
-    ensures each { IfOk result (λ lines. TellsEach both.now asked.now list.now lines.items) }
-    ensures folds { IfOk result (λ lines. Folds folds list.now (map (λ line. line.count) lines.items)) }
+    ensures ok { IfOk result (λ lines. TellsDifferences columns both.now asked.now list.now lines.items) }
     ensures err { IfErr result (λ fault. fault ≡ Fault.OutOfMemory) }
 {
+    let folds = columns && asked.folds;
+    let sides = if list.is_empty() { None } else { sides };
+    // Places of other differences are used only to fold.
+    let placed = if folds {
+        list
+    } else {
+        list.get(..asked.lines).unwrap_or(list)
+    };
+    let places = find_places(alloc, both, placed, sides, asked.lines)?;
     let counts = counts(alloc, folds, list, &places.causes)?;
-    let lines = lines_with(alloc, both, list, asked, places, &counts)?;
-    Ok(lines)
+    lines_with(alloc, both, list, asked, &places, &counts)
+}
+
+/// How many differences no line tells.
+fn untold(list: &[Difference], lines: &[Line]) -> usize
+    ensures { result ≡ length list.now - sum_by (λ line. line.count) lines.now }
+{
+    let mut count = list.len();
+    for line in lines {
+        count = count.saturating_sub(line.count);
+    }
+    count
+}
+
+/// What lines leave out of what was found.
+pub(crate) fn left_out(found: &Found, lines: &[Line], moves: &MoveLines) -> LeftOut
+    ensures { result ≡ left_out_of found.now lines.now moves.now.untold }
+{
+    LeftOut {
+        differences: untold(&found.list, lines),
+        moves: moves.untold,
+        whole: found.whole,
+    }
 }
 
 /// Lines as text.
@@ -279,7 +310,7 @@ pub(crate) fn room_of(whole: bool) -> usize
     if whole { WHOLE } else { CUT }
 }
 
-/// Whether differences and moves stand in columns.
+/// Whether differences and moves are in columns.
 fn is_line(form: Form) -> bool
     ensures { result ≡ is_line form }
 {
@@ -289,21 +320,7 @@ fn is_line(form: Form) -> bool
     }
 }
 
-/// Whether one line may tell several moves: in columns, if that is asked for, and where lines are told.
-fn folds_moves(asked: &Diff<'_>) -> bool
-    ensures { result ≡ folds_moves asked.now }
-{
-    !asked.stat && is_line(asked.form) && asked.folds
-}
-
-/// Whether all differences and moves were found, and lines tell all moves.
-fn is_all(found: &Found, moves: &MoveLines) -> bool
-    ensures { result ≡ (found.now.whole && moves.now.whole) }
-{
-    found.whole && moves.whole
-}
-
-/// The lines of listed differences and moves as text.
+/// The lines of differences and moves as text.
 fn text_of(
     alloc: Global,
     both: &Both<'_>,
@@ -315,20 +332,14 @@ fn text_of(
     ensures ok { IfOk result (λ text. TellsFound both.now asked.now found.now (string_bytes text)) }
     ensures err { IfErr result (λ fault. fault ≡ Fault.OutOfMemory) }
 {
-    let traced = sides;
-    let sides = if found.list.is_empty() { None } else { sides };
-    let places = find_places(alloc, both, &found.list, sides)?;
-    let lines = lines_of(alloc, both, &found.list, asked, asked.folds, &places)?;
-    let folds = folds_moves(asked);
-    let labels = is_line(asked.form);
-    let moves = lines_of_moves(alloc, both, asked, traced, found, folds, labels)?;
+    let columns = is_line(asked.form);
+    let lines = lines_of(alloc, both, &found.list, asked, columns, sides)?;
+    let room = asked.lines.saturating_sub(lines.len());
+    let moves = lines_of_moves(alloc, both, asked, sides, found, room, columns)?;
     let mut text = String::new(alloc);
     put_each(alloc, &mut text, &lines, asked)?;
     put_each(alloc, &mut text, &moves.lines, asked)?;
-    if is_all(found, &moves) {
-        return Ok(text);
-    }
-    put_more(&mut text, asked.form)?;
+    put_rest(&mut text, asked.form, left_out(found, &lines, &moves))?;
     Ok(text)
 }
 
@@ -377,8 +388,8 @@ pub struct Compared {
     pub same: bool,
 }
 
-/// The lines of the differences of two streams, whose graph this is, but for those that are at or below a path that one of the patterns
-/// matches, and whether there are none. Without patterns this is so if the streams have equally many documents, pairwise the same.
+/// The lines of the differences and moves of two streams, whose graph this is, but for those that are at or below a path that one of the
+/// patterns matches, and whether there are none. Without patterns this is so if the streams have equally many documents, pairwise the same.
 /// Places are told where both sides are given with their traces.
 pub fn compare(
     alloc: Global,
@@ -392,8 +403,8 @@ pub fn compare(
     ensures same { IfOk result (λ told. ignored.now ≡ [] → ((told.same ≡ true) ↔ Alike (map (λ i. tree both.now.graph i.0) (take both.now.documents (roots_of both.now.graph))) (map (λ i. tree both.now.graph i.0) (drop both.now.documents (roots_of both.now.graph))))) }
     ensures err { IfErr result (λ fault. fault ≡ Fault.OutOfMemory) }
 {
-    let found = searched(alloc, both, asked, ignored, folds_moves(asked))?;
-    let kept = kept(alloc, both, ignored, found, room_for(asked.lines))?;
+    let found = searched(alloc, both, asked, ignored)?;
+    let kept = kept(alloc, both, ignored, found)?;
     let same = lists_none(&kept);
     let text = told_text(alloc, both, asked, sides, &kept)?;
     Ok(Compared { text, same })

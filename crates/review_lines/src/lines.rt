@@ -1,9 +1,11 @@
 //! The lines of a comparison.
 ghost use Rattle.std.specs.Prelude.{◌≡◌, ◌++◌, cond, unwrap_or, option_map, [], string_bytes, OnOk, IfErr};
 ghost use Rattle.review_text.specs.Hidden.{visible};
-ghost use Rattle.review_lines.specs.Lines.{column, place_text, more_text, others_text};
+ghost use Rattle.review_lines.specs.Lines.{column, place_text, more_text, rest_object, rest_json, rest_text, others_text};
 
+use crate::stat::{put_number, put_whole};
 use review_args::{Diff, Form};
+use review_formats::LeftOut;
 use review_text::json::text_of;
 use review_text::put_visible;
 use review_values::Members;
@@ -233,6 +235,39 @@ pub fn put_more(out: &mut String, form: Form) -> Result<(), Fault>
         Form::Json => out.push_str("{\"kind\":\"more\"}\n")?,
     }
     Ok(())
+}
+
+/// Writes what no line tells as an object of JSON.
+fn put_rest_object(out: &mut String, left_out: LeftOut) -> Result<(), Fault>
+    ensures ok { OnOk result (string_bytes out.new ≡ string_bytes out.old ++ rest_object left_out) }
+    ensures err { IfErr result (λ fault. fault ≡ Fault.OutOfMemory) }
+{
+    put_number(out, "{\"differences\":", left_out.differences)?;
+    put_number(out, ",\"kind\":\"more\",\"moves\":", left_out.moves)?;
+    put_whole(out, left_out.whole)?;
+    Ok(())
+}
+
+/// The same, if there is something.
+fn put_rest_json(out: &mut String, left_out: LeftOut) -> Result<(), Fault>
+    ensures ok { OnOk result (string_bytes out.new ≡ string_bytes out.old ++ rest_json left_out) }
+    ensures err { IfErr result (λ fault. fault ≡ Fault.OutOfMemory) }
+{
+    if left_out.is_none() {
+        return Ok(());
+    }
+    put_rest_object(out, left_out)
+}
+
+/// Writes in the form that is asked for what no line tells, if there is something.
+pub(crate) fn put_rest(out: &mut String, form: Form, left_out: LeftOut) -> Result<(), Fault>
+    ensures ok { OnOk result (string_bytes out.new ≡ string_bytes out.old ++ rest_text form left_out) }
+    ensures err { IfErr result (λ fault. fault ≡ Fault.OutOfMemory) }
+{
+    match form {
+        Form::Line => left_out.put_between(out, "... not listed: ", "\n"),
+        Form::Json => put_rest_json(out, left_out),
+    }
 }
 
 /// How many other differences a line tells, on a line of its own behind a tab, if there are some.

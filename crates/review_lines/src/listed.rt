@@ -5,12 +5,12 @@ ghost use Rattle.yaml_graph.specs.GraphView.{roots_of, tree};
 ghost use Rattle.yaml_rank.specs.RanksView.{RanksAre};
 ghost use Rattle.review_lines.specs.Listed.{ListsFound, ListsStreams};
 
-use crate::diff::lines_of;
+use crate::diff::{left_out, lines_of};
 use crate::lines::Line;
 use crate::moved::lines_of_moves;
-use crate::nodes::find_places;
-use crate::search::{lists_none, room_for, searched};
+use crate::search::{lists_none, searched};
 use review_args::Diff;
+use review_formats::LeftOut;
 use review_ignore::kept;
 use review_patterns::Pattern;
 use review_places::trace::Traced;
@@ -19,16 +19,16 @@ use std::alloc::Global;
 use yaml_diff::Found;
 use yaml_text::fault::Fault;
 
-/// What a comparison lists: its differences, the pairs of items that moved, whether these are all, and whether no difference is listed.
+/// What a comparison lists: its differences, the pairs of items that moved, what is left out, and whether nothing was found.
 #[derive(Drop)]
 pub struct Listed {
     pub lines: Vec<Line>,
     pub moves: Vec<Line>,
-    pub whole: bool,
+    pub left_out: LeftOut,
     pub same: bool,
 }
 
-/// The lines of differences that were found, with their places where both sides are given with their traces.
+/// The lines of what was found, as many as are asked for, with places where both sides are given with their traces.
 #[tactic(auto, using(crate::proofs::CompareLaws::found_listed))]
 fn lines_listed(
     alloc: Global,
@@ -41,15 +41,14 @@ fn lines_listed(
     ensures ok { IfOk result (ListsFound both.now asked.now found.now) }
     ensures err { IfErr result (λ fault. fault ≡ Fault.OutOfMemory) }
 {
-    let traced = sides;
-    let sides = if found.list.is_empty() { None } else { sides };
-    let places = find_places(alloc, both, &found.list, sides)?;
-    let lines = lines_of(alloc, both, &found.list, asked, false, &places)?;
-    let moves = lines_of_moves(alloc, both, asked, traced, found, false, false)?;
+    let lines = lines_of(alloc, both, &found.list, asked, false, sides)?;
+    let room = asked.lines.saturating_sub(lines.len());
+    let moves = lines_of_moves(alloc, both, asked, sides, found, room, false)?;
+    let left_out = left_out(found, &lines, &moves);
     Ok(Listed {
         lines,
         moves: moves.lines,
-        whole: found.whole && moves.whole,
+        left_out,
         same: lists_none(found),
     })
 }
@@ -69,7 +68,7 @@ pub fn list_differences(
     ensures same { IfOk result (λ told. ignored.now ≡ [] → ((told.same ≡ true) ↔ Alike (map (λ i. tree both.now.graph i.0) (take both.now.documents (roots_of both.now.graph))) (map (λ i. tree both.now.graph i.0) (drop both.now.documents (roots_of both.now.graph))))) }
     ensures err { IfErr result (λ fault. fault ≡ Fault.OutOfMemory) }
 {
-    let found = searched(alloc, both, asked, ignored, false)?;
-    let kept = kept(alloc, both, ignored, found, room_for(asked.lines))?;
+    let found = searched(alloc, both, asked, ignored)?;
+    let kept = kept(alloc, both, ignored, found)?;
     lines_listed(alloc, both, asked, sides, &kept)
 }

@@ -1,18 +1,18 @@
 //! The lines of items that moved.
-ghost use Rattle.std.specs.Prelude.{◌≡◌, ◌++◌, ◌∷◌, None, cond, take, option_map, is_some, string_bytes, OnOk, IfOk, IfSome, IfErr};
+ghost use Rattle.std.specs.Prelude.{◌≡◌, ◌++◌, ◌-◌, length, None, cond, take, option_map, is_some, string_bytes, OnOk, IfOk, IfSome, IfErr};
+ghost use Rattle.std.specs.List.{sum_by};
 ghost use Rattle.yaml_rank.specs.RanksView.{RanksAre};
 ghost use Rattle.yaml_diff.specs.Lines.{way_of};
-ghost use Rattle.yaml_diff.specs.declared.difference.Step.TheVariants.{Item};
 ghost use Rattle.review_labels.specs.Labels.{label, AreKeys};
-ghost use Rattle.review_lines.specs.Compared.{is_numbered, room_of, path_as, is_plain, last_of, range_of, before_text, range_path, group_text, moves_room, IsFirst, TellsGroup, TellsGroups, TellsMoves};
+ghost use Rattle.review_lines.specs.Compared.{is_numbered, room_of, path_as, is_plain, list_path, last_of, range_of, before_text, range_path, group_text, IsFirst, TellsGroup, TellsGroups, TellsMoves};
 
 use crate::diff::{is_numbered, members_in, room_of};
 use crate::lines::Line;
 use crate::nodes::{find_places, place_at};
-use crate::search::room_for;
 use crate::strings::Budget;
 use review_args::{Diff, Paths};
 use review_folds::{Group, groups};
+use review_ignore::item_path;
 use review_labels::{Keys, label_of};
 use review_paths::pasted;
 use review_places::trace::Traced;
@@ -32,19 +32,6 @@ fn is_plain(paths: Paths) -> bool
         Paths::Plain => true,
         Paths::Jq | Paths::JsonPointer => false,
     }
-}
-
-/// The path to the items of a move.
-fn item_path(alloc: Global, one: &Move) -> Result<Vec<Step>, Fault>
-    ensures ok { IfOk result (λ path. path.items ≡ Item one.now.places ∷ one.now.path.items) }
-    ensures err { IfErr result (λ fault. fault ≡ Fault.OutOfMemory) }
-{
-    let mut path = Vec::new(alloc);
-    path.push(Step::Item(one.places))?;
-    for step in &one.path {
-        path.push(*step)?;
-    }
-    Ok(path)
 }
 
 /// The first move of a group as a difference that has no node on either side, and whose path leads to the items.
@@ -155,6 +142,24 @@ fn path_of_both(
     }
 }
 
+/// The path to a list on both sides. Of all documents it is a dot, as the pattern that matches them.
+#[tactic(auto, using(crate::proofs::MoveLaws::list_pasted, crate::proofs::MoveLaws::list_inside, crate::proofs::MoveLaws::list_of_all))]
+fn list_path(alloc: Global, both: &Both<'_>, paths: Paths, list: &[Step]) -> Result<String, Fault>
+    requires ranked { RanksAre both.now.graph both.now.ranks }
+    ensures ok { IfOk result (λ s. string_bytes s ≡ list_path paths (is_numbered both.now) (way_of both.now.graph list.now)) }
+    ensures err { IfErr result (λ fault. fault ≡ Fault.OutOfMemory) }
+{
+    if !is_plain(paths) {
+        return path_of_both(alloc, both, paths, list);
+    }
+    if !list.is_empty() {
+        return path_of_both(alloc, both, paths, list);
+    }
+    let mut out = String::new(alloc);
+    out.push('.')?;
+    Ok(out)
+}
+
 /// The path of a group, where this one leads to its first items: that of the list of which only the order changed, that of neighbours
 /// that moved together, or that of the items alone.
 #[tactic(auto, using(crate::proofs::MoveLaws::group_none, crate::proofs::MoveLaws::group_whole, crate::proofs::MoveLaws::group_range, crate::proofs::MoveLaws::group_one))]
@@ -174,7 +179,7 @@ fn group_path(
         return Ok(String::new(alloc));
     };
     if whole {
-        return path_of_both(alloc, both, paths, list);
+        return list_path(alloc, both, paths, list);
     }
     match last {
         Some(last) => range_path(alloc, both, list, *first, last),
@@ -267,7 +272,7 @@ fn lines_of_groups(
 {
     let firsts = firsts(alloc, moves, groups)?;
     let sides = if firsts.is_empty() { None } else { sides };
-    let places = find_places(alloc, both, &firsts, sides)?;
+    let places = find_places(alloc, both, &firsts, sides, firsts.len())?;
     let mut lines = Vec::new(alloc);
     for (number, group) in groups.iter().enumerate() {
         let at = (
@@ -296,15 +301,8 @@ fn keys_if(alloc: Global, both: &Both<'_>, has_labels: bool) -> Result<Option<Ke
 #[derive(Drop)]
 pub(crate) struct MoveLines {
     pub(crate) lines: Vec<Line>,
-    /// Whether they tell all pairs.
-    pub(crate) whole: bool,
-}
-
-/// How many lines of moves there is room for, behind those of the differences.
-fn moves_room(asked: &Diff<'_>, found: &Found) -> usize
-    ensures { result ≡ moves_room asked.now found.now }
-{
-    room_for(asked.lines).saturating_sub(found.list.len())
+    /// How many pairs they do not tell.
+    pub(crate) untold: usize,
 }
 
 /// So many groups, or all if there are fewer.
@@ -314,8 +312,19 @@ fn first_groups(groups: &[Group], room: usize) -> &[Group]
     groups.get(..room).unwrap_or(groups)
 }
 
-/// The lines of pairs of items that moved, as far as there is room, each with a label if that is asked for. With folds, one line may tell
-/// several pairs.
+/// How many moves are in none of these groups.
+fn untold(moves: &[Move], groups: &[Group]) -> usize
+    ensures { result ≡ length moves.now - sum_by (λ group. group.end - group.first) groups.now }
+{
+    let mut count = moves.len();
+    for group in groups {
+        count = count.saturating_sub(group.end.saturating_sub(group.first));
+    }
+    count
+}
+
+/// The lines of pairs of items that moved, at most so many. In columns each has a label, and one line may tell several pairs, if that is
+/// asked for.
 #[tactic(auto, using(crate::proofs::CompareLaws::moves_told, crate::proofs::CompareLaws::moves_untold))]
 pub(crate) fn lines_of_moves(
     alloc: Global,
@@ -323,24 +332,24 @@ pub(crate) fn lines_of_moves(
     asked: &Diff<'_>,
     sides: Option<(Traced<'_>, Traced<'_>)>,
     found: &Found,
-    folds: bool,
-    has_labels: bool,
+    room: usize,
+    columns: bool,
 ) -> Result<MoveLines, Fault>
     requires ranked { RanksAre both.now.graph both.now.ranks }
-    ensures ok { IfOk result (λ told. TellsMoves folds has_labels both.now asked.now found.now told.lines.items told.whole) }
+    ensures ok { IfOk result (λ told. TellsMoves columns both.now asked.now found.now room told.lines.items told.untold) }
     ensures err { IfErr result (λ fault. fault ≡ Fault.OutOfMemory) }
 {
+    let folds = columns && asked.folds;
     let groups = groups(alloc, folds, is_plain(asked.paths), found)?;
-    let room = moves_room(asked, found);
     let told = first_groups(&groups, room);
-    let whole = groups.len() <= room;
+    let untold = untold(&found.moves, told);
     if told.is_empty() {
         return Ok(MoveLines {
             lines: Vec::new(alloc),
-            whole,
+            untold,
         });
     }
-    let keys = keys_if(alloc, both, has_labels)?;
+    let keys = keys_if(alloc, both, columns)?;
     let lines = lines_of_groups(alloc, both, asked, &found.moves, told, &keys, sides)?;
-    Ok(MoveLines { lines, whole })
+    Ok(MoveLines { lines, untold })
 }

@@ -103,13 +103,15 @@ fn seat_at(
     finder.seat(alloc, difference.path.get(1..).unwrap_or(&[]))
 }
 
-/// Where the nodes of one side stand.
+/// Where the nodes of one side stand: of the first differences, as many as lines are asked for, or of all where there are aliases, through
+/// which one line may tell several differences.
 fn side_places(
     alloc: Global,
     both: &Both<'_>,
     list: &[Difference],
     hand: Hand,
     side: Traced<'_>,
+    lines: usize,
 ) -> Result<SidePlaces, Fault>
     ensures err { IfErr result (λ fault. fault ≡ Fault.OutOfMemory) }
 {
@@ -118,6 +120,9 @@ fn side_places(
     let mut offsets = Vec::new(alloc);
     let mut marks = Vec::new(alloc);
     for (number, difference) in list.iter().enumerate() {
+        if number >= lines && !finder.has_aliases() {
+            break;
+        }
         let seat = seat_at(alloc, &mut finder, difference, hand)?;
         if let Some(seat) = seat {
             if has_node(difference, hand) {
@@ -202,19 +207,20 @@ fn spread(alloc: Global, places: &[(usize, Place)], len: usize) -> Result<Vec<Op
     Ok(list)
 }
 
-/// The places of both sides' nodes; none where they are not asked for.
+/// The places of both sides' nodes, of as many differences as lines are asked for; none where they are not asked for.
 pub(crate) fn find_places(
     alloc: Global,
     both: &Both<'_>,
     list: &[Difference],
     sides: Option<(Traced<'_>, Traced<'_>)>,
+    lines: usize,
 ) -> Result<Places, Fault>
     ensures err { IfErr result (λ fault. fault ≡ Fault.OutOfMemory) }
 {
     match sides {
         Some((left, right)) => {
-            let lefts = side_places(alloc, both, list, Hand::Left, left)?;
-            let rights = side_places(alloc, both, list, Hand::Right, right)?;
+            let lefts = side_places(alloc, both, list, Hand::Left, left, lines)?;
+            let rights = side_places(alloc, both, list, Hand::Right, right, lines)?;
             Ok(Places {
                 left: spread(alloc, &lefts.places, list.len())?,
                 right: spread(alloc, &rights.places, list.len())?,

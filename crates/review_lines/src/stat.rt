@@ -79,7 +79,7 @@ fn put_line(out: &mut String, found: &Found, right: &str) -> Result<(), Fault>
 }
 
 /// Writes what stands before a member's number, and the number.
-fn put_number(out: &mut String, front: &str, number: usize) -> Result<(), Fault>
+pub(crate) fn put_number(out: &mut String, front: &str, number: usize) -> Result<(), Fault>
     ensures ok { OnOk result (string_bytes out.new ≡ string_bytes out.old ++ (front.now ++ decimal number)) }
     ensures err { IfErr result (λ fault. fault ≡ Fault.OutOfMemory) }
 {
@@ -88,8 +88,8 @@ fn put_number(out: &mut String, front: &str, number: usize) -> Result<(), Fault>
     Ok(())
 }
 
-/// Writes whether the numbers are all, and the object's end.
-fn put_whole(out: &mut String, whole: bool) -> Result<(), Fault>
+/// Writes whether all were looked for, and the object's end.
+pub(crate) fn put_whole(out: &mut String, whole: bool) -> Result<(), Fault>
     ensures ok { OnOk result (string_bytes out.new ≡ string_bytes out.old ++ whole_text whole) }
     ensures err { IfErr result (λ fault. fault ≡ Fault.OutOfMemory) }
 {

@@ -1,18 +1,14 @@
 -- What is shown of the texts of one line.
-use Rattle.std.proofs.Common.{inl, inr, ◌≡◌, ◌<◌, ◌≤◌, ℕ, zero, suc, ◌+◌, ◌==◌, true, false, cond, List, [], ◌∷◌, ◌++◌, length, drop, get_or, min, refl, sym, ◌∙◌, ap, ap₂, subst, arith, add-one, nat_lt, nat_le}
-use Rattle.std.specs.Prelude.{Option, Some, None, unwrap_or, Result, Ok, Err, IfOk, OnOk, String, string_bytes, codes}
+use Rattle.std.proofs.Common.{◌≡◌, ◌<◌, ◌≤◌, ℕ, zero, suc, ◌+◌, ◌==◌, true, false, cond, List, [], ◌∷◌, ◌++◌, length, drop, take, get_or, max, refl, sym, ◌∙◌, ap, ap₂, arith, add-one, append_assoc, nat_lt, nat_le}
+use Rattle.std.specs.Prelude.{Option, Some, None, Result, Ok, Err, IfOk, OnOk, String, string_bytes, codes}
 use Rattle.std.specs.Option.{option_map}
 use Rattle.std.specs.declared.alloc.Global.{Global}
-use Rattle.std.specs.List.{Contains, slice_get}
-use Rattle.std.proofs.lemmas.List.{length-map}
-use Rattle.std.proofs.lemmas.Bool.{cond_both, cases_lt}
+use Rattle.std.specs.List.{slice_get}
+use Rattle.std.proofs.lemmas.List.{append-nil, drop_all, drop_more, take_more}
+use Rattle.std.proofs.lemmas.Bool.{cond_both}
 use Rattle.std.proofs.lemmas.Bool.Decides.{nat_tests}
-use Rattle.std.proofs.lemmas.List.Elements.{Contains-push, Contains-append_left, Contains-push_cases}
-use Rattle.review_merge.specs.Parts.{Values, values_in, value_at, is_cut_alike, AreAlike, ArePairs, common, difference, IsFirst, IsHidden, node_value, node_texts, part_start, part_of}
+use Rattle.review_merge.specs.Parts.{Values, values_in, common, common_with, last_difference, own_place, looks_like, place_behind, part_behind, parts_behind, part_start, part_of}
 use Rattle.review_text.specs.Shown.{front, shown}
-use Rattle.yaml_graph.specs.declared.node.NodeId.{NodeId}
-use Rattle.yaml_graph.specs.declared.graph.Graph.{Graph}
-use Rattle.std.proofs.lemmas.Option.{slice_get_past}
 
 -- ---- two texts
 
@@ -37,112 +33,56 @@ common_differs (c ∷ x) (d ∷ y) zero b l e h =
     cond_both (c == d) (suc (common x y)) 0 (λ z. z ≡ 0) (λ t. absurd (h (let q : c ≡ d = grind (arith, nat_tests) in let r : d ≡ b = cc in ap Some r))) (λ f. refl)
 common_differs (c ∷ x) (d ∷ y) (suc i) b l e h = common_differs x y i b (omega (arith, l)) e h
 
--- ---- pairs
+-- ---- the last of some places
 
--- those of the first so many sides, and of one side with the first so many before it
-pub record AlikeBelow (cuts : Values) (at before : ℕ) (pairs : List (ℕ × ℕ)) : Type 0 where
-  pub each : (j k : ℕ) → Contains pairs (j, k) → AreAlike cuts j k
-  pub all : (j k : ℕ) → k < at → AreAlike cuts j k → Contains pairs (j, k)
-  pub here : (j : ℕ) → j < before → AreAlike cuts j at → Contains pairs (j, at)
+last_more : (x : List ℕ) (values : Values) (value : Option (List ℕ)) → last_difference x (values ++ value ∷ []) ≡ max (last_difference x values) (common_with x value)
+last_more x [] value = omega arith
+last_more x (v ∷ values) value = let e = last_more x values value in omega (arith, e)
 
-pub alike_first : (cuts : Values) (at : ℕ) (pairs : List (ℕ × ℕ)) → ArePairs cuts at pairs → AlikeBelow cuts at 0 pairs
-alike_first cuts at pairs h = record { each = h.each; all = h.all; here = λ j l a. absurd (omega (arith, l)) }
+pub last_next : (x : List ℕ) (before after : Values) (value : Option (List ℕ)) (last new : ℕ) → after ≡ before ++ value ∷ [] → new ≡ max last (common_with x value) → last ≡ last_difference x before → new ≡ last_difference x after
+last_next x before after value last new e n h = n ∙ ap (λ z. max z (common_with x value)) h ∙ sym (last_more x before value) ∙ ap (last_difference x) (sym e)
 
-pub alike_more : (cuts : Values) (at before : ℕ) (pairs more : List (ℕ × ℕ)) → before < at → is_cut_alike (value_at cuts before) (value_at cuts at) ≡ true → more ≡ pairs ++ (before, at) ∷ [] → AlikeBelow cuts at before pairs → AlikeBelow cuts at (before + 1) more
-alike_more cuts at before pairs more l t e h = subst (AlikeBelow cuts at (before + 1)) (sym e) (record {
-  each = λ j k c. elim (Contains-push_cases pairs (before, at) (j, k) c) [ inl d ↦ h.each j k d | inr q ↦ let a : before ≡ j = ap (λ z. z.0) q in let b : at ≡ k = ap (λ z. z.1) q in subst (λ z. AreAlike cuts j z) b (subst (λ z. AreAlike cuts z at) a (l, t)) ];
-  all = λ j k m a. Contains-append_left pairs ((before, at) ∷ []) (j, k) (h.all j k m a);
-  here = λ j m a. elim (cases_lt j before) [
-    | inl q ↦ Contains-append_left pairs ((before, at) ∷ []) (j, at) (h.here j q a)
-    | inr q ↦ let r : before ≡ j = omega arith in subst (λ z. Contains (pairs ++ (before, at) ∷ []) (z, at)) r (Contains-push pairs (before, at))
-  ];
-})
+-- ---- texts behind others
 
-pub alike_not : (cuts : Values) (at before : ℕ) (pairs : List (ℕ × ℕ)) → is_cut_alike (value_at cuts before) (value_at cuts at) ≡ false → AlikeBelow cuts at before pairs → AlikeBelow cuts at (before + 1) pairs
-alike_not cuts at before pairs f h = record {
-  each = h.each;
-  all = h.all;
-  here = λ j m a. elim (cases_lt j before) [
-    | inl q ↦ h.here j q a
-    | inr q ↦ let r : j ≡ before = omega arith in absurd (let s = subst (λ z. is_cut_alike (value_at cuts z) (value_at cuts at) ≡ true) r a.1 in cc)
-  ];
-}
+pub values_end : (xs : List (Option (String Global))) (x : Option (String Global)) → values_in (xs ++ x ∷ []) ≡ values_in xs ++ option_map string_bytes x ∷ []
+values_end [] x = refl
+values_end (y ∷ xs) x = ap (λ z. option_map string_bytes y ∷ z) (values_end xs x)
 
-pub alike_done : (cuts : Values) (at before : ℕ) (pairs : List (ℕ × ℕ)) → at ≤ before → AlikeBelow cuts at before pairs → ArePairs cuts (at + 1) pairs
-alike_done cuts at before pairs l h = record {
-  each = h.each;
-  all = λ j k m a. elim (cases_lt k at) [
-    | inl q ↦ h.all j k q a
-    | inr q ↦ let r : at ≡ k = omega arith in subst (λ z. Contains pairs (j, z)) r (h.here j (omega (arith, l, r, a.0)) (subst (AreAlike cuts j) (sym r) a))
-  ];
-}
+-- a list of texts from one place on, and up to it
+pub values_from : (texts : List (Option (String Global))) (i : ℕ) (d text : Option (String Global)) → i < length texts → text ≡ get_or texts i d → values_in (drop i texts) ≡ option_map string_bytes text ∷ values_in (drop (i + 1) texts)
+values_from texts i d text l e = ap values_in (drop_more texts i d l) ∙ ap (λ z. option_map string_bytes z ∷ values_in (drop (i + 1) texts)) (sym e)
 
-pub no_pairs : (cuts : Values) → ArePairs cuts 0 []
-no_pairs cuts = record { each = λ j k c. absurd (omega (arith, c.1)); all = λ j k l a. absurd (omega (arith, l)) }
+pub values_to : (texts : List (Option (String Global))) (i : ℕ) (d text : Option (String Global)) → i < length texts → text ≡ get_or texts i d → values_in (take (i + 1) texts) ≡ values_in (take i texts) ++ option_map string_bytes text ∷ []
+values_to texts i d text l e = ap values_in (take_more texts i d l) ∙ values_end (take i texts) (get_or texts i d) ∙ ap (λ z. values_in (take i texts) ++ option_map string_bytes z ∷ []) (sym e)
 
--- ---- the first place
+pub some_from : (texts : List (Option (String Global))) (i : ℕ) (d text : Option (String Global)) (y : String Global) → i < length texts → text ≡ get_or texts i d → text ≡ Some y → values_in (drop i texts) ≡ Some (string_bytes y) ∷ values_in (drop (i + 1) texts)
+some_from texts i d text y l e s = values_from texts i d text l e ∙ ap (λ z. option_map string_bytes z ∷ values_in (drop (i + 1) texts)) s
 
-pub first_none : (wholes : Values) (place : ℕ) → place ≡ 65536 → IsFirst wholes [] place
-first_none wholes place e = record { first = λ j k c. absurd (omega (arith, c.1)); within = omega (arith, e); is = inl e }
+pub none_from : (texts : List (Option (String Global))) (i : ℕ) (d text : Option (String Global)) → i < length texts → text ≡ get_or texts i d → ((y : String Global) → text ≡ Some y → ⊥) → values_in (drop i texts) ≡ None ∷ values_in (drop (i + 1) texts)
+none_from texts i d text l e n = values_from texts i d text l e ∙ ap (λ z. option_map string_bytes z ∷ values_in (drop (i + 1) texts)) (none text n)
+  where
+    none : (o : Option (String Global)) → ((y : String Global) → o ≡ Some y → ⊥) → o ≡ None
+    none None n = refl
+    none (Some y) n = absurd (n y refl)
 
-pub first_next : (wholes : Values) (pairs more : List (ℕ × ℕ)) (pair : ℕ × ℕ) (place new : ℕ) → more ≡ pairs ++ pair ∷ [] → new ≡ min place (difference wholes pair.0 pair.1) → IsFirst wholes pairs place → IsFirst wholes more new
-first_next wholes pairs more pair place new e n h = subst (λ z. IsFirst wholes z new) (sym e) (record {
-  first = λ j k c. elim (Contains-push_cases pairs pair (j, k) c) [
-    | inl d ↦ let q = h.first j k d in omega (arith, n, q)
-    | inr q ↦ let a : pair.0 ≡ j = ap (λ z. z.0) q in let b : pair.1 ≡ k = ap (λ z. z.1) q in subst (λ z. new ≤ difference wholes j z) b (subst (λ z. new ≤ difference wholes z pair.1) a (omega (arith, n)))
-  ];
-  within = let w = h.within in omega (arith, n, w);
-  is = elim (cases_lt (difference wholes pair.0 pair.1) place) [
-    | inl q ↦ inr (pair.0, pair.1, Contains-push pairs pair, omega (arith, n, q))
-    | inr q ↦ let same : new ≡ place = omega (arith, n, q) in elim h.is [
-      | inl a ↦ inl (same ∙ a)
-      | inr b ↦ inr (b.0, b.1, Contains-append_left pairs (pair ∷ []) (b.0, b.1) b.2, same ∙ b.3)
-    ]
-  ];
-})
+pub behind_like : (wholes rest more before : Values) (x y : List ℕ) (place : ℕ) → rest ≡ Some y ∷ more → looks_like wholes x y ≡ true → place ≡ common x y → place_behind wholes rest x ≡ place_behind wholes before x → place ≡ place_behind wholes before x
+behind_like wholes rest more before x y place e t p h = p ∙ sym (ap (λ z. cond z (common x y) (place_behind wholes more x)) t) ∙ ap (λ z. place_behind wholes z x) (sym e) ∙ h
 
--- ---- a text of a list
+pub behind_unlike : (wholes rest more before : Values) (x y : List ℕ) → rest ≡ Some y ∷ more → looks_like wholes x y ≡ false → place_behind wholes rest x ≡ place_behind wholes before x → place_behind wholes more x ≡ place_behind wholes before x
+behind_unlike wholes rest more before x y e f h = sym (ap (λ z. cond z (common x y) (place_behind wholes more x)) f) ∙ ap (λ z. place_behind wholes z x) (sym e) ∙ h
 
-pub value_is : (texts : List (Option (String Global))) (i : ℕ) (d : Option (String Global)) → i < length texts → d ≡ get_or texts i d → option_map string_bytes d ≡ value_at (values_in texts) i
-value_is [] i d l e = absurd (omega (arith, l))
-value_is (t ∷ texts) zero d l e = ap (option_map string_bytes) e
-value_is (t ∷ texts) (suc i) d l e = value_is texts i d (omega (arith, l)) e
+pub behind_none : (wholes rest more before : Values) (x : List ℕ) → rest ≡ None ∷ more → place_behind wholes rest x ≡ place_behind wholes before x → place_behind wholes more x ≡ place_behind wholes before x
+behind_none wholes rest more before x e h = ap (λ z. place_behind wholes z x) (sym e) ∙ h
 
--- ---- the pairs of all sides
+pub behind_end : (wholes : Values) (texts : List (Option (String Global))) (i : ℕ) (x : List ℕ) (place : ℕ) → length texts ≤ i → place ≡ own_place wholes x → place_behind wholes (values_in (drop i texts)) x ≡ place_behind wholes (values_in texts) x → place ≡ place_behind wholes (values_in texts) x
+behind_end wholes texts i x place l p h = p ∙ ap (λ z. place_behind wholes (values_in z) x) (sym (drop_all i texts l)) ∙ h
 
-alike_none : (x : Option (List ℕ)) → is_cut_alike x None ≡ false
-alike_none None = refl
-alike_none (Some x) = refl
+pub parts_end : (wholes before parts all : Values) (texts : List (Option (String Global))) (i : ℕ) → length texts ≤ i → parts ++ parts_behind wholes before (values_in (drop i texts)) ≡ all → parts ≡ all
+parts_end wholes before parts all texts i l h = sym (append-nil parts) ∙ ap (λ z. parts ++ parts_behind wholes before (values_in z)) (sym (drop_all i texts l)) ∙ h
 
-alike_within : (cuts : Values) (j k : ℕ) → AreAlike cuts j k → k < length cuts
-alike_within cuts j k a = elim (cases_lt k (length cuts)) [
-  | inl q ↦ q
-  | inr q ↦ let e : is_cut_alike (value_at cuts j) (value_at cuts k) ≡ false = ap (λ z. is_cut_alike (value_at cuts j) (unwrap_or z None)) (slice_get_past cuts k q) ∙ alike_none (value_at cuts j) in absurd (let t = a.1 in cc)
-]
-
-pub hidden_first : (cuts wholes : Values) (pairs : List (ℕ × ℕ)) (place : ℕ) → ArePairs cuts (length cuts) pairs → IsFirst wholes pairs place → IsHidden cuts wholes place
-hidden_first cuts wholes pairs place h f = record {
-  first = λ j k a. f.first j k (h.all j k (alike_within cuts j k a) a);
-  within = f.within;
-  is = elim f.is [ inl a ↦ inl a | inr b ↦ inr (b.0, b.1, h.each b.0 b.1 b.2, b.3) ];
-}
-
-pub pairs_some : (cuts : Values) (count : ℕ) (pairs : List (ℕ × ℕ)) → ArePairs cuts count pairs → 0 < length pairs → (j k : ℕ) × AreAlike cuts j k
-pairs_some cuts count [] h l = absurd (omega (arith, l))
-pairs_some cuts count (p ∷ pairs) h l = (p.0, p.1, h.each p.0 p.1 (0, omega arith, refl))
-
-pub pairs_none : (cuts : Values) (pairs : List (ℕ × ℕ)) → ArePairs cuts (length cuts) pairs → length pairs ≡ 0 → (j k : ℕ) → AreAlike cuts j k → ⊥
-pairs_none cuts pairs h e j k a = let c = h.all j k (alike_within cuts j k a) a in let l = c.1 in omega (arith, e, l)
-
-pub pairs_moved : (texts items : List (Option (String Global))) (g : Graph) (nodes : List (Option NodeId)) (pairs more : List (ℕ × ℕ)) → texts ≡ items → values_in items ≡ node_texts g 60 nodes → more ≡ pairs → ArePairs (values_in texts) (length texts) pairs
-    → ArePairs (node_texts g 60 nodes) (length nodes) more
-pairs_moved texts items g nodes pairs more e h m p =
-    let same : values_in texts ≡ node_texts g 60 nodes = ap values_in e ∙ h in
-    let count : length texts ≡ length nodes = sym (length-map texts (option_map string_bytes)) ∙ ap length same ∙ length-map nodes (node_value g 60) in
-    subst (λ z. ArePairs (node_texts g 60 nodes) (length nodes) z) (sym m) (subst (λ z. ArePairs (node_texts g 60 nodes) z pairs) count (subst (λ z. ArePairs z (length texts) pairs) same p))
-
-pub pairs_all : (g : Graph) (nodes : List (Option NodeId)) (pairs : List (ℕ × ℕ)) → ArePairs (node_texts g 60 nodes) (length nodes) pairs → ArePairs (node_texts g 60 nodes) (length (node_texts g 60 nodes)) pairs
-pairs_all g nodes pairs h = subst (λ z. ArePairs (node_texts g 60 nodes) z pairs) (sym (length-map nodes (node_value g 60))) h
+pub parts_next : (wholes before rest after more parts new : Values) (value part : Option (List ℕ)) → rest ≡ value ∷ more → after ≡ before ++ value ∷ [] → part ≡ option_map (part_behind wholes before) value → new ≡ parts ++ part ∷ [] → parts ++ parts_behind wholes before rest ≡ parts_behind wholes [] wholes → new ++ parts_behind wholes after more ≡ parts_behind wholes [] wholes
+parts_next wholes before rest after more parts new value part e a p n h =
+    ap₂ (λ y z. y ++ parts_behind wholes z more) n a ∙ append_assoc parts (part ∷ []) (parts_behind wholes (before ++ value ∷ []) more) ∙ ap (λ z. parts ++ z ∷ parts_behind wholes (before ++ value ∷ []) more) p ∙ ap (λ z. parts ++ parts_behind wholes before z) (sym e) ∙ h
 
 -- ---- a part of a text
 

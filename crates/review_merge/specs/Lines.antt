@@ -10,7 +10,7 @@ use Rattle.yaml_diff.specs.Lines.{way_of}
 use Rattle.yaml_diff.specs.declared.difference.Step.{Step}
 use Rattle.yaml_diff.specs.declared.difference.Step.TheVariants as shown
 use Rattle.yaml_conflicts.specs.declared.sides.Step as code
-use Rattle.yaml_conflicts.specs.declared.sides.Step.TheVariants.{Item, Value}
+use Rattle.yaml_conflicts.specs.declared.sides.Step.TheVariants.{Document, Value}
 use Rattle.yaml_conflicts.specs.declared.sides.Sides.{Sides}
 use Rattle.yaml_conflicts.specs.declared.sides.Conflict.{Conflict}
 use Rattle.yaml_conflicts.specs.declared.streams.Roots.{Roots}
@@ -90,9 +90,9 @@ streams_text given color roots =
 
 -- ---- lines
 
--- an item has one place on all sides
+-- a document has one place on all sides
 abbrev pub shown_step : code.Step → Step
-shown_step (Item place) = shown.Item (Twice place place)
+shown_step (Document place) = shown.Item (Twice place place)
 shown_step (Value key) = shown.Value key
 
 abbrev pub steps_of : Conflict → List Step

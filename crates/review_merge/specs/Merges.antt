@@ -1,18 +1,20 @@
 -- What `merge3` promises.
 use Rattle.std.specs.Prelude.{◌≡◌, ℕ, zero, suc, Bool, true, false, cond, List, [], Option, Some, None}
 use Rattle.std.specs.Option.{is_some, option_map}
-use Rattle.yaml_definitions.specs.model.Tree.{Tree}
+use Rattle.yaml_definitions.specs.model.Tree.{Tree, Trees}
+use Rattle.yaml_definitions.specs.model.Same.{keyed_trees}
 use Rattle.yaml_definitions.specs.model.Means.{Means}
 use Rattle.yaml_text.specs.declared.counted.Counted.{Counted}
 use Rattle.yaml_text.specs.Writers.{Printed}
-use Rattle.yaml_merge.specs.Merge.{IsMerge, IsKeyed}
+use Rattle.yaml_graph.specs.TreeLists.{trees}
+use Rattle.yaml_merge.specs.Streams.{IsStreamMerge}
 use Rattle.review_files.specs.Named.{ReadsNamed}
 use Rattle.review_files.specs.Statuses.{fault_status}
 use Rattle.yaml_conflicts.specs.Streams.{FindsStreams}
 use Rattle.yaml_conflicts.specs.declared.streams.Roots.{Roots}
 use Rattle.yaml_conflicts.specs.declared.streams.Outcome.{Outcome}
 use Rattle.review_merge.specs.Four.{FourAre}
-use Rattle.review_merge.specs.Judged.{stream_of, verdict, RootsAre}
+use Rattle.review_merge.specs.Judged.{verdict, RootsAre}
 use Rattle.review_merge.specs.Lines.{sides_of, IsOutcomeText}
 use Rattle.review_merge.specs.declared.four.Four.{Four}
 use Rattle.review_merge.specs.declared.print.Print.{Print}
@@ -26,8 +28,8 @@ use Rattle.review_merge.specs.declared.merge.NoMerge.TheVariants as no
 
 -- what is asked: whether there is a merge of the three streams, or whether the fourth one is it
 abbrev pub Asks : Bool → (b o t m : List Tree) → Type 0
-Asks false b o t m = (n : Option Tree) × IsKeyed n × IsMerge (stream_of b) (stream_of o) (stream_of t) n
-Asks true b o t m = IsMerge (stream_of b) (stream_of o) (stream_of t) (stream_of m)
+Asks false b o t m = (n : Trees) × (keyed_trees n ≡ true) × IsStreamMerge (trees b) (trees o) (trees t) n
+Asks true b o t m = IsStreamMerge (trees b) (trees o) (trees t) (trees m)
 
 -- that is so, or not; nothing is said where it is not known
 abbrev pub Says : Bool → (b o t m : List Tree) → Option Bool → Type 0

@@ -1,7 +1,6 @@
 -- What is shown of the texts of one line.
-use Rattle.std.specs.Prelude.{◌≡◌, ◌⊎◌, ◌<◌, ◌≤◌, ◌-◌, ◌&&◌, ◌==◌, ℕ, suc, Bool, true, false, cond, nat_lt, bytes_eq, List, [], ◌∷◌, ◌++◌, length, map, sum, drop, codes, Option, Some, None, unwrap_or, String, string_bytes}
+use Rattle.std.specs.Prelude.{◌≡◌, ◌⊎◌, ◌<◌, ◌-◌, ◌&&◌, ◌==◌, ℕ, suc, Bool, true, false, not, cond, max, nat_lt, bytes_eq, List, [], ◌∷◌, ◌++◌, length, map, sum, drop, codes, Option, Some, None, unwrap_or, String, string_bytes}
 use Rattle.std.specs.Option.{option_map}
-use Rattle.std.specs.List.{Contains, slice_get}
 use Rattle.std.specs.declared.alloc.Global.{Global}
 use Rattle.yaml_graph.specs.declared.node.NodeId.{NodeId}
 use Rattle.yaml_graph.specs.declared.graph.Graph.{Graph}
@@ -31,20 +30,7 @@ budget = 67108864
 abbrev pub bytes_in : Values → ℕ
 bytes_in values = sum (map (λ value. length (unwrap_or value [])) values)
 
--- ---- texts that are cut alike
-
--- the text at a place, if there is one
-abbrev pub value_at : Values → ℕ → Option (List ℕ)
-value_at values k = unwrap_or (slice_get values k) None
-
--- the same text of more than 60 bytes
-abbrev pub is_cut_alike : Option (List ℕ) → Option (List ℕ) → Bool
-is_cut_alike (Some x) (Some y) = nat_lt 60 (length x) && bytes_eq x y
-is_cut_alike _ _ = false
-
--- two sides have such a text
-abbrev pub AreAlike : Values → ℕ → ℕ → Type 0
-AreAlike cuts j k = (j < k) × (is_cut_alike (value_at cuts j) (value_at cuts k) ≡ true)
+-- ---- where texts differ
 
 -- how many bytes two texts have in common before they differ, or one ends
 abbrev pub common : List ℕ → List ℕ → ℕ
@@ -52,32 +38,30 @@ common [] y = 0
 common (b ∷ x) [] = 0
 common (b ∷ x) (d ∷ y) = cond (b == d) (suc (common x y)) 0
 
--- the same of the texts of two sides
-abbrev pub difference : Values → ℕ → ℕ → ℕ
-difference wholes j k = common (unwrap_or (value_at wholes j) []) (unwrap_or (value_at wholes k) [])
+-- the same of another text, if there is one
+abbrev pub common_with : List ℕ → Option (List ℕ) → ℕ
+common_with x None = 0
+common_with x (Some y) = cond (bytes_eq x y) 0 (common x y)
 
--- the pairs of those of the first so many sides
-pub record ArePairs (cuts : Values) (count : ℕ) (pairs : List (ℕ × ℕ)) : Type 0 where
-  pub each : (j k : ℕ) → Contains pairs (j, k) → AreAlike cuts j k
-  pub all : (j k : ℕ) → k < count → AreAlike cuts j k → Contains pairs (j, k)
+-- the last place at which one of the other texts first differs from this one
+abbrev pub last_difference : List ℕ → Values → ℕ
+last_difference x [] = 0
+last_difference x (value ∷ values) = max (common_with x value) (last_difference x values)
 
--- the first place at which the texts of one of these pairs differ; the limit of whole texts where none do before it
-pub record IsFirst (wholes : Values) (pairs : List (ℕ × ℕ)) (place : ℕ) : Type 0 where
-  pub first : (j k : ℕ) → Contains pairs (j, k) → place ≤ difference wholes j k
-  pub within : place ≤ 65536
-  pub is : (place ≡ 65536) ⊎ ((j k : ℕ) × Contains pairs (j, k) × (place ≡ difference wholes j k))
+-- the text of the base, or no byte
+abbrev pub base_text : Values → List ℕ
+base_text (Some x ∷ values) = x
+base_text _ = []
 
--- The first place at which two whole texts differ that are cut alike; the limit of whole texts where no two differ before it.
-pub record IsHidden (cuts wholes : Values) (place : ℕ) : Type 0 where
-  pub first : (j k : ℕ) → AreAlike cuts j k → place ≤ difference wholes j k
-  pub within : place ≤ 65536
-  pub is : (place ≡ 65536) ⊎ ((j k : ℕ) × AreAlike cuts j k × (place ≡ difference wholes j k))
+-- where a text first differs from the base's; if it is the base's, where the last of the others does
+abbrev pub own_place : Values → List ℕ → ℕ
+own_place wholes x = cond (bytes_eq (base_text wholes) x) (last_difference x wholes) (common (base_text wholes) x)
 
 -- ---- a part of a text
 
--- 20 bytes before a place; 0 in a text of at most 60 bytes, and in one that ends before the place
+-- 20 bytes before a place; 0 where that is one of the first 40 bytes, and in a text of at most 60
 abbrev pub lead : ℕ → ℕ → ℕ
-lead place len = cond (nat_lt 60 len && nat_lt place len) (place - 20) 0
+lead place len = cond (nat_lt 60 len && nat_lt 39 place) (place - 20) 0
 
 -- where a character begins there
 abbrev pub part_start : ℕ → List ℕ → ℕ
@@ -87,25 +71,42 @@ part_start place text = last_border text (lead place (length text))
 abbrev pub part_of : ℕ → List ℕ → List ℕ
 part_of place text = cond (nat_lt 0 (part_start place text)) (codes "...") [] ++ shown 60 (drop (part_start place text) text)
 
+-- ---- texts that look alike
+
+-- another text, of which the same part would be shown
+abbrev pub looks_like : Values → List ℕ → List ℕ → Bool
+looks_like wholes x y = not (bytes_eq x y) && bytes_eq (part_of (own_place wholes x) x) (part_of (own_place wholes y) y)
+
+-- The place near which a text is shown behind some others: its own, or where it first differs from the first of these that it looks like.
+abbrev pub place_behind : (wholes before : Values) → List ℕ → ℕ
+place_behind wholes [] x = own_place wholes x
+place_behind wholes (None ∷ before) x = place_behind wholes before x
+place_behind wholes (Some y ∷ before) x = cond (looks_like wholes x y) (common x y) (place_behind wholes before x)
+
+-- the part of one text behind others, and those of texts one behind another
+abbrev pub part_behind : (wholes before : Values) → List ℕ → List ℕ
+part_behind wholes before x = part_of (place_behind wholes before x) x
+
+abbrev pub parts_behind : (wholes before values : Values) → Values
+parts_behind wholes before [] = []
+parts_behind wholes before (value ∷ values) = option_map (part_behind wholes before) value ∷ parts_behind wholes (before ++ value ∷ []) values
+
 -- ---- what a line has
 
 module _ (g : Graph) (nodes : List (Option NodeId)) (left after : ℕ) (values : Values) where
-  -- The first 60 bytes of each text, where no two of them are cut alike, or no more whole texts may be looked at.
-  pub record ShowsCuts : Type 0 where
+  -- The first 60 bytes of each text, where no more whole texts may be looked at.
+  pub record ShowsFronts : Type 0 where
+    pub none_left : left ≡ 0
     pub are : values ≡ node_texts g 60 nodes
-    pub why : (left ≡ 0) ⊎ ((j k : ℕ) → AreAlike (node_texts g 60 nodes) j k → ⊥)
     pub spent : after ≡ left
 
-  -- The part of each text where those first differ that are cut alike. The bytes of the whole texts are taken from those that may be looked at.
+  -- The part of each text by which it differs. The bytes of the whole texts are taken from those that may be looked at.
   pub record ShowsParts : Type 0 where
-    pub free : 0 < left
-    pub alike : (j k : ℕ) × AreAlike (node_texts g 60 nodes) j k
-    pub place : ℕ
-    pub hidden : IsHidden (node_texts g 60 nodes) (node_texts g 65536 nodes) place
-    pub are : values ≡ map (option_map (part_of place)) (node_texts g 65536 nodes)
+    pub some_left : 0 < left
+    pub are : values ≡ parts_behind (node_texts g 65536 nodes) [] (node_texts g 65536 nodes)
     pub spent : after ≡ left - bytes_in (node_texts g 65536 nodes)
 
   -- whole texts where they are asked for, or else one of these
   abbrev pub ShowsValues : Bool → Type 0
   ShowsValues true = (values ≡ node_texts g 65536 nodes) × (after ≡ left)
-  ShowsValues false = ShowsCuts ⊎ ShowsParts
+  ShowsValues false = ShowsFronts ⊎ ShowsParts

@@ -134,7 +134,7 @@ fn shown_step(step: Step) -> Shown
     ensures { result ≡ shown_step step }
 {
     match step {
-        Step::Item(place) => Shown::Item(Places::Both(place, place)),
+        Step::Document(place) => Shown::Item(Places::Both(place, place)),
         Step::Value(key) => Shown::Value(key),
     }
 }

@@ -1,10 +1,10 @@
 //! The texts of values that differ.
-ghost use Rattle.std.specs.Prelude.{◌≡◌, ◌≤◌, ℕ, ◌+◌, ◌-◌, ◌<◌, ◌++◌, [], cond, map, length, nat_lt, unwrap_or, codes, string_bytes, OnOk, IfOk, IfErr};
+ghost use Rattle.std.specs.Prelude.{◌≡◌, ◌-◌, ◌<◌, ◌++◌, [], cond, max, map, length, nat_lt, unwrap_or, codes, string_bytes, OnOk, IfOk, IfErr};
 ghost use Rattle.std.specs.Option.{option_map};
 ghost use Rattle.std.specs.Str.{IsCharBoundary};
 ghost use Rattle.yaml_rank.specs.RanksView.{RanksAre};
 ghost use Rattle.review_text.specs.Shown.{shown};
-ghost use Rattle.review_merge.specs.Parts.{values_in, node_value, node_texts, budget, bytes_in, value_at, is_cut_alike, ArePairs, common, IsFirst, lead, part_start, part_of, ShowsValues, ShowsParts};
+ghost use Rattle.review_merge.specs.Parts.{values_in, node_value, node_texts, budget, bytes_in, common, common_with, last_difference, base_text, own_place, lead, part_start, part_of, looks_like, place_behind, part_behind, parts_behind, ShowsValues, ShowsParts};
 
 use review_text::Both;
 use review_text::text::{CUT, WHOLE, front, node_text, put_all};
@@ -12,10 +12,13 @@ use std::alloc::Global;
 use yaml_graph::node::NodeId;
 use yaml_text::fault::Fault;
 
-/// How many bytes before the first difference are shown.
+/// How many bytes are shown before the place by which a text differs.
 const LEAD: usize = 20;
 
-/// How many bytes of texts are looked at for that in all lines together.
+/// A text is shown from its start if that place is before this one.
+const NEAR: usize = 40;
+
+/// How many bytes of texts are looked at to find that place in all lines together.
 const BYTES: usize = 64 * 1_024 * 1_024;
 
 /// What stands for bytes that are left out.
@@ -71,49 +74,6 @@ fn texts_in(
     Ok(texts)
 }
 
-/// Whether both are the same text, which is cut.
-fn are_cut_alike(one: &Option<String>, other: &Option<String>) -> bool
-    ensures { result ≡ is_cut_alike (option_map string_bytes one.now) (option_map string_bytes other.now) }
-{
-    match (one, other) {
-        (Some(one), Some(other)) => one.as_str().len() > CUT && one.as_str() == other.as_str(),
-        _ => false,
-    }
-}
-
-/// Adds the places before one at which a text is cut to the same one.
-fn add_alike(
-    pairs: &mut Vec<(usize, usize)>,
-    cuts: &[Option<String>],
-    at: usize,
-    cut: &Option<String>,
-) -> Result<(), Fault>
-    requires at { at < length cuts.now }
-    requires cut { option_map string_bytes cut.now ≡ value_at (values_in cuts.now) at }
-    requires pairs { ArePairs (values_in cuts.now) at pairs.old.items }
-    ensures ok { OnOk result (ArePairs (values_in cuts.now) (at + 1) pairs.new.items) }
-    ensures err { IfErr result (λ fault. fault ≡ Fault.OutOfMemory) }
-{
-    'cuts: for before in 0..at {
-        if are_cut_alike(&cuts[before], cut) {
-            pairs.push((before, at))?;
-        }
-    }
-    Ok(())
-}
-
-/// The places of two texts each that are cut to the same one.
-fn alike_of(alloc: Global, cuts: &[Option<String>]) -> Result<Vec<(usize, usize)>, Fault>
-    ensures ok { IfOk result (λ pairs. ArePairs (values_in cuts.now) (length cuts.now) pairs.items) }
-    ensures err { IfErr result (λ fault. fault ≡ Fault.OutOfMemory) }
-{
-    let mut pairs = Vec::new(alloc);
-    'cuts: for (at, cut) in cuts.iter().enumerate() {
-        add_alike(&mut pairs, cuts, at, cut)?;
-    }
-    Ok(pairs)
-}
-
 /// Where two texts first differ: at the end of the shorter one, if they do not before.
 fn difference_of(one: &[u8], other: &[u8]) -> usize
     ensures { result ≡ common one.now other.now }
@@ -126,26 +86,60 @@ fn difference_of(one: &[u8], other: &[u8]) -> usize
     one.len()
 }
 
-/// The bytes of the text at a place of a list; none where there is no text.
-fn bytes_at(texts: &[Option<String>], at: usize) -> &[u8]
-    ensures { result.now ≡ unwrap_or (value_at (values_in texts.now) at) [] }
+/// Where another text, if there is one, first differs from this one.
+fn common_with(text: &str, other: &Option<String>) -> usize
+    ensures { result ≡ common_with text.now (option_map string_bytes other.now) }
 {
-    match texts.get(at) {
+    match other {
+        Some(other) => {
+            if text == other.as_str() {
+                0
+            } else {
+                difference_of(text.as_bytes(), other.as_bytes())
+            }
+        }
+        None => 0,
+    }
+}
+
+/// The later one of two places.
+fn later(one: usize, other: usize) -> usize
+    ensures { result ≡ max one other }
+{
+    if one < other { other } else { one }
+}
+
+/// The last place at which one of the other texts first differs from this one.
+fn last_difference(text: &str, wholes: &[Option<String>]) -> usize
+    ensures { result ≡ last_difference text.now (values_in wholes.now) }
+{
+    let mut last = 0;
+    'wholes: for whole in wholes {
+        last = later(last, common_with(text, whole));
+    }
+    last
+}
+
+/// The text of the base, or no byte.
+fn base_text(wholes: &[Option<String>]) -> &[u8]
+    ensures { result.now ≡ base_text (values_in wholes.now) }
+{
+    match wholes.first() {
         Some(Some(text)) => text.as_bytes(),
         _ => &[],
     }
 }
 
-/// The first place at which the two texts of a pair differ.
-fn hidden_at(wholes: &[Option<String>], pairs: &[(usize, usize)]) -> usize
-    ensures { IsFirst (values_in wholes.now) pairs.now result }
+/// Where a text first differs from the base's; if it is the base's, where the last of the others does.
+fn own_place(wholes: &[Option<String>], text: &str) -> usize
+    ensures { result ≡ own_place (values_in wholes.now) text.now }
 {
-    let mut first = WHOLE;
-    'pairs: for pair in pairs {
-        let here = difference_of(bytes_at(wholes, pair.0), bytes_at(wholes, pair.1));
-        first = first.min(here);
+    let base = base_text(wholes);
+    if base == text.as_bytes() {
+        last_difference(text, wholes)
+    } else {
+        difference_of(base, text.as_bytes())
     }
-    first
 }
 
 /// Dots for what is left out before a byte.
@@ -159,7 +153,7 @@ fn dots(start: usize) -> &'static str
 fn lead(len: usize, place: usize) -> usize
     ensures { result ≡ lead place len }
 {
-    if len > CUT && place < len {
+    if len > CUT && place >= NEAR {
         place.saturating_sub(LEAD)
     } else {
         0
@@ -186,7 +180,7 @@ fn put_front(out: &mut String, text: &str) -> Result<(), Fault>
     Ok(())
 }
 
-/// The part of a text near the place at which it differs from others; all of it if it is short, and its start if it ends before that.
+/// The part of a text near a place, with dots for what is left out.
 fn part_of(alloc: Global, text: &str, place: usize) -> Result<String, Fault>
     ensures ok { IfOk result (λ part. string_bytes part ≡ part_of place text.now) }
     ensures err { IfErr result (λ fault. fault ≡ Fault.OutOfMemory) }
@@ -199,29 +193,71 @@ fn part_of(alloc: Global, text: &str, place: usize) -> Result<String, Fault>
     Ok(part)
 }
 
-/// The part of a text near this place, if there is one.
-fn part_in(alloc: Global, whole: &Option<String>, place: usize) -> Result<Option<String>, Fault>
-    ensures ok { IfOk result (λ part. option_map string_bytes part ≡ option_map (part_of place) (option_map string_bytes whole.now)) }
+/// Whether this is another text, of which the same part would be shown.
+fn looks_like(
+    alloc: Global,
+    wholes: &[Option<String>],
+    one: &str,
+    other: &str,
+) -> Result<bool, Fault>
+    ensures ok { IfOk result (λ is. is ≡ looks_like (values_in wholes.now) one.now other.now) }
+    ensures err { IfErr result (λ fault. fault ≡ Fault.OutOfMemory) }
+{
+    if one == other {
+        return Ok(false);
+    }
+    let first = part_of(alloc, one, own_place(wholes, one))?;
+    let second = part_of(alloc, other, own_place(wholes, other))?;
+    Ok(first == second)
+}
+
+/// The place near which a text is shown behind some others: its own, or where it first differs from one of these that it looks like.
+fn place_behind(
+    alloc: Global,
+    wholes: &[Option<String>],
+    before: &[Option<String>],
+    text: &str,
+) -> Result<usize, Fault>
+    ensures ok { IfOk result (λ place. place ≡ place_behind (values_in wholes.now) (values_in before.now) text.now) }
+    ensures err { IfErr result (λ fault. fault ≡ Fault.OutOfMemory) }
+{
+    'others: for other in before {
+        if let Some(other) = other {
+            if looks_like(alloc, wholes, text, other)? {
+                return Ok(difference_of(text.as_bytes(), other.as_bytes()));
+            }
+        }
+    }
+    Ok(own_place(wholes, text))
+}
+
+/// The part of a text that is shown behind some others, if there is a text.
+fn part_behind(
+    alloc: Global,
+    wholes: &[Option<String>],
+    before: &[Option<String>],
+    whole: &Option<String>,
+) -> Result<Option<String>, Fault>
+    ensures ok { IfOk result (λ part. option_map string_bytes part ≡ option_map (part_behind (values_in wholes.now) (values_in before.now)) (option_map string_bytes whole.now)) }
     ensures err { IfErr result (λ fault. fault ≡ Fault.OutOfMemory) }
 {
     match whole {
-        Some(text) => Ok(Some(part_of(alloc, text, place)?)),
+        Some(text) => {
+            let place = place_behind(alloc, wholes, before, text)?;
+            Ok(Some(part_of(alloc, text, place)?))
+        }
         None => Ok(None),
     }
 }
 
-/// The parts of texts near this place.
-fn parts_of(
-    alloc: Global,
-    wholes: &[Option<String>],
-    place: usize,
-) -> Result<Vec<Option<String>>, Fault>
-    ensures ok { IfOk result (λ parts. values_in parts.items ≡ map (option_map (part_of place)) (values_in wholes.now)) }
+/// The parts of texts by which they differ.
+fn parts_of(alloc: Global, wholes: &[Option<String>]) -> Result<Vec<Option<String>>, Fault>
+    ensures ok { IfOk result (λ parts. values_in parts.items ≡ parts_behind (values_in wholes.now) [] (values_in wholes.now)) }
     ensures err { IfErr result (λ fault. fault ≡ Fault.OutOfMemory) }
 {
     let mut parts = Vec::new(alloc);
-    'wholes: for whole in wholes {
-        parts.push(part_in(alloc, whole, place)?)?;
+    'wholes: for (at, whole) in wholes.iter().enumerate() {
+        parts.push(part_behind(alloc, wholes, &wholes[..at], whole)?)?;
     }
     Ok(parts)
 }
@@ -247,27 +283,24 @@ fn left_of(bytes: usize, texts: &[Option<String>]) -> usize
     left
 }
 
-/// The parts of the texts of nodes near the place at which those first differ that are cut alike.
-fn parts_near(
+/// The parts of the texts of nodes by which they differ.
+fn node_parts(
     alloc: Global,
     both: &Both<'_>,
     nodes: &[Option<NodeId>],
-    alike: &[(usize, usize)],
     budget: &mut Budget,
 ) -> Result<Vec<Option<String>>, Fault>
     requires ranked { RanksAre both.now.graph both.now.ranks }
-    requires some { 0 < length alike.now }
-    requires pairs { ArePairs (node_texts both.now.graph 60 nodes.now) (length nodes.now) alike.now }
-    requires free { 0 < budget.old.bytes }
+    requires some_left { 0 < budget.old.bytes }
     ensures ok { IfOk result (λ texts. ShowsParts both.now.graph nodes.now budget.old.bytes budget.new.bytes (values_in texts.items)) }
     ensures err { IfErr result (λ fault. fault ≡ Fault.OutOfMemory) }
 {
     let wholes = texts_in(alloc, both, nodes, WHOLE)?;
     budget.bytes = left_of(budget.bytes, &wholes);
-    parts_of(alloc, &wholes, hidden_at(&wholes, alike))
+    parts_of(alloc, &wholes)
 }
 
-/// The texts of nodes as they are shown: whole, or up to 60 bytes, near the place at which they differ if they are the same up to there.
+/// The texts of nodes as they are shown: whole, or up to 60 bytes of each, by which they differ.
 pub(crate) fn texts_of(
     alloc: Global,
     both: &Both<'_>,
@@ -282,10 +315,8 @@ pub(crate) fn texts_of(
     if whole {
         return texts_in(alloc, both, nodes, WHOLE);
     }
-    let cuts = texts_in(alloc, both, nodes, CUT)?;
-    let alike = alike_of(alloc, &cuts)?;
-    if budget.bytes == 0 || alike.is_empty() {
-        return Ok(cuts);
+    if budget.bytes == 0 {
+        return texts_in(alloc, both, nodes, CUT);
     }
-    parts_near(alloc, both, nodes, &alike, budget)
+    node_parts(alloc, both, nodes, budget)
 }

@@ -1,10 +1,11 @@
 -- What a text begins with: digits, a name, or what stands before the first step.
-use Rattle.std.proofs.Common.{◌≡◌, ℕ, suc, ◌+◌, ◌==◌, ◌≤◌, ◌<◌, ◌⊎◌, inl, inr, Bool, true, false, not, bytes_eq, List, [], ◌∷◌, ◌++◌, length, take, drop, cond, Some, refl, sym, ◌∙◌, ap, subst, arith}
+use Rattle.std.proofs.Common.{◌≡◌, ℕ, suc, ◌+◌, ◌==◌, ◌≤◌, ◌<◌, ◌^◌, ◌⊎◌, inl, inr, Bool, true, false, not, ◌&&◌, nat_lt, nat_le, bytes_eq, List, [], ◌∷◌, ◌++◌, length, take, cond, Some, refl, sym, ◌∙◌, ap, subst, arith}
 use Rattle.std.specs.List.{list_all, prefix_len}
-use Rattle.std.proofs.lemmas.List.{take-append-drop}
-use Rattle.std.proofs.lemmas.List.Folds.{list_all-append}
 use Rattle.std.proofs.lemmas.Slice.Eq.{bytes_eq-Decides}
-use Rattle.review_patterns.specs.Grammar.{is_digit, is_name_start, is_name_byte, is_name, name_len, are_digits, ends_place, is_place, begins_step, at_step, begins_with, IsNamed, is_document}
+use Rattle.review_patterns.specs.Grammar.{is_name_start, is_name_byte, is_name, name_len, begins_step, at_step, begins_with, IsNamed, is_document}
+use Rattle.review_patterns.specs.Places.{is_digit, are_digits, is_number, first_part, last_part, first_place, last_place, is_span, is_place}
+use Rattle.review_patterns.proofs.PlaceLaws.{parts-pass}
+use Rattle.std.specs.Str.Parse.{digits_value}
 use Rattle.review_patterns.proofs.ByteLaws.{is, among, never, or-cases, and-left, and-right, and-both}
 use Rattle.review_patterns.specs.Classes.{passes}
 use Rattle.review_patterns.specs.declared.name.Class.TheVariants as class
@@ -113,20 +114,16 @@ digits-no-step : (x : List ℕ) → are_digits x ≡ true → list_all no-step x
 digits-no-step [] h = refl
 digits-no-step (c ∷ x) h = all-both no-step c x (digit-no-step c (and-left (is_digit c) (list_all is_digit x) h)) (all-weaker is_digit no-step digit-no-step x (and-right (is_digit c) (list_all is_digit x) h))
 
-colon-no-step : (c : ℕ) → (c == 58) ≡ true → no-step c ≡ true
-colon-no-step c h = subst (λ z. no-step z ≡ true) (sym (is c 58 h)) refl
+number-no-step : (x : List ℕ) → is_number x ≡ true → list_all no-step x ≡ true
+number-no-step x h = digits-no-step x (and-left (are_digits x) (nat_lt (digits_value 10 x) (2 ^ 64)) h)
 
-ends-no-step : (x : List ℕ) → ends_place x ≡ true → list_all no-step x ≡ true
-ends-no-step [] h = refl
-ends-no-step (c ∷ x) h = all-both no-step c x (colon-no-step c (and-left (c == 58) (are_digits x) h)) (digits-no-step x (and-right (c == 58) (are_digits x) h))
+span-no-step : (x : List ℕ) → is_span x ≡ true → list_all no-step x ≡ true
+span-no-step x h =
+    let both : (is_number (first_part 45 x) && is_number (last_part 45 x)) ≡ true = and-left (is_number (first_part 45 x) && is_number (last_part 45 x)) (nat_le (first_place x) (last_place x)) h in
+    parts-pass no-step 45 x refl (number-no-step (first_part 45 x) (and-left (is_number (first_part 45 x)) (is_number (last_part 45 x)) both)) (number-no-step (last_part 45 x) (and-right (is_number (first_part 45 x)) (is_number (last_part 45 x)) both))
 
 place-no-step : (x : List ℕ) → is_place x ≡ true → list_all no-step x ≡ true
-place-no-step [] h = refl
-place-no-step (c ∷ x) h =
-    let n : ℕ = prefix_len is_digit x in
-    let front : list_all no-step (take n x) ≡ true = all-weaker is_digit no-step digit-no-step (take n x) (front-passes is_digit x) in
-    let back : list_all no-step (drop n x) ≡ true = ends-no-step (drop n x) (and-right (is_digit c) (ends_place (drop (prefix_len is_digit x) x)) h) in
-    all-both no-step c x (digit-no-step c (and-left (is_digit c) (ends_place (drop (prefix_len is_digit x) x)) h)) (ap (list_all no-step) (sym (take-append-drop n x)) ∙ list_all-append no-step (take n x) (drop n x) ∙ and-both (list_all no-step (take n x)) (list_all no-step (drop n x)) front back)
+place-no-step x h = parts-pass no-step 58 x refl (span-no-step (first_part 58 x) (and-left (is_span (first_part 58 x)) (is_span (last_part 58 x)) h)) (span-no-step (last_part 58 x) (and-right (is_span (first_part 58 x)) (is_span (last_part 58 x)) h))
 
 document-no-step : (x : List ℕ) → is_document x ≡ true → list_all no-step x ≡ true
 document-no-step [] h = refl

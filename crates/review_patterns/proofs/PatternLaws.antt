@@ -1,5 +1,5 @@
 -- Patterns that are read step by step.
-use Rattle.std.proofs.Common.{◌≡◌, ℕ, ◌+◌, true, false, bytes_eq, codes, suc, take, drop, Some, None, Option, get_or, arith, ◌<◌, List, [], ◌∷◌, ◌++◌, map, length, refl, sym, ◌∙◌, ap, subst, inl, inr}
+use Rattle.std.proofs.Common.{◌≡◌, ℕ, ◌+◌, true, false, bytes_eq, codes, suc, take, drop, Some, None, Option, get_or, arith, ◌<◌, ◌≤◌, List, [], ◌∷◌, ◌++◌, map, length, refl, sym, ◌∙◌, ap, subst, inl, inr}
 use Rattle.std.specs.List.{flat_map}
 use Rattle.std.proofs.lemmas.List.{append_assoc, append-nil, length-append}
 use Rattle.std.specs.Prelude.{◌↔◌, IfOk, IfSome, IfNone, IsSome, Result, Ok, Err}
@@ -74,6 +74,12 @@ step-whole text first rest [] more r e w k a t = absurd (no-empty-step [] k refl
 step-whole text first rest (c ∷ x) more r e w k a t =
     let same : first ≡ c = ap head-of (sym e ∙ t) in
     (length x, w x more (subst (λ z. IsStep (z ∷ x)) (sym same) k) a (ap tail-of (sym e ∙ t)), omega arith)
+
+pub step-longer : (text : List ℕ) (first : ℕ) (rest : List ℕ) (n : ℕ) → text ≡ first ∷ rest → (n ≤ length rest) × IsStep (first ∷ take n rest) → (0 < n + 1) × (n + 1 ≤ length text) × IsStep (take (n + 1) text)
+step-longer text first rest n e (within, step) = (omega arith, omega (arith, within, ap length e), subst IsStep (sym (ap (take (n + 1)) e ∙ ap (λ z. take z (first ∷ rest)) (plus-one n))) step)
+  where
+    plus-one : (n : ℕ) → n + 1 ≡ suc n
+    plus-one n = omega arith
 
 -- ---- a text that is cut
 

@@ -1,12 +1,9 @@
 -- Which texts are patterns of paths, and of which steps.
 use Rattle.std.specs.Prelude.{◌≡◌, ◌⊎◌, ℕ, suc, Bool, true, false, ◌&&◌, ◌||◌, ◌==◌, nat_le, nat_lt, bytes_eq, not, cond, ◌+◌, ◌-◌, List, [], ◌∷◌, ◌++◌, length, take, drop, codes}
 use Rattle.std.specs.List.{list_all, prefix_len}
+use Rattle.review_patterns.specs.Places.{is_place}
 
--- ---- names and places
-
--- `[0-9]`
-abbrev pub is_digit : ℕ → Bool
-is_digit c = nat_le 48 c && nat_le c 57
+-- ---- names
 
 -- `[A-Za-z_]`
 abbrev pub is_name_start : ℕ → Bool
@@ -25,21 +22,6 @@ is_name (c ∷ x) = is_name_start c && list_all is_name_byte x
 abbrev pub name_len : List ℕ → ℕ
 name_len [] = 0
 name_len (c ∷ x) = cond (is_name_start c) (prefix_len is_name_byte x + 1) 0
-
--- `[0-9]+`
-abbrev pub are_digits : List ℕ → Bool
-are_digits [] = false
-are_digits (c ∷ x) = is_digit c && list_all is_digit x
-
--- `(:[0-9]+)?`
-abbrev pub ends_place : List ℕ → Bool
-ends_place [] = true
-ends_place (c ∷ x) = (c == 58) && are_digits x
-
--- the place of an item, or two places: `[0-9]+(:[0-9]+)?`
-abbrev pub is_place : List ℕ → Bool
-is_place [] = false
-is_place (c ∷ x) = is_digit c && ends_place (drop (prefix_len is_digit x) x)
 
 -- ---- texts in brackets
 
@@ -85,7 +67,7 @@ abbrev pub is_quoted_name : List ℕ → Bool
 is_quoted_name [] = false
 is_quoted_name (c ∷ x) = (c == 34) && (nat_lt 0 (name_len x) && bytes_eq (drop (name_len x) x) (codes "\""))
 
--- What may stand between the brackets of a step: any place, a place, or the text of a key that is no name. A key that is a name stands behind a `.`, without quotes and brackets.
+-- What may stand between the brackets of a step: any place, places, or the text of a key that is no name. A key that is a name stands behind a `.`, without quotes and brackets.
 abbrev pub is_inside : List ℕ → Bool
 is_inside text = bytes_eq text (codes "*") || (is_place text || (begins_key text && not (is_quoted_name text)))
 

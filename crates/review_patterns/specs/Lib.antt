@@ -1,4 +1,6 @@
 pub mod Brackets
 pub mod Classes
 pub mod Grammar
+pub mod Laws
 pub mod Patterns
+pub mod Places

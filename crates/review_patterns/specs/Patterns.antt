@@ -2,6 +2,7 @@
 use Rattle.std.specs.Prelude.{◌≡◌, ◌⊎◌, ℕ, ◌<◌, Bool, true, false, ◌&&◌, ◌||◌, bytes_eq, List, [], ◌∷◌, ◌++◌, map, length, codes}
 use Rattle.std.specs.List.{list_any, flat_map}
 use Rattle.review_patterns.specs.Grammar.{is_document, AreSteps}
+use Rattle.review_patterns.specs.Places.{inside, has_place}
 use Rattle.review_patterns.specs.declared.pattern.Pattern.{Pattern}
 
 abbrev pub steps_of : Pattern → List (List ℕ)
@@ -11,9 +12,9 @@ steps_of p = map (λ step. step.now) p.steps.items
 abbrev pub is_any : List ℕ → Bool
 is_any step = list_any (λ word. bytes_eq step word) ([] ∷ codes "*" ∷ codes ".*" ∷ codes "[*]" ∷ [])
 
--- a step of a pattern stands for any step, or for that of its text
+-- a step of a pattern stands for any step, for that of its text, or for the items at its places
 abbrev pub fits : List ℕ → List ℕ → Bool
-fits step text = is_any step || bytes_eq step text
+fits step text = is_any step || (bytes_eq step text || has_place (inside step) (inside text))
 
 -- A path is at or below one that a pattern matches: each step of the pattern fits the step at its place.
 abbrev pub covers : List (List ℕ) → List (List ℕ) → Bool

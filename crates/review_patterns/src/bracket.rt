@@ -3,7 +3,8 @@ ghost use Rattle.std.specs.Prelude.{◌≡◌, ◌<◌, ◌≤◌, ◌++◌, ◌
 ghost use Rattle.review_patterns.specs.Brackets.{behind_of, depth_of};
 ghost use Rattle.review_patterns.specs.Grammar.{Closes, begins_key, is_quoted_name, is_inside, is_bracketed};
 
-use crate::name::{is_place, name_len};
+use crate::name::name_len;
+use crate::place::is_place;
 
 /// Between brackets, what the next byte stands in.
 #[derive(Clone, Copy)]

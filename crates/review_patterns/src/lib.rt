@@ -2,8 +2,10 @@
 #![tactic(auto)]
 
 mod bracket;
+pub mod laws;
 mod name;
 pub mod pattern;
+mod place;
 pub mod read;
 
 pub use pattern::Pattern;

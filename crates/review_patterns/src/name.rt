@@ -1,23 +1,16 @@
-//! Names and places in texts of steps.
+//! Names and fronts of texts.
 ghost use Rattle.std.specs.Prelude.{◌≡◌, ◌≤◌, length};
-ghost use Rattle.std.specs.List.{list_all, prefix_len};
+ghost use Rattle.std.specs.List.{prefix_len};
 ghost use Rattle.review_patterns.specs.Classes.{passes};
-ghost use Rattle.review_patterns.specs.Grammar.{is_digit, is_name_start, is_name_byte, name_len, are_digits, ends_place, is_place, begins_step};
+ghost use Rattle.review_patterns.specs.Grammar.{is_name_start, is_name_byte, name_len, begins_step};
 
 /// The bytes of a part of a text.
 #[derive(Clone, Copy)]
 pub(crate) enum Class {
-    Digits,
     /// Those of names.
     Name,
     /// Those before the first step.
     Document,
-}
-
-fn is_digit(byte: u8) -> bool
-    ensures { result ≡ is_digit byte }
-{
-    matches!(byte, b'0'..=b'9')
 }
 
 fn is_name_start(byte: u8) -> bool
@@ -43,7 +36,6 @@ impl Class {
         ensures { result ≡ passes self byte }
     {
         match self {
-            Class::Digits => is_digit(byte),
             Class::Name => is_name_byte(byte),
             Class::Document => !begins_step(byte),
         }
@@ -61,44 +53,6 @@ pub(crate) fn front_len(class: Class, text: &[u8]) -> usize
         }
     }
     text.len()
-}
-
-/// Whether all bytes are digits.
-fn all_digits(text: &[u8]) -> bool
-    ensures { result ≡ list_all is_digit text.now }
-{
-    text.iter().all(|byte| is_digit(*byte))
-}
-
-/// Whether a text is a number.
-fn are_digits(text: &[u8]) -> bool
-    ensures { result ≡ are_digits text.now }
-{
-    match text.split_first() {
-        Some((first, rest)) => is_digit(*first) && all_digits(rest),
-        None => false,
-    }
-}
-
-/// Whether a place may end so behind its first number.
-fn ends_place(text: &[u8]) -> bool
-    ensures { result ≡ ends_place text.now }
-{
-    match text.split_first() {
-        Some((first, rest)) => *first == b':' && are_digits(rest),
-        None => true,
-    }
-}
-
-/// Whether a text is a place, or two places with a `:` between them.
-pub(crate) fn is_place(text: &[u8]) -> bool
-    ensures { result ≡ is_place text.now }
-{
-    match text.split_first() {
-        Some((first, rest)) => is_digit(*first)
-            && ends_place(&rest[front_len(Class::Digits, rest)..]),
-        None => false,
-    }
 }
 
 /// How many bytes a text has of a name with which it begins; 0 where it begins with none.

@@ -2,9 +2,12 @@
 ghost use Rattle.std.specs.Prelude.{◌≡◌, map, string_bytes};
 ghost use Rattle.review_patterns.specs.Patterns.{is_any, fits, covers, is_covered};
 
+use crate::place::has_items;
+
 /// A pattern of paths: the texts of its steps, of which the first one is for the document.
 ///
-/// Each is the text of a step as `diff` prints it, or stands for any step: `.*` and `[*]`, and of the document `*` and no text.
+/// Each is the text of a step as `diff` prints it, also that of neighbours that moved together, or stands for any step: `.*` and `[*]`,
+/// and of the document `*` and no text.
 #[derive(Debug, Drop)]
 pub struct Pattern<'a> {
     pub steps: Vec<&'a str>,
@@ -17,11 +20,11 @@ fn is_any(step: &str) -> bool
     matches!(step, "" | "*" | ".*" | "[*]")
 }
 
-/// Whether a step of a pattern stands for a step of this text.
+/// Whether a step of a pattern stands for a step of this text: it stands for any step, has the same text, or has the places of its items.
 fn fits(step: &str, text: &str) -> bool
     ensures { result ≡ fits step.now text.now }
 {
-    is_any(step) || step == text
+    is_any(step) || step == text || has_items(step, text)
 }
 
 /// Whether steps of a pattern fit those of a path from the first one on. It goes as deep as the path has steps.

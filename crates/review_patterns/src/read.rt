@@ -6,8 +6,9 @@ ghost use Rattle.review_patterns.specs.Grammar.{IsNamed, IsBracketed, IsStep, Ar
 ghost use Rattle.review_patterns.specs.Patterns.{steps_of, Begins, IsPattern};
 
 use crate::bracket::{bracket_len, is_bracketed};
-use crate::name::{Class, front_len, is_place, name_len};
+use crate::name::{Class, front_len, name_len};
 use crate::pattern::Pattern;
+use crate::place::is_place;
 use std::alloc::{AllocError, Global};
 
 /// The text of a stream's one document.

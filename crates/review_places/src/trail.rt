@@ -112,7 +112,7 @@ impl Trail {
     }
 
     /// The innermost open collection in which a part began. A collection without parts is the node itself.
-    fn innermost(&self) -> Option<&Frame>
+    pub fn innermost(&self) -> Option<&Frame>
         ensures { option_map (λ frame. frame.now) result ≡ find has_part (reverse (open_frames self.now)) }
     {
         self.frames.iter().rev().find(|frame| frame.parts > 0)

@@ -3,12 +3,12 @@ use Rattle.std.proofs.Common.{◌≡◌, ℕ, zero, suc, ◌+◌, ◌<◌, true,
 use Rattle.std.specs.Borrow.{Bor}
 use Rattle.std.proofs.lemmas.Bool.{eqb-true, ne_eqb}
 use Rattle.std.proofs.lemmas.List.{take_more}
-use Rattle.yaml_text.specs.declared.event.Event.{Event}
 use Rattle.review_args.specs.declared.words.Form.{Form}
 use Rattle.review_args.specs.declared.words.Warn.{Warn}
 use Rattle.review_formats.specs.declared.finding.Finding.{Finding}
-use Rattle.review_text.specs.declared.yaml11.Older.{Older}
-use Rattle.review_faults.specs.Warned.{AreWarnings, ListsFirst, ListsWarnings, warnings_text}
+use Rattle.review_faults.proofs.WarnLaws.{none_told}
+use Rattle.review_faults.specs.Warned.{ListsFirst, ListsWarnings, warnings_text}
+use Rattle.review_faults.specs.declared.cause.Cause.{Cause}
 use Rattle.review_faults.specs.declared.warn.Warning.{Warning}
 use Rattle.review_faults.specs.declared.warn.Warnings.{Warnings}
 use Rattle.review_reports.specs.Reports.{room_for, AddsWarnings}
@@ -16,25 +16,17 @@ use Rattle.review_reports.specs.Pages.{IsFoundWarning, AreFoundWarnings, FindsWa
 
 -- ---- how many
 
-as_many : (events : List Event) (text : List ℕ) (found : List (ℕ × Older)) (list : List Warning) → AreWarnings events text found list → length list ≡ length found
-as_many events text [] list h = ap length h
-as_many events text (t ∷ found) list (one, rest, w, r, e) = ap length e ∙ ap (λ z. suc z) (as_many events text found rest r)
-
 some_room : (lines : ℕ) → (room : ℕ) × (room_for lines ≡ suc room)
 some_room zero = (0, refl)
 some_room (suc n) = (n, ap (λ z. cond z 1 (suc n)) (ne_eqb (suc n) 0 (λ e. omega arith)))
 
-first_none : (all : List (ℕ × Older)) (room : ℕ) → (length (take (suc room) all) == 0) ≡ (length all == 0)
-first_none [] room = refl
-first_none (x ∷ xs) room = ne_eqb (length (take (suc room) (x ∷ xs))) 0 (λ e. omega (arith, e)) ∙ sym (ne_eqb (length (x ∷ xs)) 0 (λ e. omega (arith, e)))
-
 -- no warning is listed exactly if there is none
-is_none : (bytes : List ℕ) (allowed : List (Bor (List ℕ))) (all : List (ℕ × Older)) (lines : ℕ) (list : List Warning) → ListsFirst bytes allowed all (room_for lines) list → (length list == 0) ≡ (length all == 0)
+is_none : (bytes : List ℕ) (allowed : List (Bor (List ℕ))) (all : List (ℕ × Cause)) (lines : ℕ) (list : List Warning) → ListsFirst bytes allowed all (room_for lines) list → (length list == 0) ≡ (length all == 0)
 is_none bytes allowed all lines list h =
     let r = some_room lines in
-    ap (λ z. z == 0) (as_many _ _ _ list h.are) ∙ ap (λ z. length (take z all) == 0) r.1 ∙ first_none all r.0
+    none_told bytes allowed all r.0 list (subst (λ n. ListsFirst bytes allowed all n list) r.1 h)
 
-none_asked : (bytes : List ℕ) (allowed : List (Bor (List ℕ))) (all : List (ℕ × Older)) (room lines : ℕ) (list : List Warning) → (lines == 0) ≡ true → ListsFirst bytes allowed all room list → ListsFirst bytes allowed all lines []
+none_asked : (bytes : List ℕ) (allowed : List (Bor (List ℕ))) (all : List (ℕ × Cause)) (room lines : ℕ) (list : List Warning) → (lines == 0) ≡ true → ListsFirst bytes allowed all room list → ListsFirst bytes allowed all lines []
 none_asked bytes allowed all room zero list z h = record { events = h.events; reads = h.reads; warned = h.warned; are = refl }
 none_asked bytes allowed all room (suc n) list z h = let q = eqb-true (suc n) 0 z in absurd (omega (arith, q))
 

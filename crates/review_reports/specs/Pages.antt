@@ -13,9 +13,9 @@ use Rattle.review_formats.specs.declared.finding.Finding.{Finding}
 use Rattle.review_formats.specs.declared.finding.Level.TheVariants as levels
 use Rattle.review_text.specs.Hidden.{visible}
 use Rattle.review_text.specs.Shown.{front}
-use Rattle.review_text.specs.declared.yaml11.Older.{Older}
 use Rattle.review_faults.specs.Spotted.{IsSpotted}
 use Rattle.review_faults.specs.Warned.{ListsFirst}
+use Rattle.review_faults.specs.declared.cause.Cause.{Cause}
 use Rattle.review_faults.specs.declared.warn.Warning.{Warning}
 use Rattle.review_files.specs.Named.{ReadsNamed, ReadsNot}
 use Rattle.review_files.specs.Told.{IsAccepted}
@@ -40,7 +40,7 @@ pub record IsFault (name bytes : List ℕ) (fault : Fault) (one : Finding) : Typ
 abbrev pub FindsFault : List ℕ → List ℕ → Fault → List Finding → Type 0
 FindsFault name bytes fault list = (one : Finding) × (list ≡ one ∷ []) × IsFault name bytes fault one
 
--- it is this warning of a file of this name, at its place, with the scalar's text of 60 bytes at most and what is said of it
+-- it is this warning of a file of this name, at its place, with 60 bytes at most of what is shown and what is said of it
 pub record IsFoundWarning (name : List ℕ) (w : Warning) (one : Finding) : Type 0 where
   pub file : string_bytes one.file ≡ name
   pub rule : one.rule.now ≡ codes "yaml-1.1"
@@ -53,9 +53,9 @@ abbrev pub AreFoundWarnings : List ℕ → List Warning → List Finding → Typ
 AreFoundWarnings name [] list = list ≡ []
 AreFoundWarnings name (w ∷ ws) list = (one : Finding) × (rest : List Finding) × IsFoundWarning name w one × AreFoundWarnings name ws rest × (list ≡ one ∷ rest)
 
--- In a file that is accepted the first of the plain scalars are found that YAML 1.1 reads otherwise, as many as are asked for. With `--strict` the status is 1 exactly if there is one.
+-- In a file that is accepted the first of its warnings are found, as many as are asked for. With `--strict` the status is 1 exactly if there is one.
 pub record FindsWarnings (w : Warn) (name bytes : List ℕ) (list : List Finding) (status : ℕ) : Type 0 where
-  pub all : List (ℕ × Older)
+  pub all : List (ℕ × Cause)
   pub warnings : List Warning
   pub first : ListsFirst bytes w.allowed.items all w.lines warnings
   pub found : AreFoundWarnings name warnings list

@@ -8,8 +8,8 @@ use Rattle.review_args.specs.declared.words.Form.{Form}
 use Rattle.review_args.specs.declared.words.Warn.{Warn}
 use Rattle.review_faults.specs.FaultLines.{TellsFault}
 use Rattle.review_faults.specs.Warned.{ListsFirst, warnings_text}
+use Rattle.review_faults.specs.declared.cause.Cause.{Cause}
 use Rattle.review_faults.specs.declared.warn.Warning.{Warning}
-use Rattle.review_text.specs.declared.yaml11.Older.{Older}
 use Rattle.review_files.specs.Named.{ReadsNamed, ReadsNot}
 use Rattle.review_files.specs.Statuses.{unread_status}
 use Rattle.review_files.specs.Told.{IsAccepted, TellsRefusal}
@@ -24,9 +24,9 @@ use Rattle.review_reports.specs.declared.reports.Kind.TheVariants.{Faults, Warni
 abbrev pub room_for : ℕ → ℕ
 room_for lines = cond (lines == 0) 1 lines
 
--- Of an accepted file `warn` prints the first of the plain scalars that YAML 1.1 reads otherwise, a line for each and one more if these are not all, or nothing where no line is asked for. With `--strict` the status is 1 exactly if there is one.
+-- Of an accepted file `warn` prints the first of its warnings, a line for each and one more if these are not all, or nothing where no line is asked for. With `--strict` the status is 1 exactly if there is one.
 pub record AddsWarnings (w : Warn) (form : Form) (name bytes text : List ℕ) (status : ℕ) : Type 0 where
-  pub all : List (ℕ × Older)
+  pub all : List (ℕ × Cause)
   pub list : List Warning
   pub first : ListsFirst bytes w.allowed.items all w.lines list
   pub printed : text ≡ cond (w.lines == 0) [] (warnings_text form name list (nat_le (length all) w.lines))

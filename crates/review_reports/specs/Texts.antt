@@ -3,6 +3,7 @@ use Rattle.std.specs.Prelude.{◌≡◌, ℕ, List, [], ◌∷◌, None, true, c
 use Rattle.review_args.specs.declared.words.Page.{Page}
 use Rattle.review_args.specs.declared.words.Page.TheVariants.{Html, Markdown, Sarif, Github}
 use Rattle.review_formats.specs.Github.{github_text}
+use Rattle.review_formats.specs.LeftOut.{no_left_out}
 use Rattle.review_formats.specs.Markdown.{markdown_text}
 use Rattle.review_formats.specs.Sarif.{sarif_text}
 use Rattle.review_formats.specs.declared.finding.Finding.{Finding}
@@ -33,7 +34,7 @@ pub record AreFound (kind : Kind) (list : List Finding) (found : Findings) : Typ
   pub unnamed : part.name ≡ None
   pub listed : part.list.items ≡ list
   pub unshown : part.shown ≡ None
-  pub whole : part.whole ≡ true
+  pub whole : part.left_out ≡ no_left_out
 
 -- the text of such a list
 abbrev pub IsListText : Kind → Page → List Finding → List ℕ → Type 0

@@ -177,7 +177,7 @@ pub fn fault_found(alloc: Global, name: &str, bytes: &[u8], fault: Fault) -> Res
     })
 }
 
-/// What is said of a scalar that YAML 1.1 reads otherwise.
+/// What is said of a scalar or a name that other tools read otherwise.
 fn warning_words(alloc: Global, warning: &Warning) -> Result<String, Fault>
     ensures ok { IfOk result (λ s. string_bytes s ≡ visible (front 60 (string_bytes warning.now.text)) ++ (codes ": " ++ string_bytes warning.now.words)) }
     ensures err { IfErr result (λ fault. fault ≡ Fault.OutOfMemory) }
@@ -188,7 +188,7 @@ fn warning_words(alloc: Global, warning: &Warning) -> Result<String, Fault>
     Ok(out)
 }
 
-/// A scalar that YAML 1.1 reads otherwise.
+/// A scalar or a name that other tools read otherwise.
 pub(crate) fn warning_found(alloc: Global, name: &str, warning: &Warning) -> Result<Finding, Fault>
     ensures ok { IfOk result (IsFoundWarning name.now warning.now) }
     ensures err { IfErr result (λ fault. fault ≡ Fault.OutOfMemory) }

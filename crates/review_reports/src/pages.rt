@@ -14,7 +14,7 @@ use review_faults::{Warning, list_warnings};
 use review_files::files::read_named;
 use review_files::telling::{tell_bare, tell_unread};
 use review_files::unread::{Unread, greater};
-use review_formats::{Finding, Findings, Part, github_text, markdown_text, sarif_text};
+use review_formats::{Finding, Findings, LeftOut, Part, github_text, markdown_text, sarif_text};
 use review_html::html_text;
 use std::alloc::Global;
 use std::io::{Read, Write};
@@ -224,7 +224,7 @@ fn as_found(alloc: Global, kind: Kind<'_>, list: Vec<Finding>) -> Result<Finding
         name: None,
         list,
         shown: None,
-        whole: true,
+        left_out: LeftOut::none(),
     })?;
     Ok(Findings {
         command: word_of(kind),

@@ -1,2 +1,3 @@
 pub mod MemoryLaws
 mod ShowLaws
+pub mod WarnLaws

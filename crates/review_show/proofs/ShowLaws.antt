@@ -1,12 +1,11 @@
 -- The files of `show` in turn.
 use Rattle.std.proofs.Common.{◌≡◌, ℕ, ◌+◌, ◌≤◌, ◌<◌, max, List, [], ◌∷◌, Option, length, map, drop, get_or, inl, inr, refl, sym, ◌∙◌, ap, subst, arith}
-use Rattle.std.specs.Prelude.{Result, Ok, Err, OnOk, IfOk, IfErr, true}
+use Rattle.std.specs.Prelude.{Result, Ok, Err, IfOk, IfErr, true}
 use Rattle.std.proofs.lemmas.List.{length-map, get_or-map}
 use Rattle.std.proofs.Math.ListN.{drop_of_length-le}
 use Rattle.yaml_text.specs.declared.fault.Fault.{Fault}
 use Rattle.yaml_text.specs.declared.counted.Counted.{Counted}
 use Rattle.yaml_text.specs.CountedModel.{faults_of}
-use Rattle.yaml_text.specs.Writers.{Printed}
 use Rattle.yaml_command.specs.Printing.{PrintFails}
 use Rattle.yaml_shown.specs.declared.unshown.Unshown.{Unshown}
 use Rattle.review_text.proofs.Pieces.{drop_next}
@@ -14,19 +13,18 @@ use Rattle.review_args.specs.declared.words.Show.{Show}
 use Rattle.review_files.specs.Lines.{TakesLine, bare_line}
 use Rattle.review_files.specs.Named.{ReadsNamed}
 use Rattle.review_files.specs.Statuses.{fault_status}
-use Rattle.review_show.specs.Files.{IsText, HasNone, shown_output, shown_status, TellsUnshown, PrintsSource, CutsText, ShowsBytes, CutsBytes, ShowsFile, CutsFile, ShowsFiles}
+use Rattle.review_show.specs.Files.{IsText, HasNone, TellsUnshown, PrintsSource, ShowsText, CutsShown, ShowsBytes, CutsBytes, ShowsFile, CutsFile, ShowsFiles}
 
 -- ---- the bytes of a file
 
 module _ {W E : Type 0} (contents : W → Option (List ℕ)) (told : E → Option (List ℕ)) (asked : Show) (name bytes : List ℕ) (out end : Counted W) (before after : E) where
-  pub text_shown : (text : List ℕ) (r : Result ℕ Fault) → IsText asked.format bytes text → OnOk r (Printed contents out end (shown_output asked.is_check name bytes text)) → after ≡ before → IfOk r (λ status. status ≡ shown_status asked.is_check bytes text)
-      → IfOk r (ShowsBytes contents told asked name bytes out end before after)
-  text_shown text (Ok status) t p k s = inl (text, t, p, k, s)
-  text_shown text (Err fault) t p k s = tt
+  pub text_shown : (text : List ℕ) (r : Result ℕ Fault) → IsText asked.format bytes text → IfOk r (ShowsText contents told asked name bytes text out end before after) → IfOk r (ShowsBytes contents told asked name bytes out end before after)
+  text_shown text (Ok status) t h = inl (text, t, h)
+  text_shown text (Err fault) t h = tt
 
-  pub text_cut : (text : List ℕ) (r : Result ℕ Fault) → IsText asked.format bytes text → IfErr r (CutsText contents asked.is_check (shown_output asked.is_check name bytes text) out end) → after ≡ before → IfErr r (CutsBytes contents told asked name bytes out end before after)
-  text_cut text (Ok status) t h k = tt
-  text_cut text (Err fault) t h k = inl (text, t, h, k)
+  pub text_cut : (text : List ℕ) (r : Result ℕ Fault) → IsText asked.format bytes text → IfErr r (CutsShown contents told asked name bytes text out end before after) → IfErr r (CutsBytes contents told asked name bytes out end before after)
+  text_cut text (Ok status) t h = tt
+  text_cut text (Err fault) t h = inl (text, t, h)
 
   pub none_shown : (why : Unshown) (first : ℕ) (r : Result ℕ Fault) → HasNone asked.format bytes why → TellsUnshown told name bytes why before after first → IfOk r (PrintsSource contents asked.textconv bytes first out end) → IfOk r (ShowsBytes contents told asked name bytes out end before after)
   none_shown why first (Ok status) n t p = inr (why, first, n, t, p)
@@ -62,7 +60,9 @@ none_left f xs i past = drop_of_length-le (map f xs) (omega (arith, length-map x
 module _ {R W E : Type 0} (holds : List ℕ → Option (List ℕ)) (remaining : R → Option (List ℕ)) (contents : W → Option (List ℕ)) (told : E → Option (List ℕ)) where
   -- no call of the output fails at a file that it takes
   pub shown_kept : (asked : Show) (name : List ℕ) (old new : R) (out end : Counted W) (before after : E) (status : ℕ) → ShowsFile holds remaining contents told asked name old new out end before after status → faults_of end ≡ faults_of out
-  shown_kept asked name old new out end before after status (inl (bytes, r, inl (text, i, p, k, s))) = p.counted
+  shown_kept asked name old new out end before after status (inl (bytes, r, inl (text, i, inl (has_one, t, inl (w, p, s))))) = p.counted
+  shown_kept asked name old new out end before after status (inl (bytes, r, inl (text, i, inl (has_one, t, inr (w, e, s))))) = ap faults_of e
+  shown_kept asked name old new out end before after status (inl (bytes, r, inl (text, i, inr (t, e)))) = ap faults_of e
   shown_kept asked name old new out end before after status (inl (bytes, r, inr (why, first, n, t, inl (c, p, a)))) = p.counted
   shown_kept asked name old new out end before after status (inl (bytes, r, inr (why, first, n, t, inr (c, e, a)))) = ap faults_of e
   shown_kept asked name old new out end before after status (inr (why, r, t, e)) = ap faults_of e

@@ -1,5 +1,5 @@
 -- What `show` does with files.
-use Rattle.std.specs.Prelude.{◌≡◌, ◌⊎◌, ℕ, Bool, true, false, not, ◌&&◌, max, cond, bytes_eq, List, [], ◌∷◌, ◌++◌, Option, codes}
+use Rattle.std.specs.Prelude.{◌≡◌, ◌⊎◌, ℕ, Bool, true, false, not, ◌&&◌, ◌==◌, max, nat_le, length, cond, bytes_eq, List, [], ◌∷◌, ◌++◌, Option, codes}
 use Rattle.yaml_text.specs.declared.fault.Fault.{Fault}
 use Rattle.yaml_text.specs.declared.fault.Fault.TheVariants.{OutOfMemory}
 use Rattle.yaml_text.specs.declared.counted.Counted.{Counted}
@@ -15,6 +15,9 @@ use Rattle.review_args.specs.declared.words.Format.{Format}
 use Rattle.review_args.specs.declared.words.Format.TheVariants.{Yaml, Json}
 use Rattle.review_args.specs.declared.words.Show.{Show}
 use Rattle.review_text.specs.Terminal.{terminal}
+use Rattle.review_faults.specs.Warned.{ListsFirst, warnings_text}
+use Rattle.review_faults.specs.declared.cause.Cause.{Cause}
+use Rattle.review_faults.specs.declared.warn.Warning.{Warning}
 use Rattle.review_files.specs.Lines.{TakesLine, bare_line}
 use Rattle.review_files.specs.Named.{ReadsNamed, ReadsNot}
 use Rattle.review_files.specs.Statuses.{fault_status}
@@ -43,12 +46,30 @@ shown_output is_check name bytes text = cond is_check (cond (bytes_eq bytes text
 abbrev pub shown_status : Bool → List ℕ → List ℕ → ℕ
 shown_status is_check bytes text = cond (is_check && not (bytes_eq bytes text)) 1 0
 
+-- Warnings of a file are told, unless it is compared or shown to git.
+abbrev pub reports_warnings : Show → Bool
+reports_warnings asked = not asked.is_check && not asked.textconv
+
+-- The text is what `warn` prints of a file, with 1,000 lines at most. There is a warning, or none.
+pub record Warns (name bytes text : List ℕ) (has_one : Bool) : Type 0 where
+  pub all : List (ℕ × Cause)
+  pub list : List Warning
+  pub first : ListsFirst bytes [] all 1000 list
+  pub printed : text ≡ warnings_text Line name list (nat_le (length all) 1000)
+  pub one : has_one ≡ not (length all == 0)
+
 -- ---- standard error
 
 module _ {E : Type 0} (told : E → Option (List ℕ)) where
   -- that there is no memory for the line, with the status 2
   abbrev pub TellsBare : E → E → ℕ → Type 0
   TellsBare before after status = TakesLine told before after (bare_line OutOfMemory) × (status ≡ 2)
+
+  -- The warnings of a file that is shown, if they are told. There is a warning, or none.
+  abbrev pub TellsWarnings : Show → List ℕ → List ℕ → E → E → Bool → Type 0
+  TellsWarnings asked name bytes before after has_one =
+      ((reports_warnings asked ≡ true) × ((text : List ℕ) × Warns name bytes text has_one × TakesLine told before after text))
+      ⊎ ((reports_warnings asked ≡ false) × (has_one ≡ false) × (after ≡ before))
 
   -- Why a file is not shown, with the status 2; or why that is not told.
   abbrev pub TellsUnshown : List ℕ → List ℕ → Unshown → E → E → ℕ → Type 0
@@ -76,16 +97,29 @@ module _ {W : Type 0} (contents : W → Option (List ℕ)) where
   CutsText is_check text out end fault = PrintFails contents out end text fault ⊎ ((is_check ≡ true) × (end ≡ out))
 
 module _ {W E : Type 0} (contents : W → Option (List ℕ)) (told : E → Option (List ℕ)) where
-  -- the text is printed, or it is told that there is none
+  -- What becomes of a file that may be shown as this text. Its warnings are told, and the text is printed. With `--strict` nothing is printed if there is a warning, and the status is 1. If memory for the warnings is refused, that is told, and nothing is printed.
+  abbrev pub ShowsText : Show → List ℕ → List ℕ → List ℕ → Counted W → Counted W → E → E → ℕ → Type 0
+  ShowsText asked name bytes text out end before after status =
+      ((has_one : Bool) × TellsWarnings told asked name bytes before after has_one
+      × (((has_one && asked.is_strict ≡ false) × Printed contents out end (shown_output asked.is_check name bytes text) × (status ≡ shown_status asked.is_check bytes text))
+      ⊎ ((has_one && asked.is_strict ≡ true) × (end ≡ out) × (status ≡ 1))))
+      ⊎ (TellsBare told before after status × (end ≡ out))
+
+  -- the warnings are told, and the output fails
+  abbrev pub CutsShown : Show → List ℕ → List ℕ → List ℕ → Counted W → Counted W → E → E → Fault → Type 0
+  CutsShown asked name bytes text out end before after fault =
+      (has_one : Bool) × TellsWarnings told asked name bytes before after has_one × CutsText contents asked.is_check (shown_output asked.is_check name bytes text) out end fault
+
+  -- the file is shown, or it is told that there is no text
   abbrev pub ShowsBytes : Show → List ℕ → List ℕ → Counted W → Counted W → E → E → ℕ → Type 0
   ShowsBytes asked name bytes out end before after status =
-      ((text : List ℕ) × IsText asked.format bytes text × Printed contents out end (shown_output asked.is_check name bytes text) × (after ≡ before) × (status ≡ shown_status asked.is_check bytes text))
+      ((text : List ℕ) × IsText asked.format bytes text × ShowsText asked name bytes text out end before after status)
       ⊎ ((why : Unshown) × (first : ℕ) × HasNone asked.format bytes why × TellsUnshown told name bytes why before after first × PrintsSource contents asked.textconv bytes first out end status)
 
   -- or the output fails
   abbrev pub CutsBytes : Show → List ℕ → List ℕ → Counted W → Counted W → E → E → Fault → Type 0
   CutsBytes asked name bytes out end before after fault =
-      ((text : List ℕ) × IsText asked.format bytes text × CutsText contents asked.is_check (shown_output asked.is_check name bytes text) out end fault × (after ≡ before))
+      ((text : List ℕ) × IsText asked.format bytes text × CutsShown asked name bytes text out end before after fault)
       ⊎ ((why : Unshown) × (first : ℕ) × HasNone asked.format bytes why × TellsUnshown told name bytes why before after first × (asked.textconv ≡ true) × PrintFails contents out end bytes fault)
 
 module _ {R W E : Type 0} (holds : List ℕ → Option (List ℕ)) (remaining : R → Option (List ℕ)) (contents : W → Option (List ℕ)) (told : E → Option (List ℕ)) where

@@ -4,13 +4,14 @@ ghost use Rattle.yaml_text.specs.CountedModel.{faults_of};
 ghost use Rattle.yaml_text.specs.Writers.{Printed};
 ghost use Rattle.yaml_command.specs.Printing.{PrintFails};
 ghost use Rattle.review_text.specs.Terminal.{terminal};
-ghost use Rattle.review_show.specs.Files.{IsText, HasNone, shown_output, shown_status, TellsUnshown, TellsNotRead, PrintsSource, CutsText, ShowsBytes, CutsBytes, ShowsFile, CutsFile, ShowsFiles};
-ghost use Rattle.review_faults.specs.Again.{CannotTell};
+ghost use Rattle.review_show.specs.Files.{IsText, HasNone, shown_output, shown_status, reports_warnings, Warns, TellsWarnings, TellsUnshown, TellsNotRead, PrintsSource, CutsText, ShowsText, CutsShown, ShowsBytes, CutsBytes, ShowsFile, CutsFile, ShowsFiles};
+ghost use Rattle.review_faults.specs.Again.{CannotRead, CannotTell};
 ghost use Rattle.review_args.specs.declared.words.Format.{Format};
 ghost use Rattle.review_show.specs.Unshown.{too_long, unlike, TellsRejected, PutsUnshown, CannotTellNone};
 
+use review_args::words::LINES;
 use review_args::{Form, Format, Show};
-use review_faults::{put_fault, put_no_json};
+use review_faults::{list_warnings, put_fault, put_no_json, put_warnings};
 use review_files::files::read_named;
 use review_files::rejected::put_no_bytes;
 use review_files::telling::{put_fault_line, put_line, tell_bare};
@@ -31,6 +32,9 @@ const REJECTED: u8 = 2;
 
 /// The status of a file that is not as it would be written.
 const UNLIKE: u8 = 1;
+
+/// The status of a file that is not shown because there is a warning.
+const WARNED: u8 = 1;
 
 /// What is shown of the bytes of a file.
 fn text_of(alloc: Global, bytes: &[u8], format: Format) -> Result<String, Unshown>
@@ -214,6 +218,68 @@ fn put_source<W: Write>(
     }
 }
 
+/// Whether the warnings of files are reported.
+fn reports_warnings(asked: &Show<'_>) -> bool
+    ensures { result ≡ reports_warnings asked.now }
+{
+    !asked.is_check && !asked.textconv
+}
+
+/// What `warn` prints of a file, and whether there is a warning.
+#[tactic(auto, using(review_faults::proofs::AgainLaws::memory_alone, crate::proofs::WarnLaws::warns))]
+fn warned(alloc: Global, name: &str, bytes: &[u8]) -> Result<(String, bool), Fault>
+    ensures ok { IfOk result (λ told. Warns name.now bytes.now (string_bytes told.0) told.1) }
+    ensures err { IfErr result (CannotRead bytes.now) }
+{
+    let warnings = list_warnings(alloc, bytes, &[], LINES)?;
+    let mut text = String::new(alloc);
+    put_warnings(alloc, &mut text, name, &warnings, Form::Line)?;
+    Ok((text, !warnings.list.is_empty()))
+}
+
+/// Reports what `warn` prints of a file that is shown, if warnings are reported, and answers whether there is one.
+fn tell_warnings<E: Write>(
+    alloc: Global,
+    named: (&str, &Show<'_>),
+    bytes: &[u8],
+    err: &mut E,
+) -> Result<bool, Fault>
+    requires { (text : List ℕ) × IsText named.1.now.format bytes.now text }
+    ensures ok { IfOk result (TellsWarnings E.contents named.entry.1.now named.entry.0.now bytes.now err.old err.new) }
+    ensures err { IfErr result (λ fault. (fault ≡ Fault.OutOfMemory) × (err.new ≡ err.old)) }
+{
+    let (name, asked) = named;
+    if !reports_warnings(asked) {
+        return Ok(false);
+    }
+    let (lines, has_one) = warned(alloc, name, bytes)?;
+    put_line(&lines, err);
+    Ok(has_one)
+}
+
+/// Shows a file as this text unless it has a warning and that is asked about, and answers its status. An error is that the output
+/// fails.
+fn show_text<W: Write, E: Write>(
+    alloc: Global,
+    named: (&str, &Show<'_>),
+    bytes: &[u8],
+    text: String,
+    out: &mut Counted<W>,
+    err: &mut E,
+) -> Result<u8, Fault>
+    requires few { faults_of out.old < 2 ^ 64 - 1 }
+    requires text { IsText named.1.now.format bytes.now (string_bytes text) }
+    ensures ok { IfOk result (ShowsText W.contents E.contents named.entry.1.now named.entry.0.now bytes.now (string_bytes text) out.old out.new err.old err.new) }
+    ensures cut { IfErr result (CutsShown W.contents E.contents named.entry.1.now named.entry.0.now bytes.now (string_bytes text) out.old out.new err.old err.new) }
+{
+    let (name, asked) = named;
+    match tell_warnings(alloc, named, bytes, err) {
+        Ok(has_one) if has_one && asked.is_strict => Ok(WARNED),
+        Ok(_) => put_text(alloc, name, bytes, text, asked.is_check, out),
+        Err(fault) => Ok(tell_bare(fault, err)),
+    }
+}
+
 /// Shows the bytes of a file, and answers its status. An error is that the output fails.
 fn show_bytes<W: Write, E: Write>(
     alloc: Global,
@@ -228,7 +294,7 @@ fn show_bytes<W: Write, E: Write>(
 {
     let (name, asked) = named;
     match text_of(alloc, bytes, asked.format) {
-        Ok(text) => put_text(alloc, name, bytes, text, asked.is_check, out),
+        Ok(text) => show_text(alloc, named, bytes, text, out, err),
         Err(why) => {
             let status = tell_unshown(alloc, name, bytes, why, err);
             put_source(asked.textconv, bytes, status, out)

@@ -55,7 +55,7 @@ static ROWS: [Row; 18] = [
         left: "a: 1\nb: [x]\n",
         right: "a: 2\nc: ~\nb: []\n",
         lines: 1,
-        told: "false\n{\"kind\":\"changed\",\"left\":\"!!int \\\"1\\\"\",\"left_place\":{\"column\":4,\"line\":1},\"left_value\":1,\"path\":\".a\",\"right\":\"!!int \\\"2\\\"\",\"right_place\":{\"column\":4,\"line\":1},\"right_value\":2,\"steps\":[{\"left\":0,\"right\":0},\"a\"]}\n{\"kind\":\"more\"}\n",
+        told: "false\n{\"kind\":\"changed\",\"left\":\"!!int \\\"1\\\"\",\"left_place\":{\"column\":4,\"line\":1},\"left_value\":1,\"path\":\".a\",\"right\":\"!!int \\\"2\\\"\",\"right_place\":{\"column\":4,\"line\":1},\"right_value\":2,\"steps\":[{\"left\":0,\"right\":0},\"a\"]}\n{\"differences\":2,\"kind\":\"more\",\"moves\":0,\"whole\":true}\n",
     },
     Row {
         left: "a: 1",

@@ -59,7 +59,7 @@ static ROWS: [Row; 12] = [
         left: b"",
         right: b"a: 1\na: 2\n",
         status: 2,
-        out: "::error file=right,line=2,col=1,title=yamlreview EqualKeys::.a: the keys of a mapping differ, each from each\n",
+        out: "::error file=right,line=2,col=1,title=yamlreview EqualKeys::.a: `a` is in this mapping already, at line 1: remove or rename one\n",
     },
     Row {
         name: "a strict page",

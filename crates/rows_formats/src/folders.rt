@@ -94,11 +94,11 @@ const ALL: [(&str, Has); 6] = [
 ];
 
 const BAD: &str =
-    "new/bad:2:1: 19 EqualKeys at byte 5: .a: the keys of a mapping differ, each from each
+    "new/bad:2:1: 19 EqualKeys at byte 5: .a: `a` is in this mapping already, at line 1: remove or rename one
 a: 2
 ^
 new/bad:1:1: the first of the two
-new/worse:2:1: 19 EqualKeys at byte 5: .a: the keys of a mapping differ, each from each
+new/worse:2:1: 19 EqualKeys at byte 5: .a: `a` is in this mapping already, at line 1: remove or rename one
 a: 2
 ^
 new/worse:1:1: the first of the two
@@ -120,12 +120,12 @@ const ROWS: [Row; 8] = [
         page: Some(Page::Github),
         lines: 9,
         status: 2,
-        out: "::error file=new/bad,line=2,col=1,title=yamlreview EqualKeys::.a: the keys of a mapping differ, each from each
+        out: "::error file=new/bad,line=2,col=1,title=yamlreview EqualKeys::.a: `a` is in this mapping already, at line 1: remove or rename one
 ::notice file=old/gone,title=yamlreview deleted-file::only on the left
 ::notice file=new/more,title=yamlreview new-file::only on the right
 ::notice file=new/one,line=1,col=11,title=yamlreview changed::.a: changed: !!int \"1\" -> !!int \"2\"
 ::notice file=new/worse,title=yamlreview new-file::only on the right
-::error file=new/worse,line=2,col=1,title=yamlreview EqualKeys::.a: the keys of a mapping differ, each from each
+::error file=new/worse,line=2,col=1,title=yamlreview EqualKeys::.a: `a` is in this mapping already, at line 1: remove or rename one
 ",
         err: BAD,
     },

@@ -53,3 +53,15 @@ fn a_log_names_its_files(rt: HostRuntime) -> Result<(), Fail> {
     );
     Ok(())
 }
+
+#[test]
+fn what_is_not_listed_is_told(rt: HostRuntime) -> Result<(), Fail> {
+    for form in &["--format=html", "--format=sarif"] {
+        let words = ["diff", "--lines=1", *form, "left", "right"];
+        let (left, right) = (b"l: [a, b, c]\nz: x\n", b"l: [c, a, b]\nz: y\n");
+        let (status, text) = run(rt.alloc(), &words, left, right)?;
+        assert!(rt; status == 1, "{status}");
+        has(&rt, &text, &["z", "Not listed: 1 move"], &["[2:0]"]);
+    }
+    Ok(())
+}

@@ -2,7 +2,7 @@
 use crate::runs::{Row, are_told};
 use std::test::Fail;
 
-static ROWS: [Row; 5] = [
+static ROWS: [Row; 6] = [
     Row {
         name: "a difference",
         words: &["diff", "--format=markdown", "left", "right"],
@@ -18,6 +18,21 @@ static ROWS: [Row; 5] = [
         right: b"a: &x q\nb: *x\n",
         status: 1,
         out: "**yamlreview diff** <code>left</code> <code>right</code>\n\n| | path | left | right | left at | right at |\n|---|---|---|---|---|---|\n| changed | <code>&#x2E;a</code> | <code>&#x22;p&#x22;</code> | <code>&#x22;q&#x22;</code> | 1:7 | 1:7 |\n| changed | <code>&#x2E;b</code> | <code>&#x22;p&#x22;</code> | <code>&#x22;q&#x22;</code> | 2:4 | 2:4 |\n",
+    },
+    Row {
+        name: "a difference before moves, and how many are not listed",
+        words: &[
+            "diff",
+            "--format=markdown",
+            "--no-places",
+            "--lines=1",
+            "left",
+            "right",
+        ],
+        left: b"l: [a, b, c]\ny: x\nz: x\n",
+        right: b"l: [c, a, b]\ny: y\nz: y\n",
+        status: 1,
+        out: "**yamlreview diff** <code>left</code> <code>right</code>\n\n| | path | left | right | left at | right at |\n|---|---|---|---|---|---|\n| changed | <code>&#x2E;y</code> | <code>&#x22;x&#x22;</code> | <code>&#x22;y&#x22;</code> | | |\n\nNot listed: 1 difference, 1 move\n",
     },
     Row {
         name: "nothing",
@@ -41,7 +56,7 @@ static ROWS: [Row; 5] = [
         left: b"",
         right: b"a: 1\na: 2\n",
         status: 2,
-        out: "**yamlreview faults**\n\n| file | at | | path | |\n|---|---|---|---|---|\n| <code>&#x3C;b&#x3E;&#x60;&#x7C;&#x2C;&#x3A;&#x25;</code> | 2:1 | EqualKeys | <code>&#x2E;a</code> | <code>the keys of a mapping differ&#x2C; each from each</code> |\n",
+        out: "**yamlreview faults**\n\n| file | at | | path | |\n|---|---|---|---|---|\n| <code>&#x3C;b&#x3E;&#x60;&#x7C;&#x2C;&#x3A;&#x25;</code> | 2:1 | EqualKeys | <code>&#x2E;a</code> | <code>&#x60;a&#x60; is in this mapping already&#x2C; at line 1&#x3A; remove or rename one</code> |\n",
     },
 ];
 

@@ -12,7 +12,7 @@ struct Row {
 }
 
 /// What ours and theirs made of the base.
-static CONFLICTS: [Row; 18] = [
+static CONFLICTS: [Row; 20] = [
     Row {
         shows: "each side changed another key",
         stream: "{a: 1, b: 2}\n--- {a: 3, b: 2}\n--- {a: 1, b: 4}\n",
@@ -59,17 +59,27 @@ static CONFLICTS: [Row; 18] = [
         lines: "/a {} - {} {}\n",
     },
     Row {
-        shows: "items stay by place: each side changed another",
+        shows: "a list that both changed is one value, whatever its length: each side changed another item",
         stream: "[a, b, c]\n--- [x, b, c]\n--- [a, b, z]\n",
+        lines: " [] [] [] []\n",
+    },
+    Row {
+        shows: "one side put items in another order, and the other changed one: at its place ours has another item",
+        stream: "{l: [{n: a}, {n: b}]}\n--- {l: [{n: b}, {n: a}]}\n--- {l: [{n: a, root: true}, {n: b}]}\n",
+        lines: "/l [] [] [] []\n",
+    },
+    Row {
+        shows: "one side left out the first item and added one, and the other changed one",
+        stream: "{l: [{n: a}, {n: b}, {n: c}]}\n--- {l: [{n: b}, {n: c}, {n: d}]}\n--- {l: [{n: a}, {n: b, k: 1}, {n: c}]}\n",
+        lines: "/l [] [] [] []\n",
+    },
+    Row {
+        shows: "both made the same list",
+        stream: "{l: [{n: a}, {n: b}], k: 1}\n--- {l: [{n: b}, {n: a}], k: 1}\n--- {k: 2, l: [{n: b}, {n: a}]}\n",
         lines: "",
     },
     Row {
-        shows: "items stay by place: both changed one",
-        stream: "[a, [b, c]]\n--- [a, [x, c]]\n--- [a, [y, c]]\n",
-        lines: "/1/0 b x y b\n",
-    },
-    Row {
-        shows: "a list that one side made longer and the other changed is one value",
+        shows: "a list that one side made longer and the other changed",
         stream: "{l: [a, b]}\n--- {l: [a, b, c]}\n--- {l: [x, b]}\n",
         lines: "/l [] [] [] []\n",
     },
@@ -106,7 +116,7 @@ static CONFLICTS: [Row; 18] = [
 ];
 
 /// What a merge has that is not as the rules say, or where they say nothing.
-static STRAYS: [Row; 10] = [
+static STRAYS: [Row; 12] = [
     Row {
         shows: "the merge has both changes",
         stream: "{a: 1, b: {c: 2}}\n--- {a: 3, b: {c: 2}}\n--- {b: {c: 4}, a: 1}\n--- {b: {c: 4}, a: 3}\n",
@@ -153,9 +163,19 @@ static STRAYS: [Row; 10] = [
         lines: "/l [] [] [] []\n",
     },
     Row {
-        shows: "items by place",
-        stream: "[a, b]\n--- [x, b]\n--- [a, y]\n--- [y, x]\n",
-        lines: "/0 a x a y\n/1 b b y x\n",
+        shows: "a list that has both changes is no merge: which item gets which is not known",
+        stream: "[{n: a}, {n: b}]\n--- [{n: b}, {n: a}]\n--- [{n: a, root: true}, {n: b}]\n--- [{n: b, root: true}, {n: a}]\n",
+        lines: " [] [] [] []\n",
+    },
+    Row {
+        shows: "and so is the right one",
+        stream: "[{n: a}, {n: b}]\n--- [{n: b}, {n: a}]\n--- [{n: a, root: true}, {n: b}]\n--- [{n: b}, {n: a, root: true}]\n",
+        lines: " [] [] [] []\n",
+    },
+    Row {
+        shows: "the list of the side that changed it",
+        stream: "{l: [a, b], k: 1}\n--- {l: [b, a], k: 1}\n--- {l: [a, b], k: 2}\n--- {l: [b, a], k: 2}\n",
+        lines: "",
     },
 ];
 
@@ -188,13 +208,13 @@ fn merges_stray(rt: HostRuntime) -> Result<(), Fail> {
 /// Of two conflicts there is room for one; and of a tree that aliases make too large, for a part.
 #[test]
 fn room_is_kept(rt: HostRuntime) -> Result<(), Fail> {
-    let two = "[a, b]\n--- [c, d]\n--- [e, f]\n";
+    let two = "{k: a, l: b}\n--- {k: c, l: d}\n--- {k: e, l: f}\n";
     let one_line = Room {
         places: 100,
         lines: 1,
     };
     let lines = shown(rt.alloc(), two, false, one_line)?;
-    assert_eq!(rt; lines.as_str(), "/0 a c e a\nand more\n");
+    assert_eq!(rt; lines.as_str(), "/k a c e a\nand more\n");
     let one_place = Room {
         places: 1,
         lines: 100,

@@ -39,7 +39,7 @@ fn put_node(text: &mut String, graph: &Graph<'_>, node: Option<NodeId>) -> Resul
 /// Appends a step.
 fn put_step(text: &mut String, graph: &Graph<'_>, step: Step) -> Result<(), Fault> {
     match step {
-        Step::Item(place) => write!(text, "/{place}").map_err(|_| Fault::OutOfMemory),
+        Step::Document(place) => write!(text, "/{place}").map_err(|_| Fault::OutOfMemory),
         Step::Value(key) => {
             text.push_str("/").map_err(|_| Fault::OutOfMemory)?;
             put_node(text, graph, Some(key))

@@ -21,10 +21,17 @@ const NONE: Text = Text {
     end: "",
 };
 
-/// A text of 60 lines, each of which doubles the one before it.
+/// A text of 120 lines, each of which doubles the one before it. It is so high that no more than 10,000 differences are looked for.
 const DOUBLING: Text = Text {
-    count: 59,
+    count: 119,
     piece: "- &a# [*a%, *a%]\n",
+    ..NONE
+};
+
+/// 1,500 aliases of one anchor.
+const ALIASES: Text = Text {
+    count: 1_500,
+    piece: "b#: *x\n",
     ..NONE
 };
 
@@ -58,9 +65,9 @@ struct Row {
     is_all: bool,
 }
 
-static DIFFERENCES: [Row; 6] = [
+static DIFFERENCES: [Row; 10] = [
     Row {
-        name: "of 2^60 - 1 places the first four are told without folds, and that there are more",
+        name: "of 2^120 - 1 places the first four are told without folds, and that there are more",
         words: &[
             "diff",
             "--no-fold",
@@ -80,13 +87,13 @@ static DIFFERENCES: [Row; 6] = [
         },
         status: 1,
         told: Text {
-            front: "~\t[0][1]\t\"x\"\t\"y\"\n~\t[1][0][1]\t\"x\"\t\"y\"\n~\t[1][1][1]\t\"x\"\t\"y\"\n~\t[2][0][0][1]\t\"x\"\t\"y\"\n...\n",
+            front: "~\t[0][1]\t\"x\"\t\"y\"\n~\t[1][0][1]\t\"x\"\t\"y\"\n~\t[1][1][1]\t\"x\"\t\"y\"\n~\t[2][0][0][1]\t\"x\"\t\"y\"\n... not listed: at least 9996 differences\n",
             ..NONE
         },
         is_all: true,
     },
     Row {
-        name: "of 2^60 - 1 places four are told in one line, and that there are more",
+        name: "of 2^120 - 1 places those that are looked for are told in one line, and that there may be more",
         words: &["diff", "--no-places", "--lines", "4", "left", "right"],
         left: Text {
             front: "- &a0 [x, x]\n",
@@ -98,9 +105,89 @@ static DIFFERENCES: [Row; 6] = [
         },
         status: 1,
         told: Text {
-            front: "~\t[0][1]\t\"x\"\t\"y\"\n\t(and 3 more through aliases)\n...\n",
+            front: "~\t[0][1]\t\"x\"\t\"y\"\n\t(and 9999 more through aliases)\n... not listed: any differences or moves beyond the search limit\n",
             ..NONE
         },
+        is_all: true,
+    },
+    Row {
+        name: "what 1,500 aliases show takes one line",
+        words: &["diff", "--no-places", "left", "right"],
+        left: Text {
+            front: "a: &x {k: 1}\n",
+            end: "z: 1\n",
+            ..ALIASES
+        },
+        right: Text {
+            front: "a: &x {k: 2}\n",
+            end: "z: 2\n",
+            ..ALIASES
+        },
+        status: 1,
+        told: Text {
+            front: "~\t.a.k\t!!int \"1\"\t!!int \"2\"\n\t(and 1500 more through aliases)\n~\t.z\t!!int \"1\"\t!!int \"2\"\n",
+            ..NONE
+        },
+        is_all: true,
+    },
+    Row {
+        name: "and each a line of JSON, as far as lines are asked for",
+        words: &[
+            "diff",
+            "--no-places",
+            "--format=json",
+            "--lines=1",
+            "left",
+            "right",
+        ],
+        left: Text {
+            front: "a: &x {k: 1}\n",
+            end: "z: 1\n",
+            ..ALIASES
+        },
+        right: Text {
+            front: "a: &x {k: 2}\n",
+            end: "z: 2\n",
+            ..ALIASES
+        },
+        status: 1,
+        told: Text {
+            front: "{\"kind\":\"changed\",\"left\":\"!!int \\\"1\\\"\",\"left_place\":null,\"left_value\":1,\"path\":\".a.k\",\"right\":\"!!int \\\"2\\\"\",\"right_place\":null,\"right_value\":2,\"steps\":[{\"left\":0,\"right\":0},\"a\",\"k\"]}\n{\"differences\":1501,\"kind\":\"more\",\"moves\":0,\"whole\":true}\n",
+            ..NONE
+        },
+        is_all: true,
+    },
+    Row {
+        name: "their numbers are not all",
+        words: &["diff", "--stat", "--lines=1", "left", "right"],
+        left: Text {
+            front: "- &a0 [x, x]\n",
+            ..DOUBLING
+        },
+        right: Text {
+            front: "- &a0 [x, y]\n",
+            ..DOUBLING
+        },
+        status: 1,
+        told: Text {
+            front: "+0 -0 ~10000 ... right\n",
+            ..NONE
+        },
+        is_all: true,
+    },
+    Row {
+        name: "more than is looked for is ignored with everything",
+        words: &["diff", "--ignore=.", "left", "right"],
+        left: Text {
+            front: "- &a0 [x, x]\n",
+            ..DOUBLING
+        },
+        right: Text {
+            front: "- &a0 [x, y]\n",
+            ..DOUBLING
+        },
+        status: 0,
+        told: NONE,
         is_all: true,
     },
     Row {
@@ -199,7 +286,7 @@ const TURNED: Text = Text {
     ..LISTS
 };
 
-static MOVES: [Row; 6] = [
+static MOVES: [Row; 7] = [
     Row {
         name: "3,000 items in another order are one line",
         words: &["diff", "--no-places", "left", "right"],
@@ -225,7 +312,34 @@ static MOVES: [Row; 6] = [
         },
         status: 1,
         told: Text {
-            front: "~\t[0].v\t!!int \"1\"\t!!int \"2\"\n>\t[2:1]\t\"1b\"\t\n>\t[4:3]\t\"2b\"\t\n>\t[6:5]\t\"3b\"\t\n...\n",
+            front: "~\t[0].v\t!!int \"1\"\t!!int \"2\"\n>\t[2:1]\t\"1b\"\t\n>\t[4:3]\t\"2b\"\t\n>\t[6:5]\t\"3b\"\t\n... not listed: 1497 moves\n",
+            ..NONE
+        },
+        is_all: true,
+    },
+    Row {
+        name: "the difference comes before 1,500 moves",
+        words: &[
+            "diff",
+            "--no-places",
+            "--format=json",
+            "--lines=1",
+            "left",
+            "right",
+        ],
+        left: Text {
+            front: "l:\n",
+            end: "z: 1\n",
+            ..PAIRS
+        },
+        right: Text {
+            front: "l:\n",
+            end: "z: 2\n",
+            ..SWAPPED
+        },
+        status: 1,
+        told: Text {
+            front: "{\"kind\":\"changed\",\"left\":\"!!int \\\"1\\\"\",\"left_place\":null,\"left_value\":1,\"path\":\".z\",\"right\":\"!!int \\\"2\\\"\",\"right_place\":null,\"right_value\":2,\"steps\":[{\"left\":0,\"right\":0},\"z\"]}\n{\"differences\":0,\"kind\":\"more\",\"moves\":1500,\"whole\":true}\n",
             ..NONE
         },
         is_all: true,
@@ -240,7 +354,7 @@ static MOVES: [Row; 6] = [
             front: "~\t.v\t!!int \"1\"\t!!int \"2\"\n",
             count: 5,
             piece: ">\t.k#\t4 items in another order, none changed\t\n",
-            end: "...\n",
+            end: "... not listed: 21 moves\n",
         },
         is_all: true,
     },
@@ -275,7 +389,7 @@ static MOVES: [Row; 6] = [
             front: "",
             count: 5,
             piece: ">\t.k#\t4 items in another order, none changed\t\n",
-            end: "...\n",
+            end: "... not listed: 21 moves\n",
         },
         is_all: true,
     },
@@ -294,7 +408,7 @@ static MOVES: [Row; 6] = [
         right: TURNED,
         status: 1,
         told: Text {
-            front: "{\"kind\":\"moved\",\"left\":null,\"left_place\":null,\"path\":\".k1[3:0]\",\"right\":null,\"right_place\":null,\"steps\":[{\"left\":0,\"right\":0},\"k1\",{\"left\":3,\"right\":0}]}\n{\"kind\":\"more\"}\n",
+            front: "{\"kind\":\"moved\",\"left\":null,\"left_place\":null,\"path\":\".k1[3:0]\",\"right\":null,\"right_place\":null,\"steps\":[{\"left\":0,\"right\":0},\"k1\",{\"left\":3,\"right\":0}]}\n{\"differences\":0,\"kind\":\"more\",\"moves\":35,\"whole\":true}\n",
             ..NONE
         },
         is_all: true,
@@ -332,7 +446,7 @@ static FAULTS: [Row; 4] = [
         right: NONE,
         status: 2,
         told: Text {
-            front: "left:2:1: 6 KeyTooLong at byte 5: a key on its value's line has at most 1,024 characters\n",
+            front: "left:2:1: 6 KeyTooLong at byte 5: shorten this key: it has at most 1,024 characters before its `:`\n",
             ..NONE
         },
         is_all: false,
@@ -348,7 +462,7 @@ static FAULTS: [Row; 4] = [
         right: NONE,
         status: 2,
         told: Text {
-            front: "left:1:1025: 7 TooDeep at byte 1024: collections nest at most 1,024 deep\n",
+            front: "left:1:1025: 7 TooDeep at byte 1024: nest less: collections are at most 1,024 deep\n",
             ..NONE
         },
         is_all: false,
@@ -365,7 +479,7 @@ static FAULTS: [Row; 4] = [
         right: NONE,
         status: 2,
         told: Text {
-            front: "left:2:1: 18 TooHigh at byte 8: .: with its aliases in place the document is more than 1,023 levels high\n",
+            front: "left:2:1: 18 TooHigh at byte 8: .: nest less: with its aliases replaced the document has more than 1,023 levels\n",
             ..NONE
         },
         is_all: false,

@@ -237,7 +237,7 @@ pub static ROWS: [Row; 27] = [
         left: b"{: 1, # c\n  : 2}",
         right: b"",
         status: 2,
-        out: "left:2:3: 19 EqualKeys at byte 12: [!!null \"null\"]: the keys of a mapping differ, each from each\n  : 2}\n  ^\nleft:1:2: the first of the two\n",
+        out: "left:2:3: 19 EqualKeys at byte 12: [!!null \"null\"]: this key is in this mapping already, at line 1: remove or rename one\n  : 2}\n  ^\nleft:1:2: the first of the two\n",
         err: "",
     },
     Row {
@@ -246,7 +246,7 @@ pub static ROWS: [Row; 27] = [
         left: b"&x : 1\n&y : 2\n",
         right: b"",
         status: 2,
-        out: "left:2:3: 19 EqualKeys at byte 9: [!!null \"null\"]: the keys of a mapping differ, each from each\n&y : 2\n  ^\nleft:1:3: the first of the two\n",
+        out: "left:2:3: 19 EqualKeys at byte 9: [!!null \"null\"]: this key is in this mapping already, at line 1: remove or rename one\n&y : 2\n  ^\nleft:1:3: the first of the two\n",
         err: "",
     },
 ];

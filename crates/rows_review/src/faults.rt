@@ -4,14 +4,41 @@ use crate::rows::Row;
 const FAULTS: &[&str] = &["faults", "left"];
 
 /// What is no YAML.
-pub static SYNTAX: [Row; 8] = [
+pub static SYNTAX: [Row; 11] = [
+    Row {
+        name: "a cause on the line above",
+        words: FAULTS,
+        left: b"spec:\n  replicas:3\n  image: x\n",
+        right: b"",
+        status: 2,
+        out: "left:2:3: 4 Syntax at byte 26: line 2 has no space after its colon: write `: `\n  replicas:3\n  ^\nleft:3:8: reading stopped here\n",
+        err: "",
+    },
+    Row {
+        name: "a quote that was opened on the line above",
+        words: FAULTS,
+        left: b"a: \"x\nb: 1\n",
+        right: b"",
+        status: 2,
+        out: "left:1:4: 4 Syntax at byte 6: the quote opened at line 1, column 4 is not closed\na: \"x\n   ^\nleft:2:1: reading stopped here\n",
+        err: "",
+    },
+    Row {
+        name: "both places in an object",
+        words: &["faults", "--format=json", "left"],
+        left: b"spec:\n  replicas:3\n  image: x\n",
+        right: b"",
+        status: 2,
+        out: "{\"byte\":26,\"cause_column\":3,\"cause_line\":2,\"column\":8,\"file\":\"left\",\"first_column\":null,\"first_line\":null,\"line\":3,\"name\":\"Syntax\",\"number\":4,\"path\":null,\"words\":\"line 2 has no space after its colon: write `: `\"}\n",
+        err: "",
+    },
     Row {
         name: "a colon in a value",
         words: FAULTS,
         left: b"a: 1\r\nb: c: d\r\n",
         right: b"",
         status: 2,
-        out: "left:2:5: 4 Syntax at byte 10: a value that holds `: ` stands between quotes\nb: c: d\n    ^\n",
+        out: "left:2:5: 4 Syntax at byte 10: a value with `: ` in it needs quotes\nb: c: d\n    ^\n",
         err: "",
     },
     Row {
@@ -20,7 +47,7 @@ pub static SYNTAX: [Row; 8] = [
         left: b"a: 1\n\n  b: 2\n",
         right: b"",
         status: 2,
-        out: "left:3:4: 4 Syntax at byte 9: this line stands deeper than the one above, and is read as more of its value: an entry stands right below its siblings\n  b: 2\n   ^\n",
+        out: "left:3:4: 4 Syntax at byte 9: this line is read as more of the value above: indent it like the entries that it belongs to\n  b: 2\n   ^\n",
         err: "",
     },
     Row {
@@ -29,7 +56,7 @@ pub static SYNTAX: [Row; 8] = [
         left: b"- a: x\n   b: 2\n",
         right: b"",
         status: 2,
-        out: "left:2:5: 4 Syntax at byte 11: this line stands deeper than the one above, and is read as more of its value: an entry stands right below its siblings\n   b: 2\n    ^\n",
+        out: "left:2:5: 4 Syntax at byte 11: this line is read as more of the value above: indent it like the entries that it belongs to\n   b: 2\n    ^\n",
         err: "",
     },
     Row {
@@ -38,7 +65,7 @@ pub static SYNTAX: [Row; 8] = [
         left: b"- a: x\n  b: c: d\n",
         right: b"",
         status: 2,
-        out: "left:2:7: 4 Syntax at byte 13: a value that holds `: ` stands between quotes\n  b: c: d\n      ^\n",
+        out: "left:2:7: 4 Syntax at byte 13: a value with `: ` in it needs quotes\n  b: c: d\n      ^\n",
         err: "",
     },
     Row {
@@ -47,7 +74,7 @@ pub static SYNTAX: [Row; 8] = [
         left: b"a: [1,\n2\n",
         right: b"",
         status: 2,
-        out: "left:2:1: 4 Syntax at byte 7: a line of a flow collection stands deeper than its parent\n2\n^\n",
+        out: "left:2:1: 4 Syntax at byte 7: indent this line more than the key or the item of its bracket or brace\n2\n^\n",
         err: "",
     },
     Row {
@@ -56,7 +83,7 @@ pub static SYNTAX: [Row; 8] = [
         left: b"k: \"ab\\q\"",
         right: b"",
         status: 2,
-        out: "left:1:7: 8 BadEscape at byte 6: no escape begins so: a backslash is written `\\\\`, or the text stands between single quotes\nk: \"ab\\q\"\n      ^\n",
+        out: "left:1:7: 8 BadEscape at byte 6: this is no escape: for a backslash write `\\\\`, or put the text between single quotes\nk: \"ab\\q\"\n      ^\n",
         err: "",
     },
     Row {
@@ -65,7 +92,7 @@ pub static SYNTAX: [Row; 8] = [
         left: b"a: 1\n? b\n: 2\n",
         right: b"",
         status: 2,
-        out: "left:2:1: 4 Syntax at byte 5: `? ` before a key is not read in a block mapping: write the key before its `:`, of at most 1,024 characters\n? b\n^\n",
+        out: "left:2:1: 4 Syntax at byte 5: write `key: value` without `? `, with at most 1,024 characters before the `:`, or put the mapping in braces\n? b\n^\n",
         err: "",
     },
     Row {
@@ -74,7 +101,7 @@ pub static SYNTAX: [Row; 8] = [
         left: b"a:\n\tb: 1\n",
         right: b"",
         status: 2,
-        out: "left:2:1: 5 Tab at byte 3: indentation and separation are spaces, and this is a tab\n\tb: 1\n^\n",
+        out: "left:2:1: 5 Tab at byte 3: this is a tab: use spaces for indentation and separation\n\tb: 1\n^\n",
         err: "",
     },
 ];
@@ -87,7 +114,7 @@ pub static MEANINGS: [Row; 9] = [
         left: b"x:\n  80: a\n  0x50: c\n",
         right: b"",
         status: 2,
-        out: "left:3:3: 19 EqualKeys at byte 13: .x[!!int \"80\"]: the keys of a mapping differ, each from each\n  0x50: c\n  ^\nleft:2:3: the first of the two\n",
+        out: "left:3:3: 19 EqualKeys at byte 13: .x[!!int \"80\"]: `0x50` is in this mapping already, at line 2: remove or rename one\n  0x50: c\n  ^\nleft:2:3: the first of the two\n",
         err: "",
     },
     Row {
@@ -114,7 +141,7 @@ pub static MEANINGS: [Row; 9] = [
         left: b"jobs:\n- a\n- env: *e\n",
         right: b"",
         status: 2,
-        out: "left:3:8: 12 UndefinedAlias at byte 17: .jobs[1].env: no node before this one in its document has an anchor of this name\n- env: *e\n       ^\n",
+        out: "left:3:8: 12 UndefinedAlias at byte 17: .jobs[1].env: no anchor of this name comes before it in its document: define it first, or quote the value\n- env: *e\n       ^\n",
         err: "",
     },
     Row {
@@ -123,7 +150,7 @@ pub static MEANINGS: [Row; 9] = [
         left: b"a: &a [*a]\n",
         right: b"",
         status: 2,
-        out: "left:1:8: 13 CyclicAlias at byte 7: .a[0]: an alias cannot stand inside the node that it names\na: &a [*a]\n       ^\n",
+        out: "left:1:8: 13 CyclicAlias at byte 7: .a[0]: remove this alias: it is inside the node that it names\na: &a [*a]\n       ^\n",
         err: "",
     },
     Row {
@@ -150,7 +177,7 @@ pub static MEANINGS: [Row; 9] = [
         left: b"a: 10000000000000000000000000000000000000000\n",
         right: b"",
         status: 2,
-        out: "left:1:4: 16 IntRange at byte 3: .a: an int is between -2^127 and 2^127 - 1\na: 10000000000000000000000000000000000000000\n   ^\n",
+        out: "left:1:4: 16 IntRange at byte 3: .a: quote it if it is no number: an int is between -2^127 and 2^127 - 1\na: 10000000000000000000000000000000000000000\n   ^\n",
         err: "",
     },
     Row {
@@ -159,7 +186,7 @@ pub static MEANINGS: [Row; 9] = [
         left: b"a: 1e99999999\n",
         right: b"",
         status: 2,
-        out: "left:1:4: 17 FloatRange at byte 3: .a: a float's exponent is between -1,000,000 and 1,000,000\na: 1e99999999\n   ^\n",
+        out: "left:1:4: 17 FloatRange at byte 3: .a: quote it if it is no number: a float's exponent is between -1,000,000 and 1,000,000\na: 1e99999999\n   ^\n",
         err: "",
     },
 ];
@@ -172,7 +199,7 @@ pub static OTHERS: [Row; 10] = [
         left: b"a: \x01",
         right: b"",
         status: 2,
-        out: "left:1:4: 3 NotPrintable at byte 3: a control character, or a byte order mark past the start, is no character of YAML\na: ?\n   ^\n",
+        out: "left:1:4: 3 NotPrintable at byte 3: YAML does not allow this character: remove it, or write it as an escape between double quotes, as `\\x1B`\na: ?\n   ^\n",
         err: "",
     },
     Row {
@@ -181,7 +208,7 @@ pub static OTHERS: [Row; 10] = [
         left: b"%YAML 1.1\n--- a\n",
         right: b"",
         status: 2,
-        out: "left:1:1: 9 BadDirective at byte 0: this reader reads YAML 1.2: without this line `yes`, `no`, `on` and `off` are strings, `012` is 12 and `<<` is an ordinary key (`yamlreview warn` shows where)\n%YAML 1.1\n^\n",
+        out: "left:1:1: 9 BadDirective at byte 0: remove this line to read the file as YAML 1.2: there `yes`, `no`, `on` and `off` are strings, `012` is 12 and `<<` is an ordinary key (`yamlreview warn` shows where)\n%YAML 1.1\n^\n",
         err: "",
     },
     Row {
@@ -190,7 +217,7 @@ pub static OTHERS: [Row; 10] = [
         left: b"a: !e!x y\n",
         right: b"",
         status: 2,
-        out: "left:1:4: 10 UnknownHandle at byte 3: no `%TAG` line of this document binds this tag's handle\na: !e!x y\n   ^\n",
+        out: "left:1:4: 10 UnknownHandle at byte 3: add a `%TAG` line for the handle of this tag to its document, or write the tag in full, as `!<URI>`\na: !e!x y\n   ^\n",
         err: "",
     },
     Row {
@@ -199,7 +226,7 @@ pub static OTHERS: [Row; 10] = [
         left: b"a: !<> y\n",
         right: b"",
         status: 2,
-        out: "left:1:4: 11 BadTag at byte 3: this is no tag: a local one is `!name`, a full one `!<URI>`\na: !<> y\n   ^\n",
+        out: "left:1:4: 11 BadTag at byte 3: this is no tag: write `!name`, `!!name` or `!<URI>`, or quote a value that starts with `!`\na: !<> y\n   ^\n",
         err: "",
     },
     Row {
@@ -208,7 +235,7 @@ pub static OTHERS: [Row; 10] = [
         left: b"\xE6\x97\xA5\xE6\x9C\xAC: \"\\q\"\n",
         right: b"",
         status: 2,
-        out: "left:1:6: 8 BadEscape at byte 9: no escape begins so: a backslash is written `\\\\`, or the text stands between single quotes\n日本: \"\\q\"\n       ^\n",
+        out: "left:1:6: 8 BadEscape at byte 9: this is no escape: for a backslash write `\\\\`, or put the text between single quotes\n日本: \"\\q\"\n       ^\n",
         err: "",
     },
     Row {
@@ -217,7 +244,7 @@ pub static OTHERS: [Row; 10] = [
         left: b"[aaaaaaaaaaaaaaaaaaaaaaaaaaaaaaaaaaaaaaaaaaaaaaaaaaaaaaaaaaaaaaaaaaaaaaaaaaaaaaaaaaaaaaaaaaaaaaaaaaaa, *x, bbbbbbbbbbbbbbbbbbbbbbbbbbbbbbbbbbbbbbbbbbbbbbbbbbbbbbbbbbbbbbbbbbbbbbbbbbbbbbbbbbbbbbbbbbbbbbbbbbbb]\n",
         right: b"",
         status: 2,
-        out: "left:1:104: 12 UndefinedAlias at byte 103: [1]: no node before this one in its document has an anchor of this name\naaaaaaaaaaaaaaaaaaaaaaaaaaaaaaaaaaaaaaaaaaaaaaaaaaaaaaaaaaaaaaaaaaaaaaaaaaaaaa, *x, bbbbbbbbbbbbbbbbbbbbbbbbbbbbbbbbbbbbbbbbbbbbbbbbbbbbbbbbbbbbbbbbbbbbbbbbbbbb\n                                                                                ^\n",
+        out: "left:1:104: 12 UndefinedAlias at byte 103: [1]: no anchor of this name comes before it in its document: define it first, or quote the value\naaaaaaaaaaaaaaaaaaaaaaaaaaaaaaaaaaaaaaaaaaaaaaaaaaaaaaaaaaaaaaaaaaaaaaaaaaaaaa, *x, bbbbbbbbbbbbbbbbbbbbbbbbbbbbbbbbbbbbbbbbbbbbbbbbbbbbbbbbbbbbbbbbbbbbbbbbbbbb\n                                                                                ^\n",
         err: "",
     },
     Row {
@@ -226,7 +253,7 @@ pub static OTHERS: [Row; 10] = [
         left: b"\xEF\xBB\xBFa: b: c\n",
         right: b"",
         status: 2,
-        out: "left:1:5: 4 Syntax at byte 7: a value that holds `: ` stands between quotes\na: b: c\n    ^\n",
+        out: "left:1:5: 4 Syntax at byte 7: a value with `: ` in it needs quotes\na: b: c\n    ^\n",
         err: "",
     },
     Row {
@@ -244,7 +271,7 @@ pub static OTHERS: [Row; 10] = [
         left: b"a: \xFF x",
         right: b"",
         status: 2,
-        out: "left:1:4: 2 NotUtf8 at byte 3: these bytes are not UTF-8: if they are Latin-1, convert the file by `iconv -f LATIN1 -t UTF-8`\na: ? x\n   ^\n",
+        out: "left:1:4: 2 NotUtf8 at byte 3: these bytes are not UTF-8: if they are Windows-1252 or Latin-1, convert the file by `iconv -f CP1252 -t UTF-8`\na: ? x\n   ^\n",
         err: "",
     },
     // What a terminal would not print is told as `?`, so that a name makes no line of its own.

@@ -34,12 +34,12 @@ pub static ROWS: [Row; 19] = [
         err: "",
     },
     Row {
-        name: "as many as are listed are counted",
-        words: &["diff", "--no-places", "--lines", "3", "left", "right"],
+        name: "all are counted, with as many lines as there are",
+        words: &["diff", "--no-places", "--lines", "1", "left", "right"],
         left: OLD,
         right: NEW,
         status: 1,
-        out: "~\t.x.k\t!!int \"1\"\t!!int \"2\"\n\t(and 2 more through aliases)\n...\n",
+        out: "~\t.x.k\t!!int \"1\"\t!!int \"2\"\n\t(and 3 more through aliases)\n",
         err: "",
     },
     Row {

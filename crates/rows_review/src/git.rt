@@ -65,7 +65,7 @@ pub static ROWS: [Row; 13] = [
         left: b"",
         right: b"- *y\n",
         status: 0,
-        out: "diff a.yaml\nnew file, mode 100755\nb/a.yaml:1:3: 12 UndefinedAlias at byte 2: [0]: no node before this one in its document has an anchor of this name\n- *y\n  ^\n",
+        out: "diff a.yaml\nnew file, mode 100755\nb/a.yaml:1:3: 12 UndefinedAlias at byte 2: [0]: no anchor of this name comes before it in its document: define it first, or quote the value\n- *y\n  ^\n",
         err: "",
     },
     Row {
@@ -123,7 +123,7 @@ pub static ROWS: [Row; 13] = [
         left: b"- *x\n",
         right: b"- *y\n",
         status: 0,
-        out: "diff a.yaml -> b.yaml\ncopied from a.yaml\na/a.yaml:1:3: 12 UndefinedAlias at byte 2: [0]: no node before this one in its document has an anchor of this name\n- *x\n  ^\nb/b.yaml:1:3: 12 UndefinedAlias at byte 2: [0]: no node before this one in its document has an anchor of this name\n- *y\n  ^\n",
+        out: "diff a.yaml -> b.yaml\ncopied from a.yaml\na/a.yaml:1:3: 12 UndefinedAlias at byte 2: [0]: no anchor of this name comes before it in its document: define it first, or quote the value\n- *x\n  ^\nb/b.yaml:1:3: 12 UndefinedAlias at byte 2: [0]: no anchor of this name comes before it in its document: define it first, or quote the value\n- *y\n  ^\n",
         err: "",
     },
     Row {
@@ -185,7 +185,7 @@ pub static ROWS: [Row; 13] = [
         left: b"- *x\n",
         right: b"{a: 1, a: 2}\n",
         status: 0,
-        out: "diff a.yaml\na/a.yaml:1:3: 12 UndefinedAlias at byte 2: [0]: no node before this one in its document has an anchor of this name\n- *x\n  ^\nb/a.yaml:1:8: 19 EqualKeys at byte 7: .a: the keys of a mapping differ, each from each\n{a: 1, a: 2}\n       ^\nb/a.yaml:1:2: the first of the two\n",
+        out: "diff a.yaml\na/a.yaml:1:3: 12 UndefinedAlias at byte 2: [0]: no anchor of this name comes before it in its document: define it first, or quote the value\n- *x\n  ^\nb/a.yaml:1:8: 19 EqualKeys at byte 7: .a: `a` is in this mapping already, at line 1: remove or rename one\n{a: 1, a: 2}\n       ^\nb/a.yaml:1:2: the first of the two\n",
         err: "",
     },
     Row {

@@ -115,7 +115,7 @@ pub static ROWS: [Row; 8] = [
         left: b"a: 1\n",
         right: b"- *x\n",
         status: 0,
-        out: "diff a.yaml\nb/a.yaml:1:3: 12 UndefinedAlias at byte 2: [0]: no node before this one in its document has an anchor of this name\n- *x\n  ^\n",
+        out: "diff a.yaml\nb/a.yaml:1:3: 12 UndefinedAlias at byte 2: [0]: no anchor of this name comes before it in its document: define it first, or quote the value\n- *x\n  ^\n",
         err: "",
     },
     Row {

@@ -1,6 +1,7 @@
 //! Slips that are common in files, and what `faults` says of each: its cause.
 use crate::runs::{ALL, Given, run};
 use crate::slips::NODES;
+use crate::tool_slips::{FOREIGN, TOOLS};
 use std::process::Abort;
 use std::test::Fail;
 
@@ -23,11 +24,11 @@ static LINES: [Slip; 75] = [
     ),
     (
         b"k: [a,\nb]\n",
-        "a line of a flow collection stands deeper than its parent",
+        "indent this line more than the key or the item of its bracket or brace",
     ),
     (
         b"k: {a: 1,\nb: 2}\n",
-        "a line of a flow collection stands deeper than its parent",
+        "indent this line more than the key or the item of its bracket or brace",
     ),
     (
         b"k: \"a\nb\"\n",
@@ -44,28 +45,31 @@ static LINES: [Slip; 75] = [
     // What is filled in, merged or copied from elsewhere.
     (
         b"{{- if .Values.x }}\na: 1\n{{- end }}\n",
-        "a template: render it first",
+        "a template, not YAML: render it first",
     ),
     (
         b"a: 1\n{{- if .Values.x }}\nb: 1\n{{- end }}\n",
-        "a template: render it first",
+        "a template, not YAML: render it first",
     ),
-    (b"a: {{ .Values.x }}-b\n", "a template: render it first"),
+    (
+        b"a: {{ .Values.x }}-b\n",
+        "a template, not YAML: render it first",
+    ),
     (
         b"a:\n  {{- toYaml .Values.x | nindent 2 }}\n",
-        "a template: render it first",
+        "a template, not YAML: render it first",
     ),
     (
         b"{% if x %}\na: 1\n{% endif %}\n",
-        "a template: render it first",
+        "a template, not YAML: render it first",
     ),
     (
         b"a:\n  {% for x in y %}\n  - b\n  {% endfor %}\n",
-        "a template: render it first",
+        "a template, not YAML: render it first",
     ),
     (
         b"a: 1\n{% if x %}\nb: 1\n{% endif %}\n",
-        "a template: render it first",
+        "a template, not YAML: render it first",
     ),
     (
         b"<<<<<<< HEAD\na: 1\n=======\na: 2\n>>>>>>> x\n",
@@ -77,19 +81,19 @@ static LINES: [Slip; 75] = [
     ),
     (
         b"// c\na: 1\n",
-        "line 1 is no comment: a comment begins with `#`",
+        "line 1 is no comment: begin a comment with `#`",
     ),
     (
         b"/* c */\na: 1\n",
-        "line 1 is no comment: a comment begins with `#`",
+        "line 1 is no comment: begin a comment with `#`",
     ),
     (
         b"{\"a\": 1}{\"b\": 2}\n",
-        "the document ends with its closing bracket: the next one begins with a line `---`",
+        "the document ends with its closing bracket: put a line `---` before the next one",
     ),
     (
         b"{\"a\": 1}\n{\"b\": 2}\n",
-        "the document ends above: the next one begins with a line `---`",
+        "the document ends above: put a line `---` before the next one",
     ),
     (
         b"[section]\nkey = v\n",
@@ -104,14 +108,23 @@ static LINES: [Slip; 75] = [
         "a fence of Markdown: remove the line",
     ),
     (b"a: 1\n```\n", "a fence of Markdown: remove the line"),
-    (b"a: 1\nEOF\n", "this line is no entry: its key has no `:`"),
+    (
+        b"a: 1\nEOF\n",
+        "this line is no entry of a mapping: write `key: value`",
+    ),
     // Spaces that are missing or of another kind.
-    (b"a:1\nb: 2\n", "line 1 has no space after its colon"),
+    (
+        b"a:1\nb: 2\n",
+        "line 1 has no space after its colon: write `: `",
+    ),
     (
         b"x:\n  a:1\n  b: 2\n",
-        "line 2 has no space after its colon",
+        "line 2 has no space after its colon: write `: `",
     ),
-    (b"a: 1\nb:2\nc: 3\n", "line 2 has no space after its colon"),
+    (
+        b"a: 1\nb:2\nc: 3\n",
+        "line 2 has no space after its colon: write `: `",
+    ),
     (
         b"a:\xC2\xA0b\nc: d\n",
         "line 1 has a no-break space (U+00A0): write a space",
@@ -126,25 +139,28 @@ static LINES: [Slip; 75] = [
     ),
     (
         b"a:\n\tb: 1\n",
-        "indentation and separation are spaces, and this is a tab",
+        "this is a tab: use spaces for indentation and separation",
     ),
     (
         b"a:\tb\n",
-        "indentation and separation are spaces, and this is a tab",
+        "this is a tab: use spaces for indentation and separation",
     ),
     (
         b"a: 1\t# c\n",
-        "indentation and separation are spaces, and this is a tab",
+        "this is a tab: use spaces for indentation and separation",
     ),
     (
         b"-\ta\n",
-        "indentation and separation are spaces, and this is a tab",
+        "this is a tab: use spaces for indentation and separation",
     ),
     (
         b"a: \"b\"\t\nc: 1\n",
-        "indentation and separation are spaces, and this is a tab",
+        "this is a tab: use spaces for indentation and separation",
     ),
-    (b"a :1\nb: 2\n", "line 1 has no space after its colon"),
+    (
+        b"a :1\nb: 2\n",
+        "line 1 has no space after its colon: write `: `",
+    ),
     (
         b"a = 1\nb: 2\n",
         "line 1 has `=` where an entry has its colon: write `key: value`",
@@ -153,16 +169,28 @@ static LINES: [Slip; 75] = [
         b"a: 1\nb = 2\n",
         "line 2 has `=` where an entry has its colon: write `key: value`",
     ),
-    (b"a: \"b\"#c\n", "a comment has a space before its `#`"),
-    (b"a: [b]#c\n", "a comment has a space before its `#`"),
-    (b"\"a\":1\nb: 2\n", "line 1 has no space after its colon"),
+    (b"a: \"b\"#c\n", "write a space before the `#` of a comment"),
+    (b"a: [b]#c\n", "write a space before the `#` of a comment"),
+    (
+        b"\"a\":1\nb: 2\n",
+        "line 1 has no space after its colon: write `: `",
+    ),
     (
         b"\"a\" 1\nb: 2\n",
-        "nothing can follow the closing quote: put the whole value between quotes",
+        "put quotes around the whole value, or remove what follows the closing quote or bracket",
     ),
-    (b"-a\n-b: 1\n", "line 2 has no space after its dash"),
-    (b"- a\n-b\n", "line 2 has no space after its dash"),
-    (b"x: 1\n-b\n", "line 2 has no space after its dash"),
+    (
+        b"-a\n-b: 1\n",
+        "line 2 has no space after its dash: write `- `",
+    ),
+    (
+        b"- a\n-b\n",
+        "line 2 has no space after its dash: write `- `",
+    ),
+    (
+        b"x: 1\n-b\n",
+        "line 2 has no space after its dash: write `- `",
+    ),
     // What is not closed, or closed by something else.
     (
         b"a: \"b\nc: d\n",
@@ -204,7 +232,7 @@ static LINES: [Slip; 75] = [
         b"x: 1\na: {b: 1,\n",
         "the brace opened at line 2, column 4 is not closed",
     ),
-    (b"a: [\"b\" \"c\"]\n", "a comma is missing before it"),
+    (b"a: [\"b\" \"c\"]\n", "a comma is missing here"),
     (b"a: {b: 1 c: 2}\n", "a comma is missing before this entry"),
     (
         b"a: {\n  b: 1\n  c: 2\n  }\n",
@@ -216,23 +244,23 @@ static LINES: [Slip; 75] = [
     ),
     (
         b"a: [1]]\n",
-        "no bracket is open here: remove it, or quote the value",
+        "remove this bracket, or quote the value: none is open here",
     ),
     (
         b"a: 1\n}\n",
-        "no brace is open here: remove it, or quote the value",
+        "remove this brace, or quote the value: none is open here",
     ),
     (
         b"a: }\n",
-        "no brace is open here: remove it, or quote the value",
+        "remove this brace, or quote the value: none is open here",
     ),
     (
         b"a: , b\n",
-        "a comma only separates items of `[ ]` and entries of `{ }`: remove it, or quote the value",
+        "remove this comma, or quote the value: commas separate only items of `[ ]` and entries of `{ }`",
     ),
     (
         b"\"a\": \"b\",\n\"c\": \"d\"\n",
-        "a comma only separates items of `[ ]` and entries of `{ }`: remove it, or quote the value",
+        "remove this comma, or quote the value: commas separate only items of `[ ]` and entries of `{ }`",
     ),
     (
         b"a: [1}\n",
@@ -256,11 +284,11 @@ static LINES: [Slip; 75] = [
     ),
     (
         b"a: [b, , c]\n",
-        "a comma comes after an item or an entry: remove it",
+        "remove this comma: there is no item or entry before it",
     ),
     (
         b"a: [, b]\n",
-        "a comma comes after an item or an entry: remove it",
+        "remove this comma: there is no item or entry before it",
     ),
     (
         b"a: [\"b, c]\nd: 1\n",
@@ -293,7 +321,7 @@ fn is_hinted<T: Abort + AllocGlobal>(rt: &T, slip: &Slip) -> Result<(), Fail> {
 
 #[test]
 fn hints_name_the_cause(rt: HostRuntime) -> Result<(), Fail> {
-    let tables: [&[Slip]; 2] = [&LINES, &NODES];
+    let tables: [&[Slip]; 4] = [&LINES, &NODES, &TOOLS, &FOREIGN];
     for table in &tables {
         for slip in *table {
             is_hinted(&rt, slip)?;

@@ -30,6 +30,8 @@ mod pasted;
 #[cfg(test)]
 mod places;
 #[cfg(test)]
+mod readers;
+#[cfg(test)]
 mod rejected;
 #[cfg(test)]
 mod rows;
@@ -45,5 +47,7 @@ mod strings;
 mod sum;
 #[cfg(test)]
 mod tag_places;
+#[cfg(test)]
+mod tool_slips;
 #[cfg(test)]
 mod warnings;

@@ -22,7 +22,7 @@ const THREE: &[&str] = &["merge3", "base", "ours", "theirs"];
 const FOUR: &[&str] = &["merge3", "base", "ours", "theirs", "result"];
 
 /// Two changes of one stream: whether they can be merged, and where not.
-static CHANGES: [Row; 13] = [
+static CHANGES: [Row; 17] = [
     Row {
         name: "each side changed another key",
         words: THREE,
@@ -87,7 +87,7 @@ static CHANGES: [Row; 13] = [
         err: "",
     },
     Row {
-        name: "items by their places, in the second document",
+        name: "a list that both changed, in the second document",
         words: THREE,
         files: [
             "a\n--- [b, c]\n",
@@ -96,7 +96,7 @@ static CHANGES: [Row; 13] = [
             "",
         ],
         status: 1,
-        out: "!\t1[0]\tbase \"b\"\tours \"x\"\ttheirs \"y\"\t2:6\t2:6\t3:3\n",
+        out: "!\t1\tbase [\"b\", \"c\"]\tours [\"x\", \"c\"]\ttheirs [\"y\", \"c\"]\t2:5\t2:5\t3:1\n",
         err: "",
     },
     Row {
@@ -105,6 +105,32 @@ static CHANGES: [Row; 13] = [
         files: ["l: [a, b]\n", "l: [a, b, c]\n", "l: [x, b]\n", ""],
         status: 1,
         out: "!\t.l\tbase [\"a\", \"b\"]\tours [\"a\", \"b\", \"c\"]\ttheirs [\"x\", \"b\"]\t1:4\t1:4\t1:4\n",
+        err: "",
+    },
+    Row {
+        name: "a list that one side put in another order and the other changed",
+        words: THREE,
+        files: [
+            "- n: a\n- n: b\n",
+            "- n: b\n- n: a\n",
+            "- {n: a, root: true}\n- n: b\n",
+            "",
+        ],
+        status: 1,
+        out: "!\t.\tbase [{\"n\" : \"a\"}, {\"n\" : \"b\"}]\tours [{\"n\" : \"b\"}, {\"n\" : \"a\"}]\ttheirs [{\"n\" : \"a\", \"root\" : !!bool \"true\"}, {\"n\" : \"b\"}]\t1:1\t1:1\t1:1\n",
+        err: "",
+    },
+    Row {
+        name: "one of several documents, of which both changed another key",
+        words: THREE,
+        files: [
+            "a: 1\nb: 1\n--- c\n",
+            "a: 2\nb: 1\n--- c\n",
+            "# theirs\na: 1\nb: 2\n--- c\n",
+            "",
+        ],
+        status: 1,
+        out: "!\t0\tbase {\"a\" : !!int \"1\", \"b\" : !!int \"1\"}\tours {\"a\" : !!int \"2\", \"b\" : !!int \"1\"}\ttheirs {\"a\" : !!int \"1\", \"b\" : !!int \"2\"}\t1:1\t1:1\t2:1\n",
         err: "",
     },
     Row {
@@ -124,7 +150,7 @@ static CHANGES: [Row; 13] = [
         err: "",
     },
     Row {
-        name: "texts that are the same up to 60 bytes are shown near their difference",
+        name: "a text of more than 60 bytes is cut where it differs from the base's",
         words: THREE,
         files: [
             "s: aaaaaaaaaabbbbbbbbbbccccccccccddddddddddeeeeeeeeeeffffffffffgggggggggg-1\n",
@@ -150,6 +176,32 @@ static CHANGES: [Row; 13] = [
         err: "",
     },
     Row {
+        name: "each side changed another part of a long list, and each is cut where it did",
+        words: THREE,
+        files: [
+            "l:\n- {name: web, image: web-1, note: aaaaaaaaaabbbbbbbbbbcccccccccc}\n- {name: api, image: api-1, note: ddddddddddeeeeeeeeeeffffffffff}\n- {name: db, image: db-1}\n",
+            "l:\n- {name: web, image: web-1, note: aaaaaaaaaabbbbbbbbbbcccccccccc}\n- {name: api, image: api-1, note: ddddddddddeeeeeeeeeeffffffffff}\n- {name: db, image: db-1}\n- more\n",
+            "l:\n- {name: web, image: web-1, note: aaaaaaaaaabbbbbbbbbbcccccccccc}\n- {name: api, image: api-2, note: ddddddddddeeeeeeeeeeffffffffff}\n- {name: db, image: db-1}\n",
+            "",
+        ],
+        status: 1,
+        out: "!\t.l\tbase ...b-1\", \"name\" : \"db\"}]\tours ...b-1\", \"name\" : \"db\"}, \"more\"]\ttheirs ...\"}, {\"image\" : \"api-2\", \"name\" : \"api\", \"note\" : \"dddddddddd...\t2:1\t2:1\t2:1\n",
+        err: "",
+    },
+    Row {
+        name: "two long texts that begin alike, where the base has none: the second is cut where it differs from the first",
+        words: THREE,
+        files: [
+            "a: x\n",
+            "a: x\ns: aaaaaaaaaabbbbbbbbbbccccccccccddddddddddeeeeeeeeeeffffffffffgggggggggg-1\n",
+            "a: x\ns: aaaaaaaaaabbbbbbbbbbccccccccccddddddddddeeeeeeeeeeffffffffffgggggggggg-2\n",
+            "",
+        ],
+        status: 1,
+        out: "!\t.s\tbase absent\tours \"aaaaaaaaaabbbbbbbbbbccccccccccddddddddddeeeeeeeeeefffffffff...\ttheirs ...fffffffffgggggggggg-2\"\t\t2:4\t2:4\n",
+        err: "",
+    },
+    Row {
         name: "a character that turns text round is shown as its escape",
         words: THREE,
         files: ["a: x\n", "a: \"\\u202Ey\"\n", "a: z\n", ""],
@@ -160,7 +212,7 @@ static CHANGES: [Row; 13] = [
 ];
 
 /// A result that is judged.
-static RESULTS: [Row; 7] = [
+static RESULTS: [Row; 8] = [
     Row {
         name: "the result has both changes, in another spelling",
         words: FOUR,
@@ -211,7 +263,7 @@ static RESULTS: [Row; 7] = [
         ],
         status: 2,
         out: "",
-        err: "result:3:1: 19 EqualKeys at byte 22: .owner: the keys of a mapping differ, each from each\nowner: alice\n^\nresult:1:1: the first of the two\n",
+        err: "result:3:1: 19 EqualKeys at byte 22: .owner: `owner` is in this mapping already, at line 1: remove or rename one\nowner: alice\n^\nresult:1:1: the first of the two\n",
     },
     Row {
         name: "where both changed a key, no result is the merge",
@@ -219,6 +271,19 @@ static RESULTS: [Row; 7] = [
         files: ["a: x\n", "a: y\n", "a: z\n", "a: y\n"],
         status: 1,
         out: "~\t.a\tbase \"x\"\tours \"y\"\ttheirs \"z\"\tresult \"y\"\t1:4\t1:4\t1:4\t1:4\n",
+        err: "",
+    },
+    Row {
+        name: "an item has the change of another one",
+        words: FOUR,
+        files: [
+            "- n: a\n- n: b\n",
+            "- n: b\n- n: a\n",
+            "- {n: a, root: true}\n- n: b\n",
+            "- {n: b, root: true}\n- n: a\n",
+        ],
+        status: 1,
+        out: "~\t.\tbase [{\"n\" : \"a\"}, {\"n\" : \"b\"}]\tours [{\"n\" : \"b\"}, {\"n\" : \"a\"}]\ttheirs [{\"n\" : \"a\", \"root\" : !!bool \"true\"}, {\"n\" : \"b\"}]\tresult [{\"n\" : \"b\", \"root\" : !!bool \"true\"}, {\"n\" : \"a\"}]\t1:1\t1:1\t1:1\t1:1\n",
         err: "",
     },
     Row {
@@ -273,9 +338,9 @@ static WORDS: [Row; 7] = [
     Row {
         name: "one line of two",
         words: &["merge3", "--lines", "1", "base", "ours", "theirs"],
-        files: ["[a, b]\n", "[c, d]\n", "[e, f]\n", ""],
+        files: ["{a: x, b: x}\n", "{a: y, b: y}\n", "{a: z, b: z}\n", ""],
         status: 1,
-        out: "!\t[0]\tbase \"a\"\tours \"c\"\ttheirs \"e\"\t1:2\t1:2\t1:2\n...\n",
+        out: "!\t.a\tbase \"x\"\tours \"y\"\ttheirs \"z\"\t1:5\t1:5\t1:5\n...\n",
         err: "",
     },
     Row {
@@ -312,7 +377,7 @@ static NONE: [Row; 5] = [
         files: ["a: [1,\n2\n", "a: 1\n", "- *x\n", ""],
         status: 2,
         out: "",
-        err: "base:2:1: 4 Syntax at byte 7: a line of a flow collection stands deeper than its parent\n2\n^\ntheirs:1:3: 12 UndefinedAlias at byte 2: [0]: no node before this one in its document has an anchor of this name\n- *x\n  ^\n",
+        err: "base:2:1: 4 Syntax at byte 7: indent this line more than the key or the item of its bracket or brace\n2\n^\ntheirs:1:3: 12 UndefinedAlias at byte 2: [0]: no anchor of this name comes before it in its document: define it first, or quote the value\n- *x\n  ^\n",
     },
     Row {
         name: "a file is not there",

@@ -174,7 +174,7 @@ pub static GROUPS: [Row; 22] = [
         left: b"x: [a, b, c, d]\nv: 1\nw: 1\n",
         right: b"x: [d, c, b, a]\nv: 2\nw: 2\n",
         status: 1,
-        out: "~\t.v\t!!int \"1\"\t!!int \"2\"\n~\t.w\t!!int \"1\"\t!!int \"2\"\n...\n",
+        out: "~\t.v\t!!int \"1\"\t!!int \"2\"\n~\t.w\t!!int \"1\"\t!!int \"2\"\n... not listed: 3 moves\n",
         err: "",
     },
     Row {
@@ -192,7 +192,7 @@ pub static GROUPS: [Row; 22] = [
         left: OBJECTS,
         right: b"--- {apiVersion: v1, kind: K, metadata: {name: e}}\n--- {apiVersion: v1, kind: K, metadata: {name: d}}\n--- {apiVersion: v1, kind: K, metadata: {name: a}}\n--- {apiVersion: v1, kind: K, metadata: {name: b}}\n--- {apiVersion: v1, kind: K, metadata: {name: c}}\n",
         status: 1,
-        out: ">\t\t5 documents in another order, none changed\t\n",
+        out: ">\t.\t5 documents in another order, none changed\t\n",
         err: "",
     },
     Row {
@@ -249,7 +249,7 @@ pub static ROWS: [Row; 14] = [
         left: CONTAINERS,
         right: OTHERS,
         status: 1,
-        out: "~\t[1:2].image\t\"y\"\t\"w\"\n...\n",
+        out: "~\t[1:2].image\t\"y\"\t\"w\"\n... not listed: 1 move\n",
         err: "",
     },
     Row {

@@ -53,7 +53,7 @@ static ROWS: [Row; 4] = [
             b"\xC3\xA9\x80",
         ],
         status: 3,
-        out: "left:1:3: 12 UndefinedAlias at byte 2: [0]: no node before this one in its document has an anchor of this name\n- *x\n  ^\n",
+        out: "left:1:3: 12 UndefinedAlias at byte 2: [0]: no anchor of this name comes before it in its document: define it first, or quote the value\n- *x\n  ^\n",
         err: "yamlreview: bad?.yaml: cannot open: its name is not UTF-8\nyamlreview: \u{E9}?: cannot open: its name is not UTF-8\n",
     },
     Row {

@@ -99,7 +99,7 @@ pub static ROWS: [Row; 12] = [
         left: b"x:\n  80: a\n  0x50: c\n",
         right: b"\xEF\xBB\xBFa: b: c",
         status: 2,
-        out: "{\"byte\":13,\"column\":3,\"file\":\"left\",\"first_column\":3,\"first_line\":2,\"line\":3,\"name\":\"EqualKeys\",\"number\":19,\"path\":\".x[!!int \\\"80\\\"]\",\"words\":\"the keys of a mapping differ, each from each\"}\n{\"byte\":7,\"column\":5,\"file\":\"right\",\"first_column\":null,\"first_line\":null,\"line\":1,\"name\":\"Syntax\",\"number\":4,\"path\":null,\"words\":\"a value that holds `: ` stands between quotes\"}\n",
+        out: "{\"byte\":13,\"cause_column\":null,\"cause_line\":null,\"column\":3,\"file\":\"left\",\"first_column\":3,\"first_line\":2,\"line\":3,\"name\":\"EqualKeys\",\"number\":19,\"path\":\".x[!!int \\\"80\\\"]\",\"words\":\"`0x50` is in this mapping already, at line 2: remove or rename one\"}\n{\"byte\":7,\"cause_column\":null,\"cause_line\":null,\"column\":5,\"file\":\"right\",\"first_column\":null,\"first_line\":null,\"line\":1,\"name\":\"Syntax\",\"number\":4,\"path\":null,\"words\":\"a value with `: ` in it needs quotes\"}\n",
         err: "",
     },
     Row {
@@ -181,7 +181,7 @@ pub static GIT: [Row; 6] = [
         left: b"a: 1",
         right: b"- *y",
         status: 0,
-        out: "diff a.yaml\nb/a.yaml:1:3: 12 UndefinedAlias at byte 2: [0]: no node before this one in its document has an anchor of this name\n- *y\n  ^\n",
+        out: "diff a.yaml\nb/a.yaml:1:3: 12 UndefinedAlias at byte 2: [0]: no anchor of this name comes before it in its document: define it first, or quote the value\n- *y\n  ^\n",
         err: "",
     },
     Row {

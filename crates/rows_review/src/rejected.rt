@@ -12,7 +12,7 @@ pub static FILES: [Row; 6] = [
         right: b"a: 1\n",
         status: 2,
         out: "",
-        err: "left:1:8: 19 EqualKeys at byte 7: .a: the keys of a mapping differ, each from each\n{a: 1, a: 2}\n       ^\nleft:1:2: the first of the two\n",
+        err: "left:1:8: 19 EqualKeys at byte 7: .a: `a` is in this mapping already, at line 1: remove or rename one\n{a: 1, a: 2}\n       ^\nleft:1:2: the first of the two\n",
     },
     Row {
         name: "both sides are",
@@ -21,7 +21,7 @@ pub static FILES: [Row; 6] = [
         right: b"a:\n- b\n- *y\n",
         status: 2,
         out: "",
-        err: "left:1:3: 12 UndefinedAlias at byte 2: [0]: no node before this one in its document has an anchor of this name\n- *x\n  ^\nright:3:3: 12 UndefinedAlias at byte 9: .a[1]: no node before this one in its document has an anchor of this name\n- *y\n  ^\n",
+        err: "left:1:3: 12 UndefinedAlias at byte 2: [0]: no anchor of this name comes before it in its document: define it first, or quote the value\n- *x\n  ^\nright:3:3: 12 UndefinedAlias at byte 9: .a[1]: no anchor of this name comes before it in its document: define it first, or quote the value\n- *y\n  ^\n",
     },
     Row {
         name: "both sides are, as objects",
@@ -30,7 +30,7 @@ pub static FILES: [Row; 6] = [
         right: b"[*y]\n",
         status: 2,
         out: "",
-        err: "{\"byte\":2,\"column\":3,\"file\":\"left\",\"first_column\":null,\"first_line\":null,\"line\":1,\"name\":\"UndefinedAlias\",\"number\":12,\"path\":\"[0]\",\"words\":\"no node before this one in its document has an anchor of this name\"}\n{\"byte\":1,\"column\":2,\"file\":\"right\",\"first_column\":null,\"first_line\":null,\"line\":1,\"name\":\"UndefinedAlias\",\"number\":12,\"path\":\"[0]\",\"words\":\"no node before this one in its document has an anchor of this name\"}\n",
+        err: "{\"byte\":2,\"cause_column\":null,\"cause_line\":null,\"column\":3,\"file\":\"left\",\"first_column\":null,\"first_line\":null,\"line\":1,\"name\":\"UndefinedAlias\",\"number\":12,\"path\":\"[0]\",\"words\":\"no anchor of this name comes before it in its document: define it first, or quote the value\"}\n{\"byte\":1,\"cause_column\":null,\"cause_line\":null,\"column\":2,\"file\":\"right\",\"first_column\":null,\"first_line\":null,\"line\":1,\"name\":\"UndefinedAlias\",\"number\":12,\"path\":\"[0]\",\"words\":\"no anchor of this name comes before it in its document: define it first, or quote the value\"}\n",
     },
     Row {
         name: "one side cannot be opened, and the other is rejected",
@@ -39,7 +39,7 @@ pub static FILES: [Row; 6] = [
         right: b"- *y\n",
         status: 3,
         out: "",
-        err: "yamlreview: absent: cannot open: not found\nright:1:3: 12 UndefinedAlias at byte 2: [0]: no node before this one in its document has an anchor of this name\n- *y\n  ^\n",
+        err: "yamlreview: absent: cannot open: not found\nright:1:3: 12 UndefinedAlias at byte 2: [0]: no anchor of this name comes before it in its document: define it first, or quote the value\n- *y\n  ^\n",
     },
     Row {
         name: "a folder, and a file without permission",

@@ -2,7 +2,7 @@
 use crate::runs::{ALL, Given, run};
 use crate::{
     differences, empty_nodes, faults, folds, git, git_shown, ignored, moves, pasted, places,
-    rejected, shown, strings, tag_places, warnings,
+    readers, rejected, shown, strings, tag_places, warnings,
 };
 use std::process::Abort;
 use std::test::Fail;
@@ -33,7 +33,7 @@ fn is_told<T: Abort + AllocGlobal>(rt: &T, row: &Row) -> Result<(), Fail> {
 
 #[test]
 fn runs_over_two_files_are_told(rt: HostRuntime) -> Result<(), Fail> {
-    let tables: [&[Row]; 24] = [
+    let tables: [&[Row]; 26] = [
         &differences::ROWS,
         &ignored::ROWS,
         &strings::ROWS,
@@ -46,6 +46,8 @@ fn runs_over_two_files_are_told(rt: HostRuntime) -> Result<(), Fail> {
         &faults::MEANINGS,
         &faults::OTHERS,
         &warnings::ROWS,
+        &readers::ROWS,
+        &readers::SHOWN,
         &places::ROWS,
         &places::GIT,
         &places::REFUSED,

@@ -26,7 +26,7 @@ pub static YAML: [Row; 18] = [
         right: b"",
         status: 0,
         out: "---\n- \"yes\"\n- \"No\"\n- \"ON\"\n- \"off\"\n- \"y\"\n- \"N\"\n- \"12:30\"\n- \"0o7x\"\n- \"1_0\"\n- \"2001-01-01\"\n- \"~\"\n- \"=\"\n- \"<<\"\n- .inf\n",
-        err: "",
+        err: "left:1:2: warning: yes: a string here, a bool in YAML 1.1\nleft:1:7: warning: No: a string here, a bool in YAML 1.1\nleft:1:11: warning: ON: a string here, a bool in YAML 1.1\nleft:1:15: warning: off: a string here, a bool in YAML 1.1\nleft:1:20: warning: y: a string here, a bool in YAML 1.1\nleft:1:23: warning: N: a string here, a bool in YAML 1.1\nleft:1:41: warning: 1_0: a string here, an int in YAML 1.1\nleft:1:65: warning: =: a string here, a default value in YAML 1.1\n",
     },
     Row {
         name: "so is what the core schema takes for another value",
@@ -89,7 +89,7 @@ pub static YAML: [Row; 18] = [
         right: b"",
         status: 0,
         out: "---\n- 31\n- 0\n- 1000.0\n- 0.5\n- -1.0e-5\n- 0.0012\n- 1500000000000000.0\n- 1.0e+16\n- 12.5\n- 0.0\n- -.inf\n- .nan\n",
-        err: "",
+        err: "left:1:24: warning: -1e-5: a float here, a string in YAML 1.1\nleft:1:39: warning: 1.5e15: a float here, a string in YAML 1.1\nleft:1:47: warning: 1e16: a float here, a string in YAML 1.1\n",
     },
     Row {
         name: "tags",
@@ -107,7 +107,7 @@ pub static YAML: [Row; 18] = [
         right: b"",
         status: 0,
         out: "---\n!t k: 6\n3: 4\nnull: 5\n\"a: b\": 1\n\"yes\": 2\n{} : w\n[\"a\", 1] : x\n",
-        err: "",
+        err: "left:1:31: warning: yes: a string here, a bool in YAML 1.1\n",
     },
     Row {
         name: "aliases are written out",
@@ -143,7 +143,7 @@ pub static YAML: [Row; 18] = [
         right: b"- x\n",
         status: 2,
         out: "---\n- x\n",
-        err: "left:1:3: 12 UndefinedAlias at byte 2: [0]: no node before this one in its document has an anchor of this name\n- *x\n  ^\n",
+        err: "left:1:3: 12 UndefinedAlias at byte 2: [0]: no anchor of this name comes before it in its document: define it first, or quote the value\n- *x\n  ^\n",
     },
     Row {
         name: "a mapping with two equal keys",
@@ -152,7 +152,7 @@ pub static YAML: [Row; 18] = [
         right: b"",
         status: 2,
         out: "",
-        err: "left:1:14: 19 EqualKeys at byte 13: .a: the keys of a mapping differ, each from each\n{a: 1, b: 2, a: 3}\n             ^\nleft:1:2: the first of the two\n",
+        err: "left:1:14: 19 EqualKeys at byte 13: .a: `a` is in this mapping already, at line 1: remove or rename one\n{a: 1, b: 2, a: 3}\n             ^\nleft:1:2: the first of the two\n",
     },
     Row {
         name: "with --textconv a rejected file is written as it is",
@@ -161,7 +161,7 @@ pub static YAML: [Row; 18] = [
         right: b"[ x ]\n",
         status: 0,
         out: "- *x---\n- x\n",
-        err: "left:1:3: 12 UndefinedAlias at byte 2: [0]: no node before this one in its document has an anchor of this name\n- *x\n  ^\n",
+        err: "left:1:3: 12 UndefinedAlias at byte 2: [0]: no anchor of this name comes before it in its document: define it first, or quote the value\n- *x\n  ^\n",
     },
     Row {
         name: "a file that is not there",
@@ -183,7 +183,7 @@ pub static LINES: [Row; 9] = [
         right: b"",
         status: 0,
         out: "{\"a\": [], \"b\": [1, 2.5, 1000.0, null, true, {}]}\n\"x\"\n31\n",
-        err: "",
+        err: "left:1:14: warning: 1e3: a float here, a string in YAML 1.1\n",
     },
     Row {
         name: "strings",
@@ -191,8 +191,8 @@ pub static LINES: [Row; 9] = [
         left: b"[yes, \"\\\"\\\\/\\n\\t\\r\\b\\f\\0\\x7F\\u2028\xC3\xA9\xF0\x9F\x98\x80\"]\n",
         right: b"",
         status: 0,
-        out: "[\"yes\", \"\\\"\\\\/\\n\\t\\r\\b\\f\\u0000\\u007F\\u2028\u{E9}\u{1F600}\"]\n",
-        err: "",
+        out: "[\"yes\", \"\\\"\\\\/\\n\\t\\r\\b\\f\\u0000\\u007F\\u2028é😀\"]\n",
+        err: "left:1:2: warning: yes: a string here, a bool in YAML 1.1\n",
     },
     Row {
         name: "a key that is no string",

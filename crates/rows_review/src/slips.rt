@@ -5,11 +5,11 @@ pub static NODES: [Slip; 92] = [
     // Dashes, keys and document markers.
     (
         b"a: - b\n",
-        "a block sequence starts on the line after its key",
+        "start a block sequence on the line after its key",
     ),
     (
         b"a: - b\n   - c\n",
-        "a block sequence starts on the line after its key",
+        "start a block sequence on the line after its key",
     ),
     (
         b"a: 'it's'\n",
@@ -21,123 +21,114 @@ pub static NODES: [Slip; 92] = [
     ),
     (
         b"--- b: 2\n",
-        "a block mapping starts on the line after `---`",
+        "start a block mapping on the line after `---`",
     ),
     (
         b"--- - b\n",
-        "a block sequence starts on the line after `---`",
+        "start a block sequence on the line after `---`",
     ),
     (
         b"? a\n: b\n",
-        "`? ` before a key is not read in a block mapping: write the key before its `:`, of at most 1,024 characters",
+        "write `key: value` without `? `, with at most 1,024 characters before the `:`, or put the mapping in braces",
     ),
     (
         b"a:\n  - b\n - c\n",
-        "an item stands with the other items of its sequence, or deeper than its key",
+        "indent this `-` like the items above, or deeper than its key",
     ),
     (
         b"a:\n  - b: 1\n    - c\n",
-        "the key above has a value: a sequence is the value of a key that has none",
+        "indent this `-` like the items above, or deeper than its key",
     ),
     (
         b" - a\n- b\n",
-        "an item stands with the other items of its sequence, or deeper than its key",
+        "indent this `-` like the items above, or deeper than its key",
     ),
     (
         b"a: 1\n- b\n",
-        "the key above has a value: a sequence is the value of a key that has none",
+        "this item is in a mapping: put it below a key without a value, or put `- ` before the key above too",
     ),
     (
         b"a: 1\n  - b: 2\n",
-        "this line stands deeper than the one above, and is read as more of its value: an entry stands right below its siblings",
+        "this line is read as more of the value above: indent it like the entries that it belongs to",
     ),
     (
         b"- a\nb: 1\n",
-        "an entry cannot follow an item of a sequence: it is indented as the item's first key, or begins with `- `",
+        "this entry is in no item: indent it like the first key of the item above, or begin it with `- `",
     ),
     (
         b"a: \"b\" c\n",
-        "nothing can follow the closing quote: put the whole value between quotes",
+        "put quotes around the whole value, or remove what follows the closing quote or bracket",
     ),
     (
         b"- 'a' b\n",
-        "nothing can follow the closing quote: put the whole value between quotes",
+        "put quotes around the whole value, or remove what follows the closing quote or bracket",
     ),
     (
         b"a: [1] x\n",
-        "nothing can follow the closing bracket: put the whole value between quotes",
+        "put quotes around the whole value, or remove what follows the closing quote or bracket",
     ),
-    (
-        b"a: b: c\n",
-        "a value that holds `: ` stands between quotes",
-    ),
-    (
-        b"- a: b: c\n",
-        "a value that holds `: ` stands between quotes",
-    ),
-    (b"a: b:\n", "a value that holds `: ` stands between quotes"),
-    (
-        b"a: Error: x\n",
-        "a value that holds `: ` stands between quotes",
-    ),
+    (b"a: b: c\n", "a value with `: ` in it needs quotes"),
+    (b"- a: b: c\n", "a value with `: ` in it needs quotes"),
+    (b"a: b:\n", "a value with `: ` in it needs quotes"),
+    (b"a: Error: x\n", "a value with `: ` in it needs quotes"),
     (
         b"a: x\n  b: 2\n",
-        "this line stands deeper than the one above, and is read as more of its value: an entry stands right below its siblings",
+        "this line is read as more of the value above: indent it like the entries that it belongs to",
     ),
     (
         b"a: 1\n b: 2\n",
-        "this line stands deeper than the one above, and is read as more of its value: an entry stands right below its siblings",
+        "this line is read as more of the value above: indent it like the entries that it belongs to",
     ),
     (
         b"a:\n    b: 1\n  c: 2\n",
-        "this line continues no open collection: its indentation is that of none, or its key has no `:`",
+        "indent this entry like the others of its mapping",
     ),
     (
         b"a:\n  b:\n      c: 1\n    d: 2\n",
-        "this line continues no open collection: its indentation is that of none, or its key has no `:`",
+        "indent this entry like the others of its mapping",
     ),
     (
         b"- a: 1\n b: 2\n",
-        "an entry cannot follow an item of a sequence: it is indented as the item's first key, or begins with `- `",
+        "this entry is in no item: indent it like the first key of the item above, or begin it with `- `",
     ),
     (
         b"- a: 1\n   b: 2\n",
-        "this line stands deeper than the one above, and is read as more of its value: an entry stands right below its siblings",
+        "this line is read as more of the value above: indent it like the entries that it belongs to",
     ),
     (
         b"a: 1\nb\nc: 2\n",
-        "this line is no entry: its key has no `:`",
+        "this line is no entry of a mapping: write `key: value`",
     ),
-    (b"a: 1\nb\n", "this line is no entry: its key has no `:`"),
-    (b"a\nb: 1\n", "line 1 is no entry: its key has no `:`"),
+    (
+        b"a: 1\nb\n",
+        "this line is no entry of a mapping: write `key: value`",
+    ),
+    (
+        b"a\nb: 1\n",
+        "line 1 is no entry of a mapping: write `key: value`",
+    ),
     (
         b"a: \"say \"hi\"\"\n",
         "write `\\\"` for a quote inside double quotes",
     ),
     (
         b"a: 1\n--- b: 2\n",
-        "a block mapping starts on the line after `---`",
+        "start a block mapping on the line after `---`",
     ),
     (
         b"a: 1\n... b\n",
-        "nothing but a comment can follow `...` on its line",
+        "put nothing but a comment after `...` on its line",
     ),
-    (
-        b"a: 1\n: 2\n",
-        "an entry of a block mapping begins with its key",
-    ),
-    (
-        b"a: :x: 1\n",
-        "a value that holds `: ` stands between quotes",
-    ),
-    (b": a\n", "an entry of a block mapping begins with its key"),
+    (b"a: 1\n: 2\n", "put a key before this colon"),
+    (b"a: :x: 1\n", "a value with `: ` in it needs quotes"),
+    (b": a\n", "put a key before this colon"),
     (
         b"&x - a\n",
-        "a block sequence starts on the line after its anchor or tag",
+        "start a block sequence on the line after its anchor or tag",
     ),
     (
         b"- a\n  b: 1\n",
-        "this line stands deeper than the one above, and is read as more of its value: an entry stands right below its siblings",
+        "this line is read as more of the value above: indent it like the entries that it belongs to",
     ),
     // Anchors, aliases, tags, and characters that begin no plain scalar.
     (b"- */5 * * * *\n", "quote a value that starts with `*`"),
@@ -145,99 +136,102 @@ pub static NODES: [Slip; 92] = [
     (b"cron: * * * * *\n", "quote a value that starts with `*`"),
     (
         b"- *.txt\n",
-        "quote a value that starts with `*`; as an alias it names no node before it",
+        "quote a value that starts with `*`: as an alias it names no anchor before it",
     ),
     (
         b"a: *.txt\n",
-        "quote a value that starts with `*`; as an alias it names no node before it",
+        "quote a value that starts with `*`: as an alias it names no anchor before it",
     ),
     (
         b"a: **/x.txt\n",
-        "quote a value that starts with `*`; as an alias it names no node before it",
+        "quote a value that starts with `*`: as an alias it names no anchor before it",
     ),
     (b"a: **b** c\n", "quote a value that starts with `*`"),
     (
         b"a: 1\n%b: 2\n",
-        "a directive stands before `---` alone, and no plain scalar begins with `%`",
+        "quote a text that starts with `%`, or put this directive before a line `---`",
     ),
     (
         b"a: &x &y b\n",
-        "an anchor, an alias or a tag cannot stand here: each node has one of each at most",
+        "remove this anchor, alias or tag, or quote the value: a node has at most one of each",
     ),
     (
         b"a: !x !y b\n",
-        "an anchor, an alias or a tag cannot stand here: each node has one of each at most",
+        "remove this anchor, alias or tag, or quote the value: a node has at most one of each",
     ),
     (
         b"a: &x *y\n",
-        "an alias has no anchor and no tag of its own",
+        "remove the anchor and the tag before this alias",
     ),
     (
         b"a: @x\n",
-        "no plain scalar begins with `@`, a backtick or `%`: it stands between quotes",
+        "no plain scalar begins with `@`: put quotes around it",
     ),
     (
         b"a: `x`\n",
-        "no plain scalar begins with `@`, a backtick or `%`: it stands between quotes",
+        "no plain scalar begins with a backtick: put quotes around it",
     ),
     (
         b"a: %x\n",
-        "no plain scalar begins with `@`, a backtick or `%`: it stands between quotes",
+        "no plain scalar begins with `%`: put quotes around it, as in `\"%d\"`",
     ),
     (
         b"- %d\n",
-        "no plain scalar begins with `@`, a backtick or `%`: it stands between quotes",
+        "no plain scalar begins with `%`: put quotes around it, as in `\"%d\"`",
     ),
     (
         b"a: !e!x y\n",
-        "no `%TAG` line of this document binds this tag's handle",
+        "add a `%TAG` line for the handle of this tag to its document, or write the tag in full, as `!<URI>`",
     ),
     (
         b"a: & b\n",
-        "an anchor has a name after its `&`: quote a value that starts with `&`",
+        "quote a value that starts with `&`: an anchor has a name after its `&`",
     ),
     (
         b"a: &\n",
-        "an anchor has a name after its `&`: quote a value that starts with `&`",
+        "quote a value that starts with `&`: an anchor has a name after its `&`",
     ),
     (b"a: *\n", "quote a value that starts with `*`"),
     (
         b"a: &x 1\n*x: b\n",
-        "the colon is read as part of the alias's name: put a space before it",
+        "put a space before this colon: it is read as part of the alias's name",
     ),
     // Block scalars.
     (
         b"a: | text\n  b\n",
-        "the text of a block scalar begins on the line after its header",
+        "begin the text of a block scalar on the line after its `|` or `>`",
     ),
     (
         b"a: |x\n  b\n",
-        "a block scalar's header has an indentation of 1 to 9 and `+` or `-` at most, and nothing else behind",
+        "write at most a digit from 1 to 9 and a `+` or `-` after the `|` or `>` of a block scalar",
     ),
     (
         b"a: |0\n  b\n",
-        "a block scalar's header has an indentation of 1 to 9 and `+` or `-` at most, and nothing else behind",
+        "write at most a digit from 1 to 9 and a `+` or `-` after the `|` or `>` of a block scalar",
     ),
     (
         b"a: >++\n  b\n",
-        "a block scalar's header has an indentation of 1 to 9 and `+` or `-` at most, and nothing else behind",
+        "write at most a digit from 1 to 9 and a `+` or `-` after the `|` or `>` of a block scalar",
     ),
     (
         b"a: |12\n  b\n",
-        "a block scalar's header has an indentation of 1 to 9 and `+` or `-` at most, and nothing else behind",
+        "write at most a digit from 1 to 9 and a `+` or `-` after the `|` or `>` of a block scalar",
     ),
-    (b"a: |#c\n  b\n", "a comment has a space before its `#`"),
+    (
+        b"a: |#c\n  b\n",
+        "write a space before the `#` of a comment",
+    ),
     (
         b"a: |\nb\n",
-        "the text of a block scalar must be indented more than its key",
+        "indent the text of a block scalar more than its key",
     ),
     (
         b"a: |\n  x\n y\nb: 1\n",
-        "each line of a block scalar is indented as its first line at least",
+        "indent each line of a block scalar at least as its first line",
     ),
     (
         b"a:\n|\n  x\n",
-        "a block scalar's header is on the line of its key, or indented more than it",
+        "put the `|` or `>` of a block scalar on the line of its key, or indent it more than the key",
     ),
     // Escapes, directives and encodings.
     (
@@ -258,81 +252,78 @@ pub static NODES: [Slip; 92] = [
     ),
     (
         b"a: caf\xE9\n",
-        "these bytes are not UTF-8: if they are Latin-1, convert the file by `iconv -f LATIN1 -t UTF-8`",
+        "these bytes are not UTF-8: if they are Windows-1252 or Latin-1, convert the file by `iconv -f CP1252 -t UTF-8`",
     ),
     (
         b"%YAML 1.1\n---\na: 1\n",
-        "this reader reads YAML 1.2: without this line `yes`, `no`, `on` and `off` are strings, `012` is 12 and `<<` is an ordinary key (`yamlreview warn` shows where)",
+        "remove this line to read the file as YAML 1.2: there `yes`, `no`, `on` and `off` are strings, `012` is 12 and `<<` is an ordinary key (`yamlreview warn` shows where)",
     ),
     (
         b"%YAML 2.0\n---\na: 1\n",
-        "this reader reads YAML 1.2: write `%YAML 1.2`, or remove the line",
+        "write `%YAML 1.2`, or remove the line: other versions are not read",
     ),
     (
         b"%YAML 1.2\n%YAML 1.2\n---\na: 1\n",
-        "a document has one `%YAML` line at most: remove it",
+        "remove this line: a document has one `%YAML` line at most",
     ),
     (
         b"%TAG !e! a:\n%TAG !e! b:\n---\na: 1\n",
-        "a directive is `%YAML 1.2` or `%TAG`, each at most once for a document and a handle",
+        "remove or correct this line: a document has one `%YAML 1.2` at most, and one `%TAG` for a handle",
     ),
-    (b"%YAML 1.2\n", "the text ends before a node is whole"),
-    (
-        b"%FOO bar\na: 1\n",
-        "a line `---` is missing after the directives",
-    ),
+    (b"%YAML 1.2\n", "put a line `---` after the directives"),
+    (b"%FOO bar\na: 1\n", "put a line `---` after the directives"),
     (
         b"%YAML 1.2\na: 1\n",
-        "a line `---` is missing after the directives",
+        "put a line `---` after the directives",
     ),
     (
         b"a: \"C:\\Users\\x\"\n",
-        "`\\U` has eight hexadecimal digits: a backslash is written `\\\\`, or the text stands between single quotes",
+        "`\\U` takes eight hexadecimal digits: for a backslash write `\\\\`, or put the text between single quotes",
     ),
     (
         b"a: \"\\d+\"\n",
-        "no escape begins so: a backslash is written `\\\\`, or the text stands between single quotes",
+        "this is no escape: for a backslash write `\\\\`, or put the text between single quotes",
     ),
     (
         b"a: \"\\u12\"\n",
-        "`\\u` has four hexadecimal digits: a backslash is written `\\\\`, or the text stands between single quotes",
+        "`\\u` takes four hexadecimal digits: for a backslash write `\\\\`, or put the text between single quotes",
     ),
     (
         b"a: \"\\xq\"\n",
-        "`\\x` has two hexadecimal digits: a backslash is written `\\\\`, or the text stands between single quotes",
+        "`\\x` takes two hexadecimal digits: for a backslash write `\\\\`, or put the text between single quotes",
     ),
     (
         b"a: \"it\\'s\"\n",
-        "a single quote has no backslash between double quotes: remove it",
+        "remove this backslash: between double quotes a single quote needs none",
     ),
     (
         b"a: \"\\$x\"\n",
-        "no escape begins so: a backslash is written `\\\\`, or the text stands between single quotes",
+        "this is no escape: for a backslash write `\\\\`, or put the text between single quotes",
     ),
     (
         b"a: 1\n\xEF\xBB\xBFb: 2\n",
-        "a byte order mark past the start is no character of YAML: remove it",
+        "remove this byte order mark: one is allowed only at the start of a file",
     ),
     (
         b"a: \x1B[1m\n",
-        "a control character, or a byte order mark past the start, is no character of YAML",
+        "YAML does not allow this character: remove it, or write it as an escape between double quotes, as `\\x1B`",
     ),
     (
         b"%TAG !e!\n---\na: 1\n",
-        "a `%TAG` line has a handle and a prefix, as `%TAG !e! tag:example.com,2000:`",
+        "write a handle and a prefix, as `%TAG !e! tag:example.com,2000:`",
     ),
     (
         b"a: !<x y\n",
-        "the `>` of this tag is missing: a full tag is `!<URI>`",
+        "put a `>` at the end of this tag: a full tag is `!<URI>`",
     ),
     (
         b"a: !! y\n",
-        "this is no tag: a local one is `!name`, a full one `!<URI>`",
+        "this is no tag: write `!name`, `!!name` or `!<URI>`, or quote a value that starts with `!`",
     ),
-    (b"a: !Sub[x]\n", "a space is missing after the tag"),
+    (b"a: !Sub[x]\n", "put a space after the tag"),
     (
         b"a: !x - b\n",
-        "a block sequence starts on the line after its anchor or tag",
+        "start a block sequence on the line after its anchor or tag",
     ),
     // What is another language's.
     (

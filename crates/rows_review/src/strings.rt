@@ -106,12 +106,12 @@ pub static ROWS: [Row; 16] = [
         err: "",
     },
     Row {
-        name: "numbers that are not all",
+        name: "the numbers of all, with fewer lines",
         words: &["diff", "--stat", "--lines", "1", "left", "right"],
         left: b"a: 1\nb: 2\n",
         right: b"a: 2\nb: 3\n",
         status: 1,
-        out: "+0 -0 ~1 ... right\n",
+        out: "+0 -0 ~2 right\n",
         err: "",
     },
     Row {
@@ -124,7 +124,7 @@ pub static ROWS: [Row; 16] = [
         err: "",
     },
     Row {
-        name: "numbers as JSON that are not all",
+        name: "numbers as JSON of more than one line has room for",
         words: &[
             "diff",
             "--stat",
@@ -137,7 +137,7 @@ pub static ROWS: [Row; 16] = [
         left: b"a: 1\nb: 2\n",
         right: b"a: 2\nb: 3\n",
         status: 1,
-        out: "{\"added\":0,\"changed\":1,\"kind\":\"stat\",\"moved\":0,\"removed\":0,\"whole\":false}\n",
+        out: "{\"added\":0,\"changed\":2,\"kind\":\"stat\",\"moved\":0,\"removed\":0,\"whole\":true}\n",
         err: "",
     },
     Row {

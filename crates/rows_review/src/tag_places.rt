@@ -181,7 +181,7 @@ pub static ROWS: [Row; 21] = [
         left: b"!!int 10000000000000000000000000000000000000000\n",
         right: b"",
         status: 2,
-        out: "left:1:7: 16 IntRange at byte 6: .: an int is between -2^127 and 2^127 - 1\n!!int 10000000000000000000000000000000000000000\n      ^\n",
+        out: "left:1:7: 16 IntRange at byte 6: .: quote it if it is no number: an int is between -2^127 and 2^127 - 1\n!!int 10000000000000000000000000000000000000000\n      ^\n",
         err: "",
     },
     Row {
@@ -190,7 +190,7 @@ pub static ROWS: [Row; 21] = [
         left: b"a: !!bool yes\n",
         right: b"",
         status: 2,
-        out: "{\"byte\":3,\"column\":4,\"file\":\"left\",\"first_column\":null,\"first_line\":null,\"line\":1,\"name\":\"BadContent\",\"number\":15,\"path\":\".a\",\"words\":\"`yes` is no `!!bool`: write true or false\"}\n",
+        out: "{\"byte\":3,\"cause_column\":null,\"cause_line\":null,\"column\":4,\"file\":\"left\",\"first_column\":null,\"first_line\":null,\"line\":1,\"name\":\"BadContent\",\"number\":15,\"path\":\".a\",\"words\":\"`yes` is no `!!bool`: write true or false\"}\n",
         err: "",
     },
 ];

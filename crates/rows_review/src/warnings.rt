@@ -3,7 +3,7 @@ use crate::rows::Row;
 
 const WARN: &[&str] = &["warn", "left"];
 
-pub static ROWS: [Row; 22] = [
+pub static ROWS: [Row; 29] = [
     Row {
         name: "yes",
         words: WARN,
@@ -46,7 +46,7 @@ pub static ROWS: [Row; 22] = [
         left: b"<<: {x: 1}\na: <<\n",
         right: b"",
         status: 0,
-        out: "left:1:1: warning: <<: a string here, a merge in YAML 1.1\n",
+        out: "left:1:1: warning: <<: a string here, a merge in YAML 1.1\nleft:2:4: warning: <<: a string here, which PyYAML rejects\n",
         err: "",
     },
     Row {
@@ -200,6 +200,69 @@ pub static ROWS: [Row; 22] = [
         right: b"",
         status: 0,
         out: "left:1:3: warning: 3.10: a float, 3.1\nleft:2:3: warning: 1.20: a float, 1.2\nleft:3:3: warning: 1.00: a float, 1\nleft:4:3: warning: -2.50: a float, -2.5\n",
+        err: "",
+    },
+    Row {
+        name: "a template that was not rendered",
+        words: WARN,
+        left: b"- {{ pkg }}\n- {{ .Values.x | quote }}\n- {{ f(a, b) }}\n- {{a: 1}: 2}\n- {[{a}]: 2}\n",
+        right: b"",
+        status: 0,
+        out: "left:1:6: warning: pkg: a key in a key here, as in `{{ x }}`: render a template first\nleft:2:6: warning: .Values.x | quote: a key in a key here, as in `{{ x }}`: render a template first\nleft:3:6: warning: f(a: a key in a key here, as in `{{ x }}`: render a template first\n",
+        err: "",
+    },
+    Row {
+        name: "no space after a colon in braces",
+        words: WARN,
+        left: b"- {type:string}\n- {a: b:c, c:d: 1, e}\n- [f:g]\n- h:i:\n",
+        right: b"",
+        status: 0,
+        out: "left:1:4: warning: type:string: a key without a value here: a space is missing after its colon\n",
+        err: "",
+    },
+    Row {
+        name: "no space after a colon before braces",
+        words: WARN,
+        left: b"- data:{}\n- x-1:[a, b]\n- a:{}b\n- :{}\n- 'data:{}'\n- a b:{}\n- a:{]\n",
+        right: b"",
+        status: 0,
+        out: "left:1:3: warning: data:{}: one string here: a space is missing after its colon\nleft:2:3: warning: x-1:[a, b]: one string here: a space is missing after its colon\n",
+        err: "",
+    },
+    Row {
+        name: "no key, and the sign of a merge",
+        words: WARN,
+        left: b"- <<\n- '<<'\n- !!str <<\n",
+        right: b"",
+        status: 0,
+        out: "left:1:3: warning: <<: a string here, which PyYAML rejects\n",
+        err: "",
+    },
+    Row {
+        name: "an int with a tag",
+        words: WARN,
+        left: b"- !!int 010\n- !!int '-010'\n- !!int 007\n- !!int 0o10\n- !!int 08\n- !!float 010\n- !!str 010\n",
+        right: b"",
+        status: 0,
+        out: "left:1:9: warning: 010: the int 10 here, the int 8 in YAML 1.1\nleft:2:9: warning: -010: the int -10 here, the int -8 in YAML 1.1\n",
+        err: "",
+    },
+    Row {
+        name: "quotes as books have them",
+        words: WARN,
+        left: b"- \xE2\x80\x9Ca b\xE2\x80\x9D\n- \xE2\x80\x98a\xE2\x80\x99\n- a \xE2\x80\x9Cb\xE2\x80\x9D\n- '\xE2\x80\x9Ca\xE2\x80\x9D'\n- \xE2\x80\x9C\n",
+        right: b"",
+        status: 0,
+        out: "left:1:3: warning: “a b”: its quotes are part of the string here: the quotes of YAML are \" and '\nleft:2:3: warning: ‘a’: its quotes are part of the string here: the quotes of YAML are \" and '\n",
+        err: "",
+    },
+    Row {
+        name: "spaces that are not seen",
+        words: WARN,
+        left: b"- a\xC2\xA0b\n- a\xE2\x80\x8Bb\n- a\xE2\x80\xAFb\n- a\xE2\x81\xA0\n- 'a\xC2\xA0b'\n- a\xC3\xA0\n",
+        right: b"",
+        status: 0,
+        out: "left:1:3: warning: a b: a string with a no-break space or a space of no width\nleft:2:3: warning: a?b: a string with a no-break space or a space of no width\nleft:3:3: warning: a b: a string with a no-break space or a space of no width\nleft:4:3: warning: a?: a string with a no-break space or a space of no width\n",
         err: "",
     },
 ];

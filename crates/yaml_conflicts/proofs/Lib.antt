@@ -1,4 +1,4 @@
 pub mod NodeLaws
-pub mod StepLaws
+pub mod KeyLaws
 pub mod WalkLaws
 pub mod StreamLaws

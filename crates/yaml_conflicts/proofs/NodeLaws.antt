@@ -1,11 +1,10 @@
 -- Nodes of a graph: their values, shapes and parts.
-use Rattle.std.proofs.Common.{◌≡◌, ℕ, suc, ◌<◌, Bool, true, false, ◌&&◌, ◌==◌, List, [], ◌∷◌, map, length, refl, sym, ◌∙◌, ap, arith}
+use Rattle.std.proofs.Common.{◌≡◌, ℕ, ◌<◌, Bool, true, false, ◌&&◌, List, [], length, refl, sym, ◌∙◌, ap, arith}
 use Rattle.std.specs.Prelude.{Option, Some, None, bytes_eq}
 use Rattle.std.specs.List.{slice_get}
 use Rattle.std.specs.Cow.{cow_str_bytes}
 use Rattle.std.proofs.lemmas.Option.{slice_get_within}
 use Rattle.yaml_definitions.specs.model.Tree.{Tree}
-use Rattle.yaml_graph.specs.TreeLists.{trees}
 use Rattle.yaml_graph.specs.GraphModel.{entries_of, node_tree, kind_tree}
 use Rattle.yaml_graph.specs.GraphView.{nodes_of, graph_trees, tree}
 use Rattle.yaml_graph.proofs.GraphLaws.{node-tree}
@@ -16,20 +15,14 @@ use Rattle.yaml_graph.specs.declared.node.NodeKind.TheVariants as kinds
 use Rattle.yaml_graph.specs.declared.graph.Graph.{Graph}
 use Rattle.yaml_rank.specs.RanksView.{RanksAre, rank_of}
 use Rattle.yaml_rank.specs.declared.ranks.Ranks.{Ranks}
-use Rattle.yaml_path.specs.Path.{Step, at_item, at_key, part}
-use Rattle.yaml_path.specs.Ways.{count_in}
+use Rattle.yaml_path.specs.Path.{Step, at_key, part}
 use Rattle.yaml_diff.specs.Lines.{trees_of}
-use Rattle.yaml_diff.specs.Found.{HasItems, IsValueOf}
-use Rattle.yaml_diff.proofs.Shapes.{item-part, item-only, entry-within, value-ranked}
-use Rattle.yaml_diff.proofs.WalkLaws.{items-below}
+use Rattle.yaml_diff.specs.Found.{IsValueOf}
+use Rattle.yaml_diff.proofs.Shapes.{item-only, entry-within, value-ranked}
 use Rattle.yaml_merge.specs.Merge.{one_shape}
-use Rattle.yaml_conflicts.specs.Found.{IsBelow, kinds_shape}
+use Rattle.yaml_conflicts.specs.Found.{IsBelow, is_mapping}
 
 -- ---- shapes
-
-pub counted : (f : NodeId → Tree) (items : List NodeId) → count_in (trees (map f items)) ≡ length items
-counted f [] = refl
-counted f (i ∷ items) = ap suc (counted f items)
 
 none-left : (a : Bool) → false ≡ (a && false)
 none-left true = refl
@@ -39,18 +32,17 @@ all-left : (a : Bool) → a ≡ (a && true)
 all-left true = refl
 all-left false = refl
 
-kind-shape : (ts : List Tree) (a b : List ℕ) (k l : NodeKind) → one_shape (Some (kind_tree ts a k)) (Some (kind_tree ts b l)) ≡ (bytes_eq a b && kinds_shape k l)
-kind-shape ts a b (kinds.Sequence xs) (kinds.Sequence ys) = (λ z. bytes_eq a b && (counted (λ i. Rattle.yaml_graph.specs.GraphModel.tree_at ts i.0) xs.items z == counted (λ i. Rattle.yaml_graph.specs.GraphModel.tree_at ts i.0) ys.items z))
+abbrev both-mappings : NodeKind → NodeKind → Bool
+both-mappings k l = is_mapping k && is_mapping l
+
+kind-shape : (ts : List Tree) (a b : List ℕ) (k l : NodeKind) → one_shape (Some (kind_tree ts a k)) (Some (kind_tree ts b l)) ≡ (bytes_eq a b && both-mappings k l)
 kind-shape ts a b (kinds.Mapping xs) (kinds.Mapping ys) = all-left (bytes_eq a b)
-kind-shape ts a b (kinds.Scalar x) (kinds.Scalar y) = none-left (bytes_eq a b)
-kind-shape ts a b (kinds.Scalar x) (kinds.Sequence ys) = none-left (bytes_eq a b)
-kind-shape ts a b (kinds.Scalar x) (kinds.Mapping ys) = none-left (bytes_eq a b)
-kind-shape ts a b (kinds.Sequence xs) (kinds.Scalar y) = none-left (bytes_eq a b)
-kind-shape ts a b (kinds.Sequence xs) (kinds.Mapping ys) = none-left (bytes_eq a b)
 kind-shape ts a b (kinds.Mapping xs) (kinds.Scalar y) = none-left (bytes_eq a b)
 kind-shape ts a b (kinds.Mapping xs) (kinds.Sequence ys) = none-left (bytes_eq a b)
+kind-shape ts a b (kinds.Scalar x) l = none-left (bytes_eq a b)
+kind-shape ts a b (kinds.Sequence xs) l = none-left (bytes_eq a b)
 
-pub node_shape : (g : Graph) (i j : ℕ) (n m : Node) → slice_get (nodes_of g) i ≡ Some n → slice_get (nodes_of g) j ≡ Some m → one_shape (Some (tree g i)) (Some (tree g j)) ≡ (bytes_eq (cow_str_bytes n.tag) (cow_str_bytes m.tag) && kinds_shape n.kind m.kind)
+pub node_shape : (g : Graph) (i j : ℕ) (n m : Node) → slice_get (nodes_of g) i ≡ Some n → slice_get (nodes_of g) j ≡ Some m → one_shape (Some (tree g i)) (Some (tree g j)) ≡ (bytes_eq (cow_str_bytes n.tag) (cow_str_bytes m.tag) && both-mappings n.kind m.kind)
 node_shape g i j n m a b =
     ap (λ z. one_shape (Some z) (Some (tree g j))) (node-tree (nodes_of g) i n g.grounded a) ∙ ap (λ z. one_shape (Some (node_tree (graph_trees g) n)) (Some z)) (node-tree (nodes_of g) j m g.grounded b) ∙ kind-shape (graph_trees g) (cow_str_bytes n.tag) (cow_str_bytes m.tag) n.kind m.kind
 
@@ -58,11 +50,11 @@ node_shape g i j n m a b =
 pub tag-eq : (x y a b : List ℕ) (r : Bool) → r ≡ bytes_eq x y → x ≡ a → y ≡ b → bytes_eq a b ≡ r
 tag-eq x y a b r e p q = (λ z. bytes_eq (sym p z) (sym q z)) ∙ sym e
 
-pub shape-then : (g : Graph) (i j : ℕ) (n m : Node) → slice_get (nodes_of g) i ≡ Some n → slice_get (nodes_of g) j ≡ Some m → (x : Bool) → bytes_eq (cow_str_bytes n.tag) (cow_str_bytes m.tag) ≡ true → x ≡ kinds_shape n.kind m.kind → x ≡ one_shape (Some (tree g i)) (Some (tree g j))
-shape-then g i j n m a b x e f = f ∙ sym (ap (λ z. z && kinds_shape n.kind m.kind) e) ∙ sym (node_shape g i j n m a b)
+pub shape-then : (g : Graph) (i j : ℕ) (n m : Node) → slice_get (nodes_of g) i ≡ Some n → slice_get (nodes_of g) j ≡ Some m → (x : Bool) → bytes_eq (cow_str_bytes n.tag) (cow_str_bytes m.tag) ≡ true → x ≡ both-mappings n.kind m.kind → x ≡ one_shape (Some (tree g i)) (Some (tree g j))
+shape-then g i j n m a b x e f = f ∙ sym (ap (λ z. z && both-mappings n.kind m.kind) e) ∙ sym (node_shape g i j n m a b)
 
 pub shape-else : (g : Graph) (i j : ℕ) (n m : Node) → slice_get (nodes_of g) i ≡ Some n → slice_get (nodes_of g) j ≡ Some m → (x : Bool) → bytes_eq (cow_str_bytes n.tag) (cow_str_bytes m.tag) ≡ false → x ≡ false → x ≡ one_shape (Some (tree g i)) (Some (tree g j))
-shape-else g i j n m a b x e f = f ∙ sym (ap (λ z. z && kinds_shape n.kind m.kind) e) ∙ sym (node_shape g i j n m a b)
+shape-else g i j n m a b x e f = f ∙ sym (ap (λ z. z && both-mappings n.kind m.kind) e) ∙ sym (node_shape g i j n m a b)
 
 -- nothing is of no shape
 pub shape_none : (t : Option Tree) → false ≡ one_shape t None
@@ -113,10 +105,3 @@ module _ (g : Graph) (r : Ranks) (are : RanksAre g r) (i : ℕ) (n : Node) (is :
         where
           some-none : Some v ≡ None → ⊥
           some-none h = absurd (cc)
-
-pub item-below : (g : Graph) (i : ℕ) (items : List NodeId) (place : ℕ) (result : Option NodeId) → HasItems g i items → result ≡ slice_get items place → (node : NodeId) → node.0 ≡ i → IsBelow result (Some node)
-item-below g i items place None h e node q = tt
-item-below g i items place (Some v) h e node q = let b = items-below g i items h place v (sym e) in omega (arith, b, q)
-
-pub item-found : (g : Graph) (i : ℕ) (items : List NodeId) (place : ℕ) (result : Option NodeId) → HasItems g i items → result ≡ slice_get items place → trees_of g result ≡ part (tree g i) (at_item place)
-item-found g i items place result h e = ap (trees_of g) e ∙ sym (item-part g i items h place)

@@ -1,31 +1,33 @@
--- Streams as sequences of their documents.
+-- Streams as lists of their documents.
 use Rattle.std.proofs.Common.{◌≡◌, ℕ, zero, suc, ◌+◌, ◌<◌, ◌≤◌, Bool, true, false, ◌&&◌, ◌==◌, ◌⊎◌, List, [], ◌∷◌, ◌++◌, map, length, inl, inr, refl, sym, ◌∙◌, ap, subst, arith}
-use Rattle.std.specs.Prelude.{Option, Some, None}
-use Rattle.std.specs.Option.{option_map}
+use Rattle.std.specs.Prelude.{Option, Some, None, Result, Ok, Err, IfOk}
 use Rattle.std.specs.List.{slice_get}
 use Rattle.std.proofs.lemmas.Bool.{eqb-true, eq-eqb}
-use Rattle.yaml_definitions.specs.model.Tree.{Tree}
+use Rattle.yaml_text.specs.declared.fault.Fault.{Fault}
+use Rattle.yaml_definitions.specs.model.Tree.{Tree, Trees}
 use Rattle.yaml_definitions.specs.model.Same.{same, same_trees}
-use Rattle.yaml_definitions.proofs.Members.{and_both, both_and}
+use Rattle.yaml_definitions.proofs.Members.{and_both}
 use Rattle.yaml_graph.specs.TreeLists.{trees}
 use Rattle.yaml_graph.specs.declared.node.NodeId.{NodeId}
 use Rattle.yaml_graph.specs.declared.graph.Graph.{Graph}
-use Rattle.yaml_path.specs.Path.{Path, at_item, at_key, item_in, part_of}
+use Rattle.yaml_path.specs.Path.{Step, Path, at_item, at_key, item_in}
+use Rattle.yaml_path.specs.Ways.{count_in}
 use Rattle.yaml_diff.specs.Lines.{tree_of, trees_of}
 use Rattle.yaml_diff.specs.Found.{Within, AllWithin}
 use Rattle.yaml_diff.proofs.Shapes.{item-there}
-use Rattle.yaml_merge.specs.Merge.{alike, one_shape, settled, opens, Breaks}
-use Rattle.yaml_merge.proofs.RuleLaws.{not-true, opens-three}
-use Rattle.yaml_conflicts.specs.declared.sides.Step as code
-use Rattle.yaml_conflicts.specs.declared.sides.Step.TheVariants.{Item}
+use Rattle.yaml_merge.specs.Merge.{alike, settled}
+use Rattle.yaml_merge.specs.Streams.{stream, are_paired, DocumentBreaks, StreamBreaks}
+use Rattle.yaml_merge.proofs.RuleLaws.{true-false, not-true}
+use Rattle.yaml_merge.proofs.StreamLaws.{like-count, like-at, all-like}
+use Rattle.yaml_conflicts.specs.declared.sides.Step.TheVariants.{Document}
 use Rattle.yaml_conflicts.specs.declared.sides.Sides.{Sides}
 use Rattle.yaml_conflicts.specs.declared.sides.Found.{Found}
 use Rattle.yaml_conflicts.specs.declared.streams.Roots.{Roots}
 use Rattle.yaml_conflicts.specs.Rooms.{is_spent}
-use Rattle.yaml_conflicts.specs.Found.{Finds, Spends, Line, lines_of, under, Listed, Lists}
-use Rattle.yaml_conflicts.specs.Streams.{stream, DocumentsAre, FindsDocuments}
-use Rattle.yaml_conflicts.proofs.NodeLaws.{counted}
-use Rattle.yaml_conflicts.proofs.WalkLaws.{true-false, nothing-breaks, settled-lists, ListsSome, some-first, some-next, and-either}
+use Rattle.yaml_conflicts.specs.Found.{Finds, Spends, lines_of, under, Listed, Lists}
+use Rattle.yaml_conflicts.specs.Streams.{documents, DocumentsAre, FindsDocument, FindsDocuments}
+use Rattle.yaml_conflicts.proofs.KeyLaws.{split}
+use Rattle.yaml_conflicts.proofs.WalkLaws.{none-lists, one-lists, nothing-breaks, ListsSome, some-first, some-next, and-either}
 
 -- ---- documents
 
@@ -35,130 +37,32 @@ get-within g roots place (Some i) w e = w place i (sym e)
 
 -- ---- streams that are alike
 
-pub stream-alike : (g : Graph) (xs ys : List NodeId) → alike (stream g xs) (stream g ys) ≡ same_trees (trees (map (tree_of g) xs)) (trees (map (tree_of g) ys))
+pub stream-alike : (g : Graph) (xs ys : List NodeId) → alike (stream (documents g xs)) (stream (documents g ys)) ≡ same_trees (trees (map (tree_of g) xs)) (trees (map (tree_of g) ys))
 unfolding same
 stream-alike g xs ys = refl
 
-all-alike : (f : NodeId → Tree) (xs ys : List NodeId) → length xs ≡ length ys → ((k : ℕ) → k < length xs → alike (option_map f (slice_get xs k)) (option_map f (slice_get ys k)) ≡ true) → same_trees (trees (map f xs)) (trees (map f ys)) ≡ true
-unfolding same
-all-alike f [] [] e h = refl
-all-alike f (x ∷ xs) (y ∷ ys) e h = both_and (same (f x) (f y)) (same_trees (trees (map f xs)) (trees (map f ys))) (h 0 (omega arith)) (all-alike f xs ys (omega (arith, e)) (λ k l. h (suc k) (omega (arith, l))))
-all-alike f [] (y ∷ ys) e h = absurd (omega (arith, e))
-all-alike f (x ∷ xs) [] e h = absurd (omega (arith, e))
+-- ---- how many documents there are
 
-alike-at : (f : NodeId → Tree) (xs ys : List NodeId) → same_trees (trees (map f xs)) (trees (map f ys)) ≡ true → (k : ℕ) → alike (option_map f (slice_get xs k)) (option_map f (slice_get ys k)) ≡ true
-unfolding same
-alike-at f [] [] e k = refl
-alike-at f (x ∷ xs) (y ∷ ys) e zero = (and_both (same (f x) (f y)) (same_trees (trees (map f xs)) (trees (map f ys))) e).0
-alike-at f (x ∷ xs) (y ∷ ys) e (suc k) = alike-at f xs ys (and_both (same (f x) (f y)) (same_trees (trees (map f xs)) (trees (map f ys))) e).1 k
-alike-at f [] (y ∷ ys) e k = absurd (cc)
-alike-at f (x ∷ xs) [] e k = absurd (cc)
+pub counted : (g : Graph) (roots : List NodeId) → count_in (documents g roots) ≡ length roots
+counted g [] = refl
+counted g (i ∷ roots) = ap suc (counted g roots)
 
-alike-length : (f : NodeId → Tree) (xs ys : List NodeId) → same_trees (trees (map f xs)) (trees (map f ys)) ≡ true → length xs ≡ length ys
-unfolding same
-alike-length f [] [] e = refl
-alike-length f (x ∷ xs) (y ∷ ys) e = ap suc (alike-length f xs ys (and_both (same (f x) (f y)) (same_trees (trees (map f xs)) (trees (map f ys))) e).1)
-alike-length f [] (y ∷ ys) e = absurd (cc)
-alike-length f (x ∷ xs) [] e = absurd (cc)
+pub counts-are : (g : Graph) (xs ys : List NodeId) → (length xs == length ys) ≡ (count_in (documents g xs) == count_in (documents g ys))
+counts-are g xs ys = (λ z. sym (counted g xs) z == sym (counted g ys) z)
 
--- ---- streams of equally many documents
+pub counts-length : (g : Graph) (xs ys : List NodeId) → (count_in (documents g xs) == count_in (documents g ys)) ≡ true → length xs ≡ length ys
+counts-length g xs ys e = eqb-true (length xs) (length ys) (counts-are g xs ys ∙ e)
 
-pub stream-shape : (g : Graph) (xs ys : List NodeId) → one_shape (stream g xs) (stream g ys) ≡ (length xs == length ys)
-stream-shape g xs ys = (λ z. counted (tree_of g) xs z == counted (tree_of g) ys z)
+pub other-count : (g : Graph) (xs ys : List NodeId) → (count_in (documents g xs) == count_in (documents g ys)) ≡ false → false ≡ alike (stream (documents g xs)) (stream (documents g ys))
+other-count g xs ys n = sym (not-true (alike (stream (documents g xs)) (stream (documents g ys))) (λ e. true-false (eq-eqb (count_in (documents g xs)) (count_in (documents g ys)) (like-count (documents g xs) (documents g ys) (sym (stream-alike g xs ys) ∙ e))) n))
 
-pub shape-length : (g : Graph) (xs ys : List NodeId) → one_shape (stream g xs) (stream g ys) ≡ true → length ys ≡ length xs
-shape-length g xs ys e = sym (eqb-true (length xs) (length ys) (sym (stream-shape g xs ys) ∙ e))
-
-pub other-length : (g : Graph) (xs ys : List NodeId) → one_shape (stream g xs) (stream g ys) ≡ false → false ≡ alike (stream g xs) (stream g ys)
-other-length g xs ys n = sym (not-true (alike (stream g xs) (stream g ys)) (λ e. true-false (stream-shape g xs ys ∙ eq-eqb (length xs) (length ys) (alike-length (tree_of g) xs ys (sym (stream-alike g xs ys) ∙ e))) n))
-
--- ---- documents one after another
-
-pub other-at : (g : Graph) (xs ys : List NodeId) (k : ℕ) (first second : Option NodeId) → first ≡ slice_get xs k → second ≡ slice_get ys k → alike (trees_of g first) (trees_of g second) ≡ false → false ≡ alike (stream g xs) (stream g ys)
-other-at g xs ys k first second p q n =
-    let m = ap (λ z. alike (trees_of g z) (trees_of g second)) (sym p) ∙ n in
-    let h = ap (λ z. alike (trees_of g (slice_get xs k)) (trees_of g z)) (sym q) ∙ m in
-    sym (not-true (alike (stream g xs) (stream g ys)) (λ e. true-false (alike-at (tree_of g) xs ys (sym (stream-alike g xs ys) ∙ e) k) h))
-
--- the documents before a place are the same
-abbrev pub AlikeBelow : Graph → List NodeId → List NodeId → ℕ → Type 0
-AlikeBelow g xs ys n = (k : ℕ) → k < n → alike (trees_of g (slice_get xs k)) (trees_of g (slice_get ys k)) ≡ true
-
-pub alike-first : (g : Graph) (xs ys : List NodeId) → AlikeBelow g xs ys 0
-alike-first g xs ys k l = absurd (omega (arith, l))
-
-split : (k n : ℕ) → k < n + 1 → (k < n) ⊎ (k ≡ n)
-split zero zero l = inr refl
-split zero (suc n) l = inl (omega arith)
-split (suc k) zero l = absurd (omega arith)
-split (suc k) (suc n) l = elim (split k n (omega arith)) [ inl a ↦ inl (omega arith) | inr e ↦ inr (ap suc e) ]
-
-pub alike-next : (g : Graph) (xs ys : List NodeId) (n : ℕ) (first second : Option NodeId) → AlikeBelow g xs ys n → first ≡ slice_get xs n → second ≡ slice_get ys n → alike (trees_of g first) (trees_of g second) ≡ true → AlikeBelow g xs ys (n + 1)
-alike-next g xs ys n first second h p q e k l =
-    let a = ap (λ z. alike (trees_of g z) (trees_of g second)) (sym p) ∙ e in
-    let b = ap (λ z. alike (trees_of g (slice_get xs n)) (trees_of g z)) (sym q) ∙ a in
-    elim (split k n l) [ inl m ↦ h k m | inr m ↦ ap (λ z. alike (trees_of g (slice_get xs z)) (trees_of g (slice_get ys z))) m ∙ b ]
-
-pub alike-whole : (g : Graph) (xs ys : List NodeId) (n : ℕ) → length xs ≡ length ys → length xs ≤ n → AlikeBelow g xs ys n → true ≡ alike (stream g xs) (stream g ys)
-alike-whole g xs ys n e l h = sym (stream-alike g xs ys ∙ all-alike (tree_of g) xs ys e (λ k m. h k (omega (arith, l, m))))
-
-past-end : (f : NodeId → Tree) (xs : List NodeId) (k : ℕ) → length xs ≤ k → item_in (trees (map f xs)) k ≡ None
-past-end f [] k l = refl
-past-end f (x ∷ xs) zero l = absurd (omega (arith, l))
-past-end f (x ∷ xs) (suc k) l = past-end f xs k (omega (arith, l))
-
--- ---- the loop over documents
-
--- steps to so many items, from this place on
-abbrev pub count-up : ℕ → ℕ → List code.Step
-count-up start zero = []
-count-up start (suc n) = Item start ∷ count-up (suc start) n
-
--- the steps to all documents
-abbrev pub all-steps : List NodeId → List code.Step
-all-steps roots = count-up 0 (length roots)
-
-count-at : (start n k : ℕ) → k < n → slice_get (count-up start n) k ≡ Some (Item (start + k))
-count-at start zero k l = absurd (omega (arith, l))
-count-at start (suc n) zero l = let e : start ≡ start + 0 = omega arith in ap (λ z. Some (Item z)) e
-count-at start (suc n) (suc k) l = let e : suc start + k ≡ start + suc k = omega arith in count-at (suc start) n k (omega (arith, l)) ∙ ap (λ z. Some (Item z)) e
-
-all-at : (roots : List NodeId) (k : ℕ) → k < length roots → slice_get (all-steps roots) k ≡ Some (Item k)
-all-at roots k l = let e : 0 + k ≡ k = omega arith in count-at 0 (length roots) k l ∙ ap (λ z. Some (Item z)) e
-
-abbrev pub SomeOf : Graph → Bool → Roots → ℕ → List Line → Bool → Type 0
-SomeOf g given r n lines w = ListsSome g given (stream g r.base.now) (stream g r.ours.now) (stream g r.theirs.now) (stream g r.merge.now) (all-steps r.base.now) n lines w
-
--- what is found in the first so many documents, and where not all is, the room is spent
-pub record StreamWalked (g : Graph) (given : Bool) (r : Roots) (n : ℕ) (f : Found) : Type 0 where
-  pub lists : SomeOf g given r n (lines_of f) f.whole
-  pub cut : f.whole ≡ false → is_spent f.room ≡ true
-
-pub stream-first : (g : Graph) (given : Bool) (r : Roots) (f : Found) → lines_of f ≡ [] → f.whole ≡ true → StreamWalked g given r 0 f
-stream-first g given r f e w = record {
-  lists = some-first g given (stream g r.base.now) (stream g r.ours.now) (stream g r.theirs.now) (stream g r.merge.now) (all-steps r.base.now) (lines_of f) f.whole e;
-  cut = λ x. absurd (true-false w x);
-}
-
-document-part : (g : Graph) (xs : List NodeId) (k : ℕ) (found : Option NodeId) → found ≡ slice_get xs k → trees_of g found ≡ part_of (stream g xs) (at_item k)
+document-part : (g : Graph) (xs : List NodeId) (k : ℕ) (found : Option NodeId) → found ≡ slice_get xs k → trees_of g found ≡ item_in (documents g xs) k
 document-part g xs k found e = ap (trees_of g) e ∙ sym (item-there (tree_of g) xs k)
 
-lists-like : (g : Graph) (given : Bool) (b o t m c p u n : Option Tree) (lines : List Line) (w : Bool) → b ≡ c → o ≡ p → t ≡ u → m ≡ n → Lists g given b o t m lines w → Lists g given c p u n lines w
-lists-like g given b o t m c p u n lines w e f h i l = subst (λ z. Lists g given c p u z lines w) i (subst (λ z. Lists g given c p z m lines w) h (subst (λ z. Lists g given c z t m lines w) f (subst (λ z. Lists g given z o t m lines w) e l)))
-
-pub stream-next : (g : Graph) (given : Bool) (r : Roots) (s : Sides) (n : ℕ) (old more new : Found) → settled given (stream g r.base.now) (stream g r.ours.now) (stream g r.theirs.now) (stream g r.merge.now) ≡ false → opens (stream g r.base.now) (stream g r.ours.now) (stream g r.theirs.now) (stream g r.merge.now) ≡ true → n < length r.base.now → StreamWalked g given r n old → DocumentsAre r n s
-    → Finds g given s more → Spends old.room more → lines_of new ≡ lines_of old ++ map (under (Item n)) (lines_of more) → new.room ≡ more.room → new.whole ≡ (old.whole && more.whole) → StreamWalked g given r (n + 1) new
-stream-next g given r s n old more new f e l w d m u el er ew =
-    let b = stream g r.base.now in
-    let o = stream g r.ours.now in
-    let t = stream g r.theirs.now in
-    let z = stream g r.merge.now in
-    let a = at_item n in
-    let k = lists-like g given (trees_of g s.base) (trees_of g s.ours) (trees_of g s.theirs) (trees_of g s.merge) (part_of b a) (part_of o a) (part_of t a) (part_of z a) (lines_of more) more.whole (document-part g r.base.now n s.base d.base) (document-part g r.ours.now n s.ours d.ours) (document-part g r.theirs.now n s.theirs d.theirs) (document-part g r.merge.now n s.merge d.merge) m in
-    record {
-      lists = some-next g given b o t z (all-steps r.base.now) n (Item n) (lines_of old) (lines_of more) (lines_of new) old.whole more.whole new.whole f e (all-at r.base.now n l) w.lists k el ew;
-      cut = λ y. ap is_spent er ∙ elim (and-either old.whole more.whole (sym ew ∙ y)) [ inl x ↦ u.stays (w.cut x) | inr x ↦ u.cut x ];
-    }
+past-end : (g : Graph) (roots : List NodeId) (k : ℕ) → length roots ≤ k → item_in (documents g roots) k ≡ None
+past-end g [] k l = refl
+past-end g (x ∷ roots) zero l = absurd (omega (arith, l))
+past-end g (x ∷ roots) (suc k) l = past-end g roots k (omega (arith, l))
 
 less-or : (k n : ℕ) → (k < n) ⊎ (n ≤ k)
 less-or zero zero = inr (omega arith)
@@ -166,45 +70,155 @@ less-or zero (suc n) = inl (omega arith)
 less-or (suc k) zero = inr (omega arith)
 less-or (suc k) (suc n) = elim (less-or k n) [ inl l ↦ inl (omega (arith, l)) | inr l ↦ inr (omega (arith, l)) ]
 
-none-breaks : (given : Bool) (q : Path) (b o t m : Option Tree) → b ≡ None → o ≡ None → t ≡ None → m ≡ None → Breaks given q b o t m → ⊥
-none-breaks given q b o t m e f h i x = nothing-breaks given q (subst (λ z. Breaks given q None None None z) i (subst (λ z. Breaks given q None None z m) h (subst (λ z. Breaks given q None z t m) f (subst (λ z. Breaks given q z o t m) e x))))
+-- ---- documents one after another
 
-pub stream-done : (g : Graph) (given : Bool) (r : Roots) (n : ℕ) (f : Found) → opens (stream g r.base.now) (stream g r.ours.now) (stream g r.theirs.now) (stream g r.merge.now) ≡ true → length r.base.now ≤ n → StreamWalked g given r n f → FindsDocuments g given r f
-stream-done g given r n f e a w = record {
-  lists = record { each = w.lists.each; whole = λ p q x. by p q x };
-  cut = w.cut;
-}
+pub other-at : (g : Graph) (xs ys : List NodeId) (k : ℕ) (first second : Option NodeId) → first ≡ slice_get xs k → second ≡ slice_get ys k → alike (trees_of g first) (trees_of g second) ≡ false → false ≡ alike (stream (documents g xs)) (stream (documents g ys))
+other-at g xs ys k first second p q n =
+    let h : alike (trees_of g first) (trees_of g second) ≡ alike (item_in (documents g xs) k) (item_in (documents g ys) k) = (λ z. alike (document-part g xs k first p z) (document-part g ys k second q z)) in
+    sym (not-true (alike (stream (documents g xs)) (stream (documents g ys))) (λ e. true-false (h ∙ like-at (documents g xs) (documents g ys) (sym (stream-alike g xs ys) ∙ e) k) n))
+
+-- the documents before a place are the same
+abbrev pub AlikeBelow : Graph → List NodeId → List NodeId → ℕ → Type 0
+AlikeBelow g xs ys n = (k : ℕ) → k < n → alike (item_in (documents g xs) k) (item_in (documents g ys) k) ≡ true
+
+pub alike-first : (g : Graph) (xs ys : List NodeId) → AlikeBelow g xs ys 0
+alike-first g xs ys k l = absurd (omega (arith, l))
+
+pub alike-next : (g : Graph) (xs ys : List NodeId) (n : ℕ) (first second : Option NodeId) → AlikeBelow g xs ys n → first ≡ slice_get xs n → second ≡ slice_get ys n → alike (trees_of g first) (trees_of g second) ≡ true → AlikeBelow g xs ys (n + 1)
+alike-next g xs ys n first second h p q e k l = elim (split k n l) [
+  | inl m ↦ h k m
+  | inr m ↦ ap (λ z. alike (item_in (documents g xs) z) (item_in (documents g ys) z)) m ∙ (λ z. alike (sym (document-part g xs n first p) z) (sym (document-part g ys n second q) z)) ∙ e
+]
+
+pub alike-whole : (g : Graph) (xs ys : List NodeId) (n : ℕ) → length xs ≡ length ys → length xs ≤ n → AlikeBelow g xs ys n → true ≡ alike (stream (documents g xs)) (stream (documents g ys))
+alike-whole g xs ys n e l h = sym (stream-alike g xs ys ∙ all-like (documents g xs) (documents g ys) (λ k. at k (less-or k (length xs))))
   where
-    b : Option Tree
-    b = stream g r.base.now
+    at : (k : ℕ) → (k < length xs) ⊎ (length xs ≤ k) → alike (item_in (documents g xs) k) (item_in (documents g ys) k) ≡ true
+    at k (inl m) = h k (omega (arith, l, m))
+    at k (inr m) = λ z. alike (past-end g xs k m z) (past-end g ys k (omega (arith, e, m)) z)
 
-    o : Option Tree
-    o = stream g r.ours.now
+-- ---- the documents at one place
 
-    t : Option Tree
-    t = stream g r.theirs.now
+module _ (g : Graph) (given : Bool) (s : Sides) where
+  abbrev Here : Bool → Path → Type 0
+  Here is_alone p = DocumentBreaks given is_alone p (trees_of g s.base) (trees_of g s.ours) (trees_of g s.theirs) (trees_of g s.merge)
 
-    m : Option Tree
-    m = stream g r.merge.now
+  pub alone-found : (is_alone : Bool) → is_alone ≡ true → (answer : Result Found Fault) → IfOk answer (Finds g given s) → IfOk answer (FindsDocument g given is_alone s)
+  alone-found is_alone e (Ok f) h = subst (λ z. FindsDocument g given z s f) (sym e) h
+  alone-found is_alone e (Err x) h = tt
 
-    past : (k : ℕ) (q : Path) → length r.base.now ≤ k → Breaks given q (part_of b (at_item k)) (part_of o (at_item k)) (part_of t (at_item k)) (part_of m (at_item k)) → ⊥
-    past k q l x =
-        let h = opens-three b o t m e in
-        let i = shape-length g r.base.now r.ours.now h.0 in
-        let j = shape-length g r.base.now r.theirs.now h.1 in
-        let s = shape-length g r.base.now r.merge.now h.2 in
-        none-breaks given q (part_of b (at_item k)) (part_of o (at_item k)) (part_of t (at_item k)) (part_of m (at_item k)) (past-end (tree_of g) r.base.now k l) (past-end (tree_of g) r.ours.now k (omega (arith, l, i))) (past-end (tree_of g) r.theirs.now k (omega (arith, l, j))) (past-end (tree_of g) r.merge.now k (omega (arith, l, s))) x
+  pub document-settled : (is_alone : Bool) → is_alone ≡ false → (f : Found) → lines_of f ≡ [] → settled given (trees_of g s.base) (trees_of g s.ours) (trees_of g s.theirs) (trees_of g s.merge) ≡ true → FindsDocument g given is_alone s f
+  document-settled is_alone e f n h = subst (λ z. FindsDocument g given z s f) (sym e) (none-lists g (Here false) (trees_of g s.base) (trees_of g s.ours) (trees_of g s.theirs) (trees_of g s.merge) (lines_of f) f.whole n (λ w p x. true-false h x.0))
 
-    by : f.whole ≡ true → (q : Path) → Breaks given q b o t m → Listed g q (lines_of f)
-    by p [] x = absurd (true-false e x.1)
-    by p (at_item k ∷ q) x = elim (less-or k (length r.base.now)) [
-      | inl l ↦ w.lists.whole p k (Item k) q (omega (arith, l, a)) (all-at r.base.now k l) x.2
-      | inr l ↦ absurd (past k q l x.2)
-    ]
-    by p (at_key y ∷ q) x = absurd (nothing-breaks given q x.2)
+  pub document-cut : (is_alone : Bool) (f : Found) → lines_of f ≡ [] → f.whole ≡ false → FindsDocument g given is_alone s f
+  document-cut is_alone f n h = none-lists g (Here is_alone) (trees_of g s.base) (trees_of g s.ours) (trees_of g s.theirs) (trees_of g s.merge) (lines_of f) f.whole n (λ w p x. true-false w h)
 
-pub settled-documents : (g : Graph) (given : Bool) (r : Roots) (f : Found) → lines_of f ≡ [] → f.whole ≡ true → settled given (stream g r.base.now) (stream g r.ours.now) (stream g r.theirs.now) (stream g r.merge.now) ≡ true → FindsDocuments g given r f
-settled-documents g given r f e w s = record {
-  lists = settled-lists g given (stream g r.base.now) (stream g r.ours.now) (stream g r.theirs.now) (stream g r.merge.now) (lines_of f) f.whole e s;
-  cut = λ x. absurd (true-false w x);
-}
+  pub document-one : (is_alone : Bool) → is_alone ≡ false → (answer : Result Found Fault) → IfOk answer (λ f. lines_of f ≡ ([], s) ∷ []) → settled given (trees_of g s.base) (trees_of g s.ours) (trees_of g s.theirs) (trees_of g s.merge) ≡ false → IfOk answer (FindsDocument g given is_alone s)
+  document-one is_alone e (Ok f) n h = subst (λ z. FindsDocument g given z s f) (sym e) (one-lists g (Here false) s (lines_of f) f.whole n (h, refl) (λ p x. x.1))
+  document-one is_alone e (Err x) n h = tt
+
+-- ---- the loop over documents
+
+abbrev pub TakenPlace : ℕ → Step → Type 0
+TakenPlace n s = (k : ℕ) × (k < n) × (s ≡ at_item k)
+
+none-document : (given is_alone : Bool) (q : Path) (b o t m : Option Tree) → b ≡ None → o ≡ None → t ≡ None → m ≡ None → DocumentBreaks given is_alone q b o t m → ⊥
+none-document given is_alone q b o t m e f h i x =
+    no given is_alone (subst (λ z. DocumentBreaks given is_alone q None None None z) i (subst (λ z. DocumentBreaks given is_alone q None None z m) h (subst (λ z. DocumentBreaks given is_alone q None z t m) f (subst (λ z. DocumentBreaks given is_alone q z o t m) e x))))
+  where
+    no : (given is_alone : Bool) → DocumentBreaks given is_alone q None None None None → ⊥
+    no given true x = nothing-breaks given q x
+    no true false x = true-false refl x.0
+    no false false x = true-false refl x.0
+
+abbrev ListsHere : Graph → Bool → Found → Bool → (b o t m : Option Tree) → Type 0
+ListsHere g given f is_alone b o t m = Lists g (λ q. DocumentBreaks given is_alone q b o t m) b o t m (lines_of f) f.whole
+
+module _ (g : Graph) (given : Bool) (r : Roots) where
+  abbrev pub base-docs : Trees
+  base-docs = documents g r.base.now
+
+  abbrev pub our-docs : Trees
+  our-docs = documents g r.ours.now
+
+  abbrev pub their-docs : Trees
+  their-docs = documents g r.theirs.now
+
+  abbrev pub merge-docs : Trees
+  merge-docs = documents g r.merge.now
+
+  abbrev pub InStream : Path → Type 0
+  InStream p = StreamBreaks given p base-docs our-docs their-docs merge-docs
+
+  abbrev pub IsAt : ℕ → Path → Type 0
+  IsAt k q = DocumentBreaks given (count_in base-docs == 1) q (item_in base-docs k) (item_in our-docs k) (item_in their-docs k) (item_in merge-docs k)
+
+  abbrev pub ArePaired : Type 0
+  ArePaired = are_paired base-docs our-docs their-docs merge-docs ≡ true
+
+  -- what is found in the first so many documents, and where not all is, the room is spent
+  pub record StreamWalked (n : ℕ) (f : Found) : Type 0 where
+    pub lists : ListsSome g InStream (stream base-docs) (stream our-docs) (stream their-docs) (stream merge-docs) (TakenPlace n) (lines_of f) f.whole
+    pub cut : f.whole ≡ false → is_spent f.room ≡ true
+
+  pub stream-first : (f : Found) → lines_of f ≡ [] → f.whole ≡ true → StreamWalked 0 f
+  stream-first f e w = record {
+    lists = some-first g InStream (stream base-docs) (stream our-docs) (stream their-docs) (stream merge-docs) (TakenPlace 0) (lines_of f) f.whole e (λ s i. absurd (omega (arith, i.1)));
+    cut = λ x. absurd (true-false w x);
+  }
+
+  pub stream-next : (is_alone : Bool) → is_alone ≡ (length r.base.now == 1) → (s : Sides) (n : ℕ) (old more new : Found) → ArePaired → StreamWalked n old → DocumentsAre r n s → FindsDocument g given is_alone s more
+      → Spends old.room more → lines_of new ≡ lines_of old ++ map (under (Document n)) (lines_of more) → new.room ≡ more.room → new.whole ≡ (old.whole && more.whole) → StreamWalked (n + 1) new
+  stream-next is_alone is s n old more new e w d m u el er ew = record {
+    lists = some-next g InStream (stream base-docs) (stream our-docs) (stream their-docs) (stream merge-docs) (IsAt n) (TakenPlace n) (TakenPlace (n + 1)) (Document n) (λ q x. (e, x)) down (lines_of old) (lines_of more) (lines_of new) old.whole more.whole new.whole w.lists parts el ew;
+    cut = λ y. ap is_spent er ∙ elim (and-either old.whole more.whole (sym ew ∙ y)) [ inl x ↦ u.stays (w.cut x) | inr x ↦ u.cut x ];
+  }
+    where
+      alone : is_alone ≡ (count_in base-docs == 1)
+      alone = is ∙ (λ z. sym (counted g r.base.now) z == 1)
+
+      down : (x : Step) (q : Path) → TakenPlace (n + 1) x → InStream (x ∷ q) → TakenPlace n x ⊎ ((x ≡ at_item n) × IsAt n q)
+      down x q i y = elim (split i.0 n i.1) [
+        | inl j ↦ inl (i.0, j, i.2)
+        | inr j ↦ let h : x ≡ at_item n = i.2 ∙ ap at_item j in inr (h, (subst (λ z. StreamBreaks given (z ∷ q) base-docs our-docs their-docs merge-docs) h y).1)
+      ]
+
+      parts : ListsHere g given more (count_in base-docs == 1) (item_in base-docs n) (item_in our-docs n) (item_in their-docs n) (item_in merge-docs n)
+      parts =
+          subst (λ z. ListsHere g given more (count_in base-docs == 1) z (item_in our-docs n) (item_in their-docs n) (item_in merge-docs n)) (document-part g r.base.now n s.base d.base)
+          (subst (λ z. ListsHere g given more (count_in base-docs == 1) (trees_of g s.base) z (item_in their-docs n) (item_in merge-docs n)) (document-part g r.ours.now n s.ours d.ours)
+          (subst (λ z. ListsHere g given more (count_in base-docs == 1) (trees_of g s.base) (trees_of g s.ours) z (item_in merge-docs n)) (document-part g r.theirs.now n s.theirs d.theirs)
+          (subst (λ z. ListsHere g given more (count_in base-docs == 1) (trees_of g s.base) (trees_of g s.ours) (trees_of g s.theirs) z) (document-part g r.merge.now n s.merge d.merge)
+          (subst (λ z. ListsHere g given more z (trees_of g s.base) (trees_of g s.ours) (trees_of g s.theirs) (trees_of g s.merge)) alone m))))
+
+  pub stream-done : (n : ℕ) (f : Found) → ArePaired → length r.base.now ≤ n → StreamWalked n f → FindsDocuments g given base-docs our-docs their-docs merge-docs f
+  stream-done n f e a w = record {
+    lists = record { each = w.lists.each; whole = λ p q x. by p q x };
+    cut = w.cut;
+  }
+    where
+      lengths : (length r.base.now ≡ length r.ours.now) × (length r.base.now ≡ length r.theirs.now) × (length r.base.now ≡ length r.merge.now)
+      lengths =
+          let x = and_both (count_in base-docs == count_in our-docs) ((count_in base-docs == count_in their-docs) && (count_in base-docs == count_in merge-docs)) e in
+          let y = and_both (count_in base-docs == count_in their-docs) (count_in base-docs == count_in merge-docs) x.1 in
+          (counts-length g r.base.now r.ours.now x.0, counts-length g r.base.now r.theirs.now y.0, counts-length g r.base.now r.merge.now y.1)
+
+      by : f.whole ≡ true → (q : Path) → InStream q → Listed g q (lines_of f)
+      by p [] x = absurd (true-false e x.0)
+      by p (at_item k ∷ q) x = elim (less-or k (length r.base.now)) [
+        | inl l ↦ w.lists.whole p (at_item k) q (k, omega (arith, l, a), refl) x
+        | inr l ↦
+            absurd (none-document given (count_in base-docs == 1) q (item_in base-docs k) (item_in our-docs k) (item_in their-docs k) (item_in merge-docs k) (past-end g r.base.now k l) (past-end g r.ours.now k (omega (arith, l, lengths.0))) (past-end g r.theirs.now k (omega (arith, l, lengths.1))) (past-end g r.merge.now k (omega (arith, l, lengths.2))) x.1)
+      ]
+      by p (at_key y ∷ q) x = absurd x
+
+  pub stream-settled : (f : Found) → lines_of f ≡ [] → f.whole ≡ true → are_paired base-docs our-docs their-docs merge-docs ≡ false → settled given (stream base-docs) (stream our-docs) (stream their-docs) (stream merge-docs) ≡ true → FindsDocuments g given base-docs our-docs their-docs merge-docs f
+  stream-settled f e w n h = record {
+    lists = none-lists g InStream (stream base-docs) (stream our-docs) (stream their-docs) (stream merge-docs) (lines_of f) f.whole e (λ p q x. no q x);
+    cut = λ x. absurd (true-false w x);
+  }
+    where
+      no : (q : Path) → InStream q → ⊥
+      no [] x = true-false h x.1
+      no (at_item k ∷ q) x = true-false x.0 n
+      no (at_key y ∷ q) x = x

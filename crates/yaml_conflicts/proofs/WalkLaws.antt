@@ -1,4 +1,4 @@
--- The walk of four trees, step by step.
+-- The walk of four trees, key by key.
 use Rattle.std.proofs.Common.{◌≡◌, ℕ, zero, suc, ◌+◌, ◌<◌, ◌≤◌, Bool, true, false, ◌&&◌, ◌||◌, ◌⊎◌, List, [], ◌∷◌, ◌++◌, map, reverse, length, inl, inr, refl, sym, ◌∙◌, ap, subst, arith}
 use Rattle.std.specs.Prelude.{Option, Some, None, Result, Ok, Err, IfOk}
 use Rattle.yaml_text.specs.declared.fault.Fault.{Fault}
@@ -6,46 +6,111 @@ use Rattle.std.specs.Option.{is_some}
 use Rattle.std.specs.List.{slice_get}
 use Rattle.std.proofs.lemmas.List.{reverse-append}
 use Rattle.std.proofs.lemmas.Option.{slice_get_within}
-use Rattle.yaml_definitions.specs.model.Tree.{Tree}
+use Rattle.yaml_definitions.specs.model.Tree.{Tree, scalar, sequence, mapping}
+use Rattle.yaml_definitions.specs.model.Same.{same}
 use Rattle.yaml_definitions.proofs.Members.{and_both}
+use Rattle.yaml_definitions.proofs.Equivalence.{same_refl, same_sym, same_trans}
 use Rattle.yaml_graph.proofs.GraphLaws.{get-more}
-use Rattle.yaml_graph.specs.declared.graph.Graph.{Graph}
-use Rattle.yaml_path.specs.Path.{Step, Path, AlikeStep, AlikePath, reach, part_of}
-use Rattle.yaml_diff.specs.Lines.{trees_of}
-use Rattle.yaml_diff.proofs.ListParts.{get-side, get-nth, get-map, map-get, map-end}
 use Rattle.yaml_graph.specs.declared.node.NodeId.{NodeId}
+use Rattle.yaml_graph.specs.declared.graph.Graph.{Graph}
+use Rattle.yaml_path.specs.Path.{Step, Path, AlikeStep, AlikePath, at_item, at_key, reach, part_of}
+use Rattle.yaml_diff.specs.Lines.{tree_of, trees_of}
 use Rattle.yaml_diff.specs.Found.{Within, size}
+use Rattle.yaml_diff.proofs.ListParts.{get-side, get-nth, get-map, map-get, map-end}
+use Rattle.yaml_diff.proofs.WayLaws.{part-like}
 use Rattle.yaml_merge.specs.Merge.{settled, opens, one_shape, Breaks}
-use Rattle.yaml_merge.proofs.RuleLaws.{opens-three}
+use Rattle.yaml_merge.proofs.RuleLaws.{true-false, opens-three}
 use Rattle.yaml_conflicts.specs.declared.sides.Step as code
+use Rattle.yaml_conflicts.specs.declared.sides.Step.TheVariants.{Value}
 use Rattle.yaml_conflicts.specs.declared.sides.Sides.{Sides}
 use Rattle.yaml_conflicts.specs.declared.sides.Room.{Room}
 use Rattle.yaml_conflicts.specs.declared.sides.Found.{Found}
 use Rattle.yaml_conflicts.specs.Rooms.{is_spent}
-use Rattle.yaml_conflicts.specs.Found.{plain_of, path_of, Finds, Spends, lines_of, Line, under, IsTold, Listed, Lists, ListsOf, PartsAre, IsBelow, SidesBelow, SidesWithin}
-use Rattle.yaml_conflicts.specs.Steps.{side_has, has_part, Covers}
-use Rattle.yaml_conflicts.proofs.StepLaws.{step-self, step-back, step-trans, step-like}
+use Rattle.yaml_conflicts.specs.Found.{plain_of, path_of, Finds, Spends, lines_of, Line, under, IsTold, Listed, Lists, ValuesAre, IsBelow, SidesBelow, SidesWithin}
+use Rattle.yaml_conflicts.specs.Keys.{side_has, has_value, Covers}
+use Rattle.yaml_conflicts.proofs.KeyLaws.{split}
 
 no-line : {X : Type 0} {x : X} (k : ℕ) → slice_get [] k ≡ Some x → ⊥
 no-line k e = absurd (cc)
 
-pub true-false : {x : Bool} → x ≡ true → x ≡ false → ⊥
-true-false e f = absurd (cc)
-
 -- ---- paths
 
-pub path-under : (g : Graph) (s : code.Step) (d : Line) → path_of g (under s d).0 ≡ plain_of g s ∷ path_of g d.0
+step-self : (s : Step) → AlikeStep s s
+step-self (at_item k) = refl
+step-self (at_key x) = same_refl x
+
+path-under : (g : Graph) (s : code.Step) (d : Line) → path_of g (under s d).0 ≡ plain_of g s ∷ path_of g d.0
 path-under g s d = ap reverse (map-end (plain_of g) d.0 s) ∙ reverse-append (map (plain_of g) d.0) (plain_of g s ∷ [])
 
-alike-first : (p q : Path) (s r : Step) → AlikeStep s r → AlikePath p (s ∷ q) → AlikePath p (r ∷ q)
-alike-first [] q s r e a = absurd a
-alike-first (x ∷ p) q s r e a = (step-trans x s r a.0 e, a.1)
+alike-key : (p q : Path) (x y : Tree) → same x y ≡ true → AlikePath p (at_key x ∷ q) → AlikePath p (at_key y ∷ q)
+alike-key (at_key z ∷ p) q x y e a = (same_trans z x y a.0 e, a.1)
+alike-key (at_item k ∷ p) q x y e a = absurd a.0
+alike-key [] q x y e a = absurd a
 
-listed-like : (g : Graph) (lines : List Line) (q : Path) (s r : Step) → AlikeStep s r → Listed g (s ∷ q) lines → Listed g (r ∷ q) lines
-listed-like g lines q s r e l = (l.0, l.1, l.2, alike-first (path_of g l.1.0) q s r e l.3)
+listed-key : (g : Graph) (lines : List Line) (q : Path) (x y : Tree) → same x y ≡ true → Listed g (at_key x ∷ q) lines → Listed g (at_key y ∷ q) lines
+listed-key g lines q x y e l = (l.0, l.1, l.2, alike-key (path_of g l.1.0) q x y e l.3)
 
-breaks-like : (given : Bool) (q : Path) (b o t m c p u n : Option Tree) → b ≡ c → o ≡ p → t ≡ u → m ≡ n → Breaks given q b o t m → Breaks given q c p u n
-breaks-like given q b o t m c p u n e f h i x = subst (λ z. Breaks given q z p u n) e (subst (λ z. Breaks given q b z u n) f (subst (λ z. Breaks given q b o z n) h (subst (λ z. Breaks given q b o t z) i x)))
+-- ---- lists
+
+module _ (g : Graph) (IsOne : Path → Type 0) (b o t m : Option Tree) where
+  pub none-lists : (lines : List Line) (w : Bool) → lines ≡ [] → (w ≡ true → (p : Path) → IsOne p → ⊥) → Lists g IsOne b o t m lines w
+  none-lists lines w e n = record {
+    each = λ k d h. absurd (no-line k (sym (ap (λ z. slice_get z k) e) ∙ h));
+    whole = λ p q x. absurd (n p q x);
+  }
+
+  -- the same as far as some steps go
+  pub record ListsSome (Taken : Step → Type 0) (lines : List Line) (is_whole : Bool) : Type 0 where
+    pub each : (k : ℕ) (d : Line) → slice_get lines k ≡ Some d → IsTold g IsOne b o t m d
+    pub whole : is_whole ≡ true → (s : Step) (q : Path) → Taken s → IsOne (s ∷ q) → Listed g (s ∷ q) lines
+
+  pub some-first : (Taken : Step → Type 0) (lines : List Line) (w : Bool) → lines ≡ [] → ((s : Step) → Taken s → ⊥) → ListsSome Taken lines w
+  some-first Taken lines w e n = record {
+    each = λ k d h. absurd (no-line k (sym (ap (λ z. slice_get z k) e) ∙ h));
+    whole = λ p s q i x. absurd (n s i);
+  }
+
+  -- what is found behind one more step is added
+  pub some-next : (IsPart : Path → Type 0) (Old New : Step → Type 0) (x : code.Step) → ((q : Path) → IsPart q → IsOne (plain_of g x ∷ q)) → ((s : Step) (q : Path) → New s → IsOne (s ∷ q) → Old s ⊎ ((s ≡ plain_of g x) × IsPart q))
+      → (lines more all : List Line) (w v u : Bool) → ListsSome Old lines w → Lists g IsPart (part_of b (plain_of g x)) (part_of o (plain_of g x)) (part_of t (plain_of g x)) (part_of m (plain_of g x)) more v → all ≡ lines ++ map (under x) more → u ≡ (w && v) → ListsSome New all u
+  some-next IsPart Old New x up down lines more all w v u l k ea eu = subst (λ z. ListsSome New z u) (sym ea) (subst (ListsSome New (lines ++ map (under x) more)) (sym eu) (record {
+    each = λ i d h. elim (get-side lines (map (under x) more) i d h) [
+      | inl a ↦ l.each i d a
+      | inr a ↦ let y = get-map (under x) more a.0 d a.2 in subst (IsTold g IsOne b o t m) y.2 (told y.0 (k.each a.0 y.0 y.1))
+    ];
+    whole = λ p s q i y. let c = and_both w v p in elim (down s q i y) [
+      | inl j ↦ let r = l.whole c.0 s q j y in (r.0, r.1, get-more lines (map (under x) more) r.0 r.1 r.2, r.3)
+      | inr j ↦ subst (λ z. Listed g (z ∷ q) (lines ++ map (under x) more)) (sym j.0) (last q (k.whole c.1 q j.1))
+    ];
+  }))
+    where
+      told : (d : Line) → IsTold g IsPart (part_of b (plain_of g x)) (part_of o (plain_of g x)) (part_of t (plain_of g x)) (part_of m (plain_of g x)) d → IsTold g IsOne b o t m (under x d)
+      told d y = record {
+        is = subst IsOne (sym (path-under g x d)) (up (path_of g d.0) y.is);
+        base = ap (reach b) (path-under g x d) ∙ y.base;
+        ours = ap (reach o) (path-under g x d) ∙ y.ours;
+        theirs = ap (reach t) (path-under g x d) ∙ y.theirs;
+        merge = ap (reach m) (path-under g x d) ∙ y.merge;
+      }
+
+      last : (q : Path) → Listed g q more → Listed g (plain_of g x ∷ q) (lines ++ map (under x) more)
+      last q r = (length lines + r.0, under x r.1, get-nth lines (map (under x) more) r.0 ∙ map-get (under x) more r.0 r.1 r.2, subst (λ s. AlikePath s (plain_of g x ∷ q)) (sym (path-under g x r.1)) (step-self (plain_of g x), r.3))
+
+pub one-lists : (g : Graph) (IsOne : Path → Type 0) (s : Sides) (lines : List Line) (w : Bool) → lines ≡ ([], s) ∷ [] → IsOne [] → ((p : Path) → IsOne p → p ≡ []) → Lists g IsOne (trees_of g s.base) (trees_of g s.ours) (trees_of g s.theirs) (trees_of g s.merge) lines w
+one-lists g IsOne s lines w e i n = subst (λ z. Lists g IsOne (trees_of g s.base) (trees_of g s.ours) (trees_of g s.theirs) (trees_of g s.merge) z w) (sym e) (record {
+  each = λ k d h. by k d h;
+  whole = λ p q x. at q (n q x);
+})
+  where
+    told : IsTold g IsOne (trees_of g s.base) (trees_of g s.ours) (trees_of g s.theirs) (trees_of g s.merge) ([], s)
+    told = record { is = i; base = refl; ours = refl; theirs = refl; merge = refl }
+
+    by : (k : ℕ) (d : Line) → slice_get (([], s) ∷ []) k ≡ Some d → IsTold g IsOne (trees_of g s.base) (trees_of g s.ours) (trees_of g s.theirs) (trees_of g s.merge) d
+    by zero d h = let q : ([], s) ≡ d = cc in subst (IsTold g IsOne (trees_of g s.base) (trees_of g s.ours) (trees_of g s.theirs) (trees_of g s.merge)) q told
+    by (suc k) d h = absurd (no-line k h)
+
+    at : (q : Path) → q ≡ [] → Listed g q (([], s) ∷ [])
+    at q e = (0, ([], s), refl, subst (λ z. AlikePath [] z) (sym e) tt)
 
 -- ---- what is not there
 
@@ -55,6 +120,12 @@ nothing-breaks false [] x = true-false refl x.0
 nothing-breaks true (s ∷ q) x = true-false refl x.0
 nothing-breaks false (s ∷ q) x = true-false refl x.0
 
+breaks-like : (given : Bool) (q : Path) (b o t m c p u n : Option Tree) → b ≡ c → o ≡ p → t ≡ u → m ≡ n → Breaks given q b o t m → Breaks given q c p u n
+breaks-like given q b o t m c p u n e f h i x = subst (λ z. Breaks given q z p u n) e (subst (λ z. Breaks given q b z u n) f (subst (λ z. Breaks given q b o z n) h (subst (λ z. Breaks given q b o t z) i x)))
+
+pub none-breaks : (given : Bool) (q : Path) (b o t m : Option Tree) → b ≡ None → o ≡ None → t ≡ None → m ≡ None → Breaks given q b o t m → ⊥
+none-breaks given q b o t m e f h i x = nothing-breaks given q (breaks-like given q b o t m None None None None e f h i x)
+
 none-of : (o : Option Tree) → is_some o ≡ false → o ≡ None
 none-of None e = refl
 none-of (Some v) e = absurd (cc)
@@ -63,134 +134,162 @@ or-none : (a b : Bool) → (a || b) ≡ false → (a ≡ false) × (b ≡ false)
 or-none true b e = absurd (cc)
 or-none false b e = (refl, e)
 
--- ---- lists
+-- mappings have no items
+shape-items : (t u : Option Tree) → one_shape t u ≡ true → (k : ℕ) → (part_of t (at_item k) ≡ None) × (part_of u (at_item k) ≡ None)
+shape-items (Some (mapping a ps)) (Some (mapping c qs)) e k = (refl, refl)
+shape-items None u e k = absurd (cc)
+shape-items (Some (scalar a x)) u e k = absurd (cc)
+shape-items (Some (sequence a ts)) u e k = absurd (cc)
+shape-items (Some (mapping a ps)) None e k = absurd (cc)
+shape-items (Some (mapping a ps)) (Some (scalar c x)) e k = absurd (cc)
+shape-items (Some (mapping a ps)) (Some (sequence c us)) e k = absurd (cc)
 
-pub settled-lists : (g : Graph) (given : Bool) (b o t m : Option Tree) (lines : List Line) (w : Bool) → lines ≡ [] → settled given b o t m ≡ true → Lists g given b o t m lines w
-settled-lists g given b o t m lines w e s = record {
-  each = λ k d h. absurd (no-line k (sym (ap (λ z. slice_get z k) e) ∙ h));
-  whole = λ p q x. by q x;
-}
-  where
-    by : (q : Path) → Breaks given q b o t m → Listed g q lines
-    by [] x = absurd (true-false s x.0)
-    by (r ∷ q) x = absurd (true-false s x.0)
+key-like : (t : Option Tree) (x y : Tree) → same x y ≡ true → part_of t (at_key x) ≡ part_of t (at_key y)
+key-like None x y e = refl
+key-like (Some t) x y e = part-like t x y e
 
-pub cut-lists : (g : Graph) (given : Bool) (b o t m : Option Tree) (lines : List Line) (w : Bool) → lines ≡ [] → w ≡ false → Lists g given b o t m lines w
-cut-lists g given b o t m lines w e f = record {
-  each = λ k d h. absurd (no-line k (sym (ap (λ z. slice_get z k) e) ∙ h));
-  whole = λ p q x. absurd (true-false p f);
-}
+pub and-either : (a b : Bool) → (a && b) ≡ false → (a ≡ false) ⊎ (b ≡ false)
+and-either true b e = inr e
+and-either false b e = inl refl
 
-pub one-lists : (g : Graph) (given : Bool) (s : Sides) (lines : List Line) (w : Bool) → lines ≡ ([], s) ∷ [] → settled given (trees_of g s.base) (trees_of g s.ours) (trees_of g s.theirs) (trees_of g s.merge) ≡ false
-    → opens (trees_of g s.base) (trees_of g s.ours) (trees_of g s.theirs) (trees_of g s.merge) ≡ false → ListsOf g given s lines w
-one-lists g given s lines w e f n = subst (λ z. ListsOf g given s z w) (sym e) (record {
-  each = λ k d h. by k d h;
-  whole = λ p q x. at q x;
-})
-  where
-    told : IsTold g given (trees_of g s.base) (trees_of g s.ours) (trees_of g s.theirs) (trees_of g s.merge) ([], s)
-    told = record { breaks = (f, n); base = refl; ours = refl; theirs = refl; merge = refl }
+-- ---- keys one after another
 
-    by : (k : ℕ) (d : Line) → slice_get (([], s) ∷ []) k ≡ Some d → IsTold g given (trees_of g s.base) (trees_of g s.ours) (trees_of g s.theirs) (trees_of g s.merge) d
-    by zero d h = let q : ([], s) ≡ d = cc in subst (IsTold g given (trees_of g s.base) (trees_of g s.ours) (trees_of g s.theirs) (trees_of g s.merge)) q told
-    by (suc k) d h = absurd (no-line k h)
-
-    at : (q : Path) → Breaks given q (trees_of g s.base) (trees_of g s.ours) (trees_of g s.theirs) (trees_of g s.merge) → Listed g q (([], s) ∷ [])
-    at [] x = (0, ([], s), refl, tt)
-    at (r ∷ q) x = absurd (true-false x.1 n)
-
--- the same of the trees, as far as the first so many steps go
-pub record ListsSome (g : Graph) (given : Bool) (b o t m : Option Tree) (steps : List code.Step) (n : ℕ) (lines : List Line) (is_whole : Bool) : Type 0 where
-  pub each : (k : ℕ) (d : Line) → slice_get lines k ≡ Some d → IsTold g given b o t m d
-  pub whole : is_whole ≡ true → (k : ℕ) (x : code.Step) (q : Path) → k < n → slice_get steps k ≡ Some x → Breaks given q (part_of b (plain_of g x)) (part_of o (plain_of g x)) (part_of t (plain_of g x)) (part_of m (plain_of g x)) → Listed g (plain_of g x ∷ q) lines
-
-pub some-first : (g : Graph) (given : Bool) (b o t m : Option Tree) (steps : List code.Step) (lines : List Line) (w : Bool) → lines ≡ [] → ListsSome g given b o t m steps 0 lines w
-some-first g given b o t m steps lines w e = record {
-  each = λ k d h. absurd (no-line k (sym (ap (λ z. slice_get z k) e) ∙ h));
-  whole = λ p k x q l h y. absurd (omega (arith, l));
-}
-
-told-under : (g : Graph) (given : Bool) (b o t m : Option Tree) (s : code.Step) (d : Line) → settled given b o t m ≡ false → opens b o t m ≡ true → IsTold g given (part_of b (plain_of g s)) (part_of o (plain_of g s)) (part_of t (plain_of g s)) (part_of m (plain_of g s)) d → IsTold g given b o t m (under s d)
-told-under g given b o t m s d f e x = record {
-  breaks = subst (λ z. Breaks given z b o t m) (sym (path-under g s d)) (f, e, x.breaks);
-  base = ap (reach b) (path-under g s d) ∙ x.base;
-  ours = ap (reach o) (path-under g s d) ∙ x.ours;
-  theirs = ap (reach t) (path-under g s d) ∙ x.theirs;
-  merge = ap (reach m) (path-under g s d) ∙ x.merge;
-}
-
-split : (k n : ℕ) → k < n + 1 → (k < n) ⊎ (k ≡ n)
-split zero zero l = inr refl
-split zero (suc n) l = inl (omega arith)
-split (suc k) zero l = absurd (omega arith)
-split (suc k) (suc n) l = elim (split k n (omega arith)) [ inl a ↦ inl (omega arith) | inr e ↦ inr (ap suc e) ]
+-- the step leads to one of the first so many keys
+abbrev pub TakenKey : Graph → List NodeId → ℕ → Step → Type 0
+TakenKey g keys n s = (k : ℕ) × (key : NodeId) × (k < n) × (slice_get keys k ≡ Some key) × (s ≡ at_key (tree_of g key))
 
 some-is : {X : Type 0} {x y : X} → Some x ≡ Some y → x ≡ y
 some-is e = cc
 
-pub parts-lists : (g : Graph) (given : Bool) (step : Step) (s parts : Sides) (lines : List Line) (w : Bool) → PartsAre g step s parts → ListsOf g given parts lines w → Lists g given (part_of (trees_of g s.base) step) (part_of (trees_of g s.ours) step) (part_of (trees_of g s.theirs) step) (part_of (trees_of g s.merge) step) lines w
-parts-lists g given step s parts lines w p l =
-    subst (λ z. Lists g given z (part_of (trees_of g s.ours) step) (part_of (trees_of g s.theirs) step) (part_of (trees_of g s.merge) step) lines w) p.base
-    (subst (λ z. Lists g given (trees_of g parts.base) z (part_of (trees_of g s.theirs) step) (part_of (trees_of g s.merge) step) lines w) p.ours
-    (subst (λ z. Lists g given (trees_of g parts.base) (trees_of g parts.ours) z (part_of (trees_of g s.merge) step) lines w) p.theirs
-    (subst (λ z. Lists g given (trees_of g parts.base) (trees_of g parts.ours) (trees_of g parts.theirs) z lines w) p.merge l)))
+-- the paths of `Breaks` in the trees of these nodes
+abbrev pub BreaksIn : Graph → Bool → Sides → Path → Type 0
+BreaksIn g given s p = Breaks given p (trees_of g s.base) (trees_of g s.ours) (trees_of g s.theirs) (trees_of g s.merge)
 
--- the places behind one more step are added
-pub some-next : (g : Graph) (given : Bool) (b o t m : Option Tree) (steps : List code.Step) (n : ℕ) (x : code.Step) (lines more all : List Line) (w v u : Bool) → settled given b o t m ≡ false → opens b o t m ≡ true → slice_get steps n ≡ Some x → ListsSome g given b o t m steps n lines w
-    → Lists g given (part_of b (plain_of g x)) (part_of o (plain_of g x)) (part_of t (plain_of g x)) (part_of m (plain_of g x)) more v → all ≡ lines ++ map (under x) more → u ≡ (w && v) → ListsSome g given b o t m steps (n + 1) all u
-some-next g given b o t m steps n x lines more all w v u f e is l k ea eu = subst (λ z. ListsSome g given b o t m steps (n + 1) z u) (sym ea) (subst (ListsSome g given b o t m steps (n + 1) (lines ++ map (under x) more)) (sym eu) (record {
-  each = λ i d h. elim (get-side lines (map (under x) more) i d h) [
-    | inl a ↦ l.each i d a
-    | inr a ↦ let y = get-map (under x) more a.0 d a.2 in subst (IsTold g given b o t m) y.2 (told-under g given b o t m x y.0 f e (k.each a.0 y.0 y.1))
-  ];
-  whole = λ p i y q a h z. let c = and_both w v p in elim (split i n a) [
-    | inl j ↦ let r = l.whole c.0 i y q j h z in (r.0, r.1, get-more lines (map (under x) more) r.0 r.1 r.2, r.3)
-    | inr j ↦ last c.1 y q (some-is (sym h ∙ ap (slice_get steps) j ∙ is)) z
-  ];
-}))
-  where
-    last : v ≡ true → (y : code.Step) (q : Path) → y ≡ x → Breaks given q (part_of b (plain_of g y)) (part_of o (plain_of g y)) (part_of t (plain_of g y)) (part_of m (plain_of g y)) → Listed g (plain_of g y ∷ q) (lines ++ map (under x) more)
-    last p y q j z =
-        let r = k.whole p q (subst (λ s. Breaks given q (part_of b (plain_of g s)) (part_of o (plain_of g s)) (part_of t (plain_of g s)) (part_of m (plain_of g s))) j z) in
-        let a : AlikePath (path_of g (under x r.1).0) (plain_of g x ∷ q) = subst (λ s. AlikePath s (plain_of g x ∷ q)) (sym (path-under g x r.1)) (step-self (plain_of g x), r.3) in
-        (length lines + r.0, under x r.1, get-nth lines (map (under x) more) r.0 ∙ map-get (under x) more r.0 r.1 r.2, subst (λ s. AlikePath (path_of g (under x r.1).0) (plain_of g s ∷ q)) (sym j) a)
+module _ (g : Graph) (given : Bool) (s : Sides) where
+  abbrev pub base-tree : Option Tree
+  base-tree = trees_of g s.base
 
--- all steps were taken
-pub some-done : (g : Graph) (given : Bool) (s : Sides) (steps : List code.Step) (n : ℕ) (lines : List Line) (w : Bool) → opens (trees_of g s.base) (trees_of g s.ours) (trees_of g s.theirs) (trees_of g s.merge) ≡ true → length steps ≤ n → Covers g s steps → ListsSome g given (trees_of g s.base) (trees_of g s.ours) (trees_of g s.theirs) (trees_of g s.merge) steps n lines w → ListsOf g given s lines w
-some-done g given s steps n lines w e a c l = record {
-  each = l.each;
-  whole = λ p q x. by p q x;
-}
-  where
-    b : Option Tree
-    b = trees_of g s.base
+  abbrev pub our-tree : Option Tree
+  our-tree = trees_of g s.ours
 
-    o : Option Tree
-    o = trees_of g s.ours
+  abbrev pub their-tree : Option Tree
+  their-tree = trees_of g s.theirs
 
-    t : Option Tree
-    t = trees_of g s.theirs
+  abbrev pub merge-tree : Option Tree
+  merge-tree = trees_of g s.merge
 
-    m : Option Tree
-    m = trees_of g s.merge
+  abbrev pub IsHere : Path → Type 0
+  IsHere p = BreaksIn g given s p
 
-    at : w ≡ true → (r : Step) (q : Path) → Breaks given q (part_of b r) (part_of o r) (part_of t r) (part_of m r) → (h : Bool) → has_part g s r ≡ h → Listed g (r ∷ q) lines
-    at p r q x true h =
-        let i = c r h in
-        let y = plain_of g i.1 in
-        let k = step-back y r i.3 in
-        let z = breaks-like given q (part_of b r) (part_of o r) (part_of t r) (part_of m r) (part_of b y) (part_of o y) (part_of t y) (part_of m y) (step-like b r y k) (step-like o r y k) (step-like t r y k) (step-like m r y k) x in
-        let j = slice_get_within steps i.0 i.1 i.2 in
-        listed-like g lines q y r i.3 (l.whole p i.0 i.1 q (omega (arith, a, j)) i.2 z)
-    at p r q x false h =
-        let i = or-none (side_has g s.base r) (side_has g s.ours r || (side_has g s.theirs r || side_has g s.merge r)) h in
-        let j = or-none (side_has g s.ours r) (side_has g s.theirs r || side_has g s.merge r) i.1 in
-        let k = or-none (side_has g s.theirs r) (side_has g s.merge r) j.1 in
-        absurd (nothing-breaks given q (breaks-like given q (part_of b r) (part_of o r) (part_of t r) (part_of m r) None None None None (none-of (part_of b r) i.0) (none-of (part_of o r) j.0) (none-of (part_of t r) k.0) (none-of (part_of m r) k.1) x))
+  -- what is found behind the first so many keys, and where not all is, the room is spent
+  pub record Walked (keys : List NodeId) (n : ℕ) (f : Found) : Type 0 where
+    pub lists : ListsSome g IsHere base-tree our-tree their-tree merge-tree (TakenKey g keys n) (lines_of f) f.whole
+    pub cut : f.whole ≡ false → is_spent f.room ≡ true
 
-    by : w ≡ true → (q : Path) → Breaks given q b o t m → Listed g q lines
-    by p [] x = absurd (true-false e x.1)
-    by p (r ∷ q) x = at p r q x.2 (has_part g s r) refl
+  pub walked-first : (keys : List NodeId) (f : Found) → lines_of f ≡ [] → f.whole ≡ true → Walked keys 0 f
+  walked-first keys f e w = record {
+    lists = some-first g IsHere base-tree our-tree their-tree merge-tree (TakenKey g keys 0) (lines_of f) f.whole e (λ s i. absurd (omega (arith, i.2)));
+    cut = λ x. absurd (true-false w x);
+  }
+
+  pub walked-next : (values : Sides) (keys : List NodeId) (n : ℕ) (key : NodeId) (old more new : Found) → settled given base-tree our-tree their-tree merge-tree ≡ false → opens base-tree our-tree their-tree merge-tree ≡ true → slice_get keys n ≡ Some key → Walked keys n old → ValuesAre g (tree_of g key) s values → Finds g given values more
+      → Spends old.room more → lines_of new ≡ lines_of old ++ map (under (Value key)) (lines_of more) → new.room ≡ more.room → new.whole ≡ (old.whole && more.whole) → Walked keys (n + 1) new
+  walked-next values keys n key old more new f e is w p l u el er ew = record {
+    lists = some-next g IsHere base-tree our-tree their-tree merge-tree (BreaksIn g given values) (TakenKey g keys n) (TakenKey g keys (n + 1)) (Value key) (λ q x. (f, e, up q x)) down (lines_of old) (lines_of more) (lines_of new) old.whole more.whole new.whole w.lists parts el ew;
+    cut = λ y. ap is_spent er ∙ elim (and-either old.whole more.whole (sym ew ∙ y)) [ inl a ↦ u.stays (w.cut a) | inr a ↦ u.cut a ];
+  }
+    where
+      x : Step
+      x = at_key (tree_of g key)
+
+      up : (q : Path) → BreaksIn g given values q → Breaks given q (part_of base-tree x) (part_of our-tree x) (part_of their-tree x) (part_of merge-tree x)
+      up q y = breaks-like given q (trees_of g values.base) (trees_of g values.ours) (trees_of g values.theirs) (trees_of g values.merge) (part_of base-tree x) (part_of our-tree x) (part_of their-tree x) (part_of merge-tree x) p.base p.ours p.theirs p.merge y
+
+      back : (q : Path) → Breaks given q (part_of base-tree x) (part_of our-tree x) (part_of their-tree x) (part_of merge-tree x) → BreaksIn g given values q
+      back q y = breaks-like given q (part_of base-tree x) (part_of our-tree x) (part_of their-tree x) (part_of merge-tree x) (trees_of g values.base) (trees_of g values.ours) (trees_of g values.theirs) (trees_of g values.merge) (sym p.base) (sym p.ours) (sym p.theirs) (sym p.merge) y
+
+      same-step : (k : ℕ) (y : NodeId) → slice_get keys k ≡ Some y → k ≡ n → y ≡ key
+      same-step k y h j = some-is (sym h ∙ ap (slice_get keys) j ∙ is)
+
+      down : (r : Step) (q : Path) → TakenKey g keys (n + 1) r → IsHere (r ∷ q) → TakenKey g keys n r ⊎ ((r ≡ x) × BreaksIn g given values q)
+      down r q i y = elim (split i.0 n i.2) [
+        | inl j ↦ inl (i.0, i.1, j, i.3, i.4)
+        | inr j ↦
+            let h : r ≡ x = i.4 ∙ ap (λ z. at_key (tree_of g z)) (same-step i.0 i.1 i.3 j) in
+            inr (h, back q (subst (λ z. Breaks given q (part_of base-tree z) (part_of our-tree z) (part_of their-tree z) (part_of merge-tree z)) h y.2))
+      ]
+
+      parts : Lists g (BreaksIn g given values) (part_of base-tree x) (part_of our-tree x) (part_of their-tree x) (part_of merge-tree x) (lines_of more) more.whole
+      parts =
+          subst (λ z. Lists g (BreaksIn g given values) z (part_of our-tree x) (part_of their-tree x) (part_of merge-tree x) (lines_of more) more.whole) p.base
+          (subst (λ z. Lists g (BreaksIn g given values) (trees_of g values.base) z (part_of their-tree x) (part_of merge-tree x) (lines_of more) more.whole) p.ours
+          (subst (λ z. Lists g (BreaksIn g given values) (trees_of g values.base) (trees_of g values.ours) z (part_of merge-tree x) (lines_of more) more.whole) p.theirs
+          (subst (λ z. Lists g (BreaksIn g given values) (trees_of g values.base) (trees_of g values.ours) (trees_of g values.theirs) z (lines_of more) more.whole) p.merge l)))
+
+  pub walked-done : (keys : List NodeId) (n : ℕ) (f : Found) → opens base-tree our-tree their-tree merge-tree ≡ true → length keys ≤ n → Covers g s keys → Walked keys n f → Finds g given s f
+  walked-done keys n f e a c w = record {
+    each = w.lists.each;
+    whole = λ p q x. by p q x;
+  }
+    where
+      three : (one_shape base-tree our-tree ≡ true) × (one_shape base-tree their-tree ≡ true) × (one_shape base-tree merge-tree ≡ true)
+      three = opens-three base-tree our-tree their-tree merge-tree e
+
+      at : f.whole ≡ true → (x : Tree) (q : Path) → IsHere (at_key x ∷ q) → (h : Bool) → has_value g s x ≡ h → Listed g (at_key x ∷ q) (lines_of f)
+      at p x q y true h =
+          let i = c x h in
+          let z = tree_of g i.1 in
+          let j = same_sym z x i.3 in
+          let l = slice_get_within keys i.0 i.1 i.2 in
+          let k = breaks-like given q (part_of base-tree (at_key x)) (part_of our-tree (at_key x)) (part_of their-tree (at_key x)) (part_of merge-tree (at_key x)) (part_of base-tree (at_key z)) (part_of our-tree (at_key z)) (part_of their-tree (at_key z)) (part_of merge-tree (at_key z)) (key-like base-tree x z j) (key-like our-tree x z j) (key-like their-tree x z j) (key-like merge-tree x z j) y.2 in
+          listed-key g (lines_of f) q z x i.3 (w.lists.whole p (at_key z) q (i.0, i.1, omega (arith, a, l), i.2, refl) (y.0, y.1, k))
+      at p x q y false h =
+          let i = or-none (side_has g s.base x) (side_has g s.ours x || (side_has g s.theirs x || side_has g s.merge x)) h in
+          let j = or-none (side_has g s.ours x) (side_has g s.theirs x || side_has g s.merge x) i.1 in
+          let k = or-none (side_has g s.theirs x) (side_has g s.merge x) j.1 in
+          absurd (none-breaks given q (part_of base-tree (at_key x)) (part_of our-tree (at_key x)) (part_of their-tree (at_key x)) (part_of merge-tree (at_key x)) (none-of (part_of base-tree (at_key x)) i.0) (none-of (part_of our-tree (at_key x)) j.0) (none-of (part_of their-tree (at_key x)) k.0) (none-of (part_of merge-tree (at_key x)) k.1) y.2)
+
+      by : f.whole ≡ true → (q : Path) → IsHere q → Listed g q (lines_of f)
+      by p [] x = absurd (true-false e x.1)
+      by p (at_key y ∷ q) x = at p y q x (has_value g s y) refl
+      by p (at_item k ∷ q) x =
+          let i = shape-items base-tree our-tree three.0 k in
+          absurd (none-breaks given q (part_of base-tree (at_item k)) (part_of our-tree (at_item k)) (part_of their-tree (at_item k)) (part_of merge-tree (at_item k)) i.0 i.1 (shape-items base-tree their-tree three.1 k).1 (shape-items base-tree merge-tree three.2 k).1 x.2)
+
+  -- ---- where nothing is opened
+
+  pub settled-found : (f : Found) → lines_of f ≡ [] → settled given base-tree our-tree their-tree merge-tree ≡ true → Finds g given s f
+  settled-found f e h = none-lists g IsHere base-tree our-tree their-tree merge-tree (lines_of f) f.whole e (λ w p x. no p x)
+    where
+      no : (p : Path) → IsHere p → ⊥
+      no [] x = true-false h x.0
+      no (r ∷ q) x = true-false h x.0
+
+  pub cut-found : (f : Found) → lines_of f ≡ [] → f.whole ≡ false → Finds g given s f
+  cut-found f e h = none-lists g IsHere base-tree our-tree their-tree merge-tree (lines_of f) f.whole e (λ w p x. true-false w h)
+
+  pub one-found : (answer : Result Found Fault) → IfOk answer (λ f. lines_of f ≡ ([], s) ∷ []) → settled given base-tree our-tree their-tree merge-tree ≡ false → opens base-tree our-tree their-tree merge-tree ≡ false → IfOk answer (Finds g given s)
+  one-found (Ok f) e h n = one-lists g IsHere s (lines_of f) f.whole e (h, n) no
+    where
+      no : (p : Path) → IsHere p → p ≡ []
+      no [] x = refl
+      no (r ∷ q) x = absurd (true-false x.1 n)
+  one-found (Err x) e h n = tt
+
+-- ---- room
+
+pub spends-some : (room : Room) (f : Found) → is_spent room ≡ false → (f.whole ≡ false → is_spent f.room ≡ true) → Spends room f
+spends-some room f n c = record { cut = c; stays = λ e. absurd (true-false e n) }
+
+pub none-spends : (room : Room) (f : Found) → f.room ≡ room → f.whole ≡ true → Spends room f
+none-spends room f e w = record { cut = λ x. absurd (true-false w x); stays = λ x. ap is_spent e ∙ x }
+
+pub cut-spends : (room : Room) (f : Found) → f.room ≡ room → is_spent room ≡ true → Spends room f
+cut-spends room f e h = record { cut = λ x. ap is_spent e ∙ h; stays = λ x. ap is_spent e ∙ h }
+
+pub one-spends : (room : Room) (answer : Result Found Fault) → IfOk answer (λ f. f.whole ≡ true) → is_spent room ≡ false → IfOk answer (Spends room)
+one-spends room (Ok f) w n = spends-some room f n (λ x. absurd (true-false w x))
+one-spends room (Err x) w n = tt
 
 -- ---- the walk goes down
 
@@ -234,48 +333,3 @@ total-less g s parts e b =
     let z = below-size parts.theirs s.theirs b.theirs in
     let w = below-size parts.merge s.merge b.merge in
     omega (arith, x, y, z, w)
-
--- ---- the loop of the walk
-
--- what is found behind the first so many steps, and where not all is, the room is spent
-pub record Walked (g : Graph) (given : Bool) (s : Sides) (steps : List code.Step) (n : ℕ) (f : Found) : Type 0 where
-  pub lists : ListsSome g given (trees_of g s.base) (trees_of g s.ours) (trees_of g s.theirs) (trees_of g s.merge) steps n (lines_of f) f.whole
-  pub cut : f.whole ≡ false → is_spent f.room ≡ true
-
-pub walked-first : (g : Graph) (given : Bool) (s : Sides) (steps : List code.Step) (f : Found) → lines_of f ≡ [] → f.whole ≡ true → Walked g given s steps 0 f
-walked-first g given s steps f e w = record {
-  lists = some-first g given (trees_of g s.base) (trees_of g s.ours) (trees_of g s.theirs) (trees_of g s.merge) steps (lines_of f) f.whole e;
-  cut = λ x. absurd (true-false w x);
-}
-
-pub and-either : (a b : Bool) → (a && b) ≡ false → (a ≡ false) ⊎ (b ≡ false)
-and-either true b e = inr e
-and-either false b e = inl refl
-
-pub walked-next : (g : Graph) (given : Bool) (s parts : Sides) (steps : List code.Step) (n : ℕ) (x : code.Step) (old more new : Found) → settled given (trees_of g s.base) (trees_of g s.ours) (trees_of g s.theirs) (trees_of g s.merge) ≡ false → opens (trees_of g s.base) (trees_of g s.ours) (trees_of g s.theirs) (trees_of g s.merge) ≡ true → slice_get steps n ≡ Some x → Walked g given s steps n old → PartsAre g (plain_of g x) s parts → Finds g given parts more
-    → Spends old.room more → lines_of new ≡ lines_of old ++ map (under x) (lines_of more) → new.room ≡ more.room → new.whole ≡ (old.whole && more.whole) → Walked g given s steps (n + 1) new
-walked-next g given s parts steps n x old more new f e is w p m u el er ew = record {
-  lists = some-next g given (trees_of g s.base) (trees_of g s.ours) (trees_of g s.theirs) (trees_of g s.merge) steps n x (lines_of old) (lines_of more) (lines_of new) old.whole more.whole new.whole f e is w.lists (parts-lists g given (plain_of g x) s parts (lines_of more) more.whole p m) el ew;
-  cut = λ y. ap is_spent er ∙ elim (and-either old.whole more.whole (sym ew ∙ y)) [ inl a ↦ u.stays (w.cut a) | inr a ↦ u.cut a ];
-}
-
-pub walked-done : (g : Graph) (given : Bool) (s : Sides) (steps : List code.Step) (n : ℕ) (f : Found) → opens (trees_of g s.base) (trees_of g s.ours) (trees_of g s.theirs) (trees_of g s.merge) ≡ true → length steps ≤ n → Covers g s steps → Walked g given s steps n f → Finds g given s f
-walked-done g given s steps n f e a c w = some-done g given s steps n (lines_of f) f.whole e a c w.lists
-
-pub spends-some : (room : Room) (f : Found) → is_spent room ≡ false → (f.whole ≡ false → is_spent f.room ≡ true) → Spends room f
-spends-some room f n c = record { cut = c; stays = λ e. absurd (true-false e n) }
-
-pub none-spends : (room : Room) (f : Found) → f.room ≡ room → f.whole ≡ true → Spends room f
-none-spends room f e w = record { cut = λ x. absurd (true-false w x); stays = λ x. ap is_spent e ∙ x }
-
-pub cut-spends : (room : Room) (f : Found) → f.room ≡ room → is_spent room ≡ true → Spends room f
-cut-spends room f e h = record { cut = λ x. ap is_spent e ∙ h; stays = λ x. ap is_spent e ∙ h }
-
-pub one-found : (g : Graph) (given : Bool) (s : Sides) (answer : Result Found Fault) → IfOk answer (λ f. lines_of f ≡ ([], s) ∷ []) → settled given (trees_of g s.base) (trees_of g s.ours) (trees_of g s.theirs) (trees_of g s.merge) ≡ false
-    → opens (trees_of g s.base) (trees_of g s.ours) (trees_of g s.theirs) (trees_of g s.merge) ≡ false → IfOk answer (Finds g given s)
-one-found g given s (Ok f) a n e = one-lists g given s (lines_of f) f.whole a n e
-one-found g given s (Err x) a n e = tt
-
-pub one-spends : (room : Room) (answer : Result Found Fault) → IfOk answer (λ f. f.whole ≡ true) → is_spent room ≡ false → IfOk answer (Spends room)
-one-spends room (Ok f) w n = spends-some room f n (λ x. absurd (true-false w x))
-one-spends room (Err x) w n = tt

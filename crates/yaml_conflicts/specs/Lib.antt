@@ -1,4 +1,4 @@
 pub mod Rooms
 pub mod Found
-pub mod Steps
+pub mod Keys
 pub mod Streams

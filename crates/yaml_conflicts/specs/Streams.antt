@@ -1,12 +1,13 @@
--- Streams as sequences of their documents.
-use Rattle.std.specs.Prelude.{◌≡◌, ℕ, Bool, false, true, List, [], Option}
+-- What is found of streams.
+use Rattle.std.specs.Prelude.{◌≡◌, ℕ, Bool, false, true, List, [], map}
 use Rattle.std.specs.List.{slice_get}
-use Rattle.yaml_definitions.specs.model.Tree.{Tree}
+use Rattle.yaml_definitions.specs.model.Tree.{Trees}
+use Rattle.yaml_graph.specs.TreeLists.{trees}
 use Rattle.yaml_graph.specs.declared.node.NodeId.{NodeId}
 use Rattle.yaml_graph.specs.declared.graph.Graph.{Graph}
-use Rattle.yaml_diff.specs.Lines.{sequence_of}
+use Rattle.yaml_diff.specs.Lines.{tree_of, trees_of}
 use Rattle.yaml_diff.specs.Found.{AllWithin}
-use Rattle.yaml_merge.specs.Merge.{Breaks}
+use Rattle.yaml_merge.specs.Streams.{stream, DocumentBreaks, StreamBreaks}
 use Rattle.yaml_conflicts.specs.declared.sides.Sides.{Sides}
 use Rattle.yaml_conflicts.specs.declared.sides.Found.{Found}
 use Rattle.yaml_conflicts.specs.declared.streams.Roots.{Roots}
@@ -15,9 +16,9 @@ use Rattle.yaml_conflicts.specs.declared.streams.Outcome.TheVariants.{Documents,
 use Rattle.yaml_conflicts.specs.Rooms.{is_spent}
 use Rattle.yaml_conflicts.specs.Found.{Lists, lines_of}
 
--- the sequence of the documents with these roots
-abbrev pub stream : Graph → List NodeId → Option Tree
-stream g roots = sequence_of g [] roots
+-- the documents with these roots
+abbrev pub documents : Graph → List NodeId → Trees
+documents g roots = trees (map (tree_of g) roots)
 
 -- the roots are nodes of the graph
 pub record RootsWithin (g : Graph) (r : Roots) : Type 0 where
@@ -33,12 +34,25 @@ pub record DocumentsAre (r : Roots) (place : ℕ) (s : Sides) : Type 0 where
   pub theirs : s.theirs ≡ slice_get r.theirs.now place
   pub merge : s.merge ≡ slice_get r.merge.now place
 
--- The paths of `Breaks` in the streams, and where not all are found, the room is spent.
-pub record FindsDocuments (g : Graph) (given : Bool) (r : Roots) (f : Found) : Type 0 where
-  pub lists : Lists g given (stream g r.base.now) (stream g r.ours.now) (stream g r.theirs.now) (stream g r.merge.now) (lines_of f) f.whole
-  pub cut : f.whole ≡ false → is_spent f.room ≡ true
+-- what is found of the documents at one place
+abbrev pub FindsDocument : Graph → (given is_alone : Bool) → Sides → Found → Type 0
+FindsDocument g given is_alone s f =
+    let b = trees_of g s.base in
+    let o = trees_of g s.ours in
+    let t = trees_of g s.theirs in
+    let m = trees_of g s.merge in
+    Lists g (λ p. DocumentBreaks given is_alone p b o t m) b o t m (lines_of f) f.whole
 
--- the same, or the path without a step is the only one
+-- The paths of `StreamBreaks`, and where not all are found, the room is spent.
+module _ (g : Graph) (given : Bool) (b o t m : Trees) where
+  pub record FindsDocuments (f : Found) : Type 0 where
+    pub lists : Lists g (λ p. StreamBreaks given p b o t m) (stream b) (stream o) (stream t) (stream m) (lines_of f) f.whole
+    pub cut : f.whole ≡ false → is_spent f.room ≡ true
+
+  -- the same, or the path without a step is the only one
+  abbrev pub FindsOutcome : Outcome → Type 0
+  FindsOutcome (Documents f) = FindsDocuments f
+  FindsOutcome Streams = StreamBreaks given [] b o t m
+
 abbrev pub FindsStreams : Graph → Bool → Roots → Outcome → Type 0
-FindsStreams g given r (Documents f) = FindsDocuments g given r f
-FindsStreams g given r Streams = Breaks given [] (stream g r.base.now) (stream g r.ours.now) (stream g r.theirs.now) (stream g r.merge.now)
+FindsStreams g given r outcome = FindsOutcome g given (documents g r.base.now) (documents g r.ours.now) (documents g r.theirs.now) (documents g r.merge.now) outcome

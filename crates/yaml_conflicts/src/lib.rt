@@ -1,13 +1,13 @@
-//! Where two changes of a tree conflict, and where a merge of them is not what it should be: the paths of which `Breaks` (`yaml_merge`) speaks.
+//! Where two changes of a tree conflict, and where a merge of them is not what it should be: the paths of which `Breaks` and `StreamBreaks` (`yaml_merge`) speak.
 #![tactic(auto)]
 
+mod keys;
 mod lists;
-mod parts;
 mod rules;
 mod shapes;
 pub mod sides;
-mod steps;
 pub mod streams;
+mod values;
 pub mod walk;
 
 pub use sides::{Conflict, Found, Room, Sides, Step};

@@ -1,35 +1,22 @@
 //! Whether nodes are of one shape.
-ghost use Rattle.std.specs.Prelude.{◌≡◌, ◌<◌, length, Some};
+ghost use Rattle.std.specs.Prelude.{◌≡◌, ◌<◌, ◌&&◌, length, Some};
 ghost use Rattle.yaml_graph.specs.GraphView.{nodes_of, tree};
 ghost use Rattle.yaml_merge.specs.Merge.{one_shape, opens};
 ghost use Rattle.yaml_diff.specs.Lines.{trees_of};
 ghost use Rattle.yaml_diff.specs.Found.{Within};
-ghost use Rattle.yaml_conflicts.specs.Found.{SidesWithin, kinds_shape};
+ghost use Rattle.yaml_conflicts.specs.Found.{SidesWithin, is_mapping};
 
 use crate::sides::Sides;
 use yaml_graph::graph::Graph;
 use yaml_graph::node::{NodeId, NodeKind};
 
-/// Whether both are mappings, or sequences with equally many items.
-fn is_same_kind(left: &NodeKind<'_>, right: &NodeKind<'_>) -> bool
-    ensures { result ≡ kinds_shape left.now right.now }
+fn are_mappings(left: &NodeKind<'_>, right: &NodeKind<'_>) -> bool
+    ensures { result ≡ (is_mapping left.now && is_mapping right.now) }
 {
-    match left {
-        NodeKind::Scalar(_) => false,
-        NodeKind::Sequence(items) => match right {
-            NodeKind::Scalar(_) => false,
-            NodeKind::Sequence(others) => items.len() == others.len(),
-            NodeKind::Mapping(_) => false,
-        },
-        NodeKind::Mapping(_) => match right {
-            NodeKind::Scalar(_) => false,
-            NodeKind::Sequence(_) => false,
-            NodeKind::Mapping(_) => true,
-        },
-    }
+    matches!(left, NodeKind::Mapping(_)) && matches!(right, NodeKind::Mapping(_))
 }
 
-/// Whether two nodes are mappings of one tag, or sequences of one tag with equally many items.
+/// Whether two nodes are mappings of one tag.
 fn are_one_shape(graph: &Graph<'_>, left: NodeId, right: NodeId) -> bool
     requires left { left.0 < length (nodes_of graph.now) }
     requires right { right.0 < length (nodes_of graph.now) }
@@ -37,7 +24,7 @@ fn are_one_shape(graph: &Graph<'_>, left: NodeId, right: NodeId) -> bool
 {
     let first = graph.node(left);
     let second = graph.node(right);
-    first.tag.as_str() == second.tag.as_str() && is_same_kind(&first.kind, &second.kind)
+    first.tag.as_str() == second.tag.as_str() && are_mappings(&first.kind, &second.kind)
 }
 
 /// The same of places at which there may be no node.
@@ -56,7 +43,7 @@ fn has_shape(graph: &Graph<'_>, left: Option<NodeId>, right: Option<NodeId>) -> 
     }
 }
 
-/// Whether all four are collections of one shape, so that what is inside is merged part by part.
+/// Whether all four are mappings of one tag, so that what is inside is merged key by key.
 pub(crate) fn is_open(graph: &Graph<'_>, sides: Sides) -> bool
     requires within { SidesWithin graph.now sides }
     ensures { result ≡ opens (trees_of graph.now sides.base) (trees_of graph.now sides.ours) (trees_of graph.now sides.theirs) (trees_of graph.now sides.merge) }

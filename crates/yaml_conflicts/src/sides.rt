@@ -11,10 +11,10 @@ pub struct Sides {
     pub merge: Option<NodeId>,
 }
 
-/// One step down on all sides: to the items at this place, or to the values of this key.
+/// One step down on all sides: to the documents at this place, or to the values of this key.
 #[derive(Clone, Copy, Debug, PartialEq, Eq)]
 pub enum Step {
-    Item(usize),
+    Document(usize),
     Value(NodeId),
 }
 

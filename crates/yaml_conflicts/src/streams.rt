@@ -1,14 +1,16 @@
 //! Where changes of a stream conflict, document by document.
-ghost use Rattle.std.specs.Prelude.{◌≡◌, IfOk, IfErr, true, false};
+ghost use Rattle.std.specs.Prelude.{◌≡◌, ◌==◌, IfOk, IfErr, true, false};
 ghost use Rattle.std.specs.List.{slice_get};
+ghost use Rattle.yaml_path.specs.Ways.{count_in};
 ghost use Rattle.yaml_rank.specs.RanksView.{RanksAre};
-ghost use Rattle.yaml_merge.specs.Merge.{alike, follows, is_ruled, settled, one_shape, opens};
+ghost use Rattle.yaml_merge.specs.Merge.{alike, follows, is_ruled, settled};
+ghost use Rattle.yaml_merge.specs.Streams.{stream, are_paired};
 ghost use Rattle.yaml_diff.specs.Found.{Within, AllWithin};
-ghost use Rattle.yaml_conflicts.specs.Found.{SidesWithin};
-ghost use Rattle.yaml_conflicts.specs.Streams.{stream, RootsWithin, DocumentsAre, FindsDocuments, FindsStreams};
+ghost use Rattle.yaml_conflicts.specs.Found.{SidesWithin, Spends};
+ghost use Rattle.yaml_conflicts.specs.Streams.{documents, RootsWithin, DocumentsAre, FindsDocument, FindsDocuments, FindsStreams};
 
-use crate::lists::{add, none};
-use crate::parts::item_in;
+use crate::lists::{add, none, one};
+use crate::rules;
 use crate::rules::is_alike;
 use crate::sides::{Found, Room, Sides, Step};
 use crate::walk::conflicts;
@@ -37,6 +39,13 @@ pub enum Outcome {
     Streams,
 }
 
+/// The root at this place, if there is one.
+fn root_at(roots: &[NodeId], place: usize) -> Option<NodeId>
+    ensures { result ≡ slice_get roots.now place }
+{
+    roots.get(place).copied()
+}
+
 /// The document at this place, if there is one.
 fn document(graph: &Graph<'_>, roots: &[NodeId], place: usize) -> Option<NodeId>
     requires within { AllWithin graph.now roots.now }
@@ -44,7 +53,7 @@ fn document(graph: &Graph<'_>, roots: &[NodeId], place: usize) -> Option<NodeId>
     ensures within { Within graph.now result }
 {
     let _nodes = graph.len();
-    item_in(roots, place)
+    root_at(roots, place)
 }
 
 /// The documents at this place.
@@ -63,7 +72,7 @@ fn documents(graph: &Graph<'_>, roots: &Roots<'_>, place: usize) -> Sides
 
 /// Whether two streams have equally many documents.
 fn are_long(graph: &Graph<'_>, left: &[NodeId], right: &[NodeId]) -> bool
-    ensures { result ≡ one_shape (stream graph.now left.now) (stream graph.now right.now) }
+    ensures { result ≡ (count_in (documents graph.now left.now) == count_in (documents graph.now right.now)) }
 {
     let _nodes = graph.len();
     left.len() == right.len()
@@ -74,7 +83,7 @@ fn are_alike(graph: &Graph<'_>, ranks: &Ranks, left: &[NodeId], right: &[NodeId]
     requires left { AllWithin graph.now left.now }
     requires right { AllWithin graph.now right.now }
     requires ranked { RanksAre graph.now ranks.now }
-    ensures { result ≡ alike (stream graph.now left.now) (stream graph.now right.now) }
+    ensures { result ≡ alike (stream (documents graph.now left.now)) (stream (documents graph.now right.now)) }
 {
     if !are_long(graph, left, right) {
         return false;
@@ -93,7 +102,7 @@ fn are_alike(graph: &Graph<'_>, ranks: &Ranks, left: &[NodeId], right: &[NodeId]
 fn has_rule(graph: &Graph<'_>, ranks: &Ranks, roots: &Roots<'_>) -> bool
     requires within { RootsWithin graph.now roots.now }
     requires ranked { RanksAre graph.now ranks.now }
-    ensures { result ≡ is_ruled (stream graph.now roots.now.base.now) (stream graph.now roots.now.ours.now) (stream graph.now roots.now.theirs.now) }
+    ensures { result ≡ is_ruled (stream (documents graph.now roots.now.base.now)) (stream (documents graph.now roots.now.ours.now)) (stream (documents graph.now roots.now.theirs.now)) }
 {
     are_alike(graph, ranks, roots.ours, roots.base)
         || (are_alike(graph, ranks, roots.theirs, roots.base)
@@ -104,7 +113,7 @@ fn has_rule(graph: &Graph<'_>, ranks: &Ranks, roots: &Roots<'_>) -> bool
 fn is_followed(graph: &Graph<'_>, ranks: &Ranks, roots: &Roots<'_>) -> bool
     requires within { RootsWithin graph.now roots.now }
     requires ranked { RanksAre graph.now ranks.now }
-    ensures { result ≡ follows (stream graph.now roots.now.base.now) (stream graph.now roots.now.ours.now) (stream graph.now roots.now.theirs.now) (stream graph.now roots.now.merge.now) }
+    ensures { result ≡ follows (stream (documents graph.now roots.now.base.now)) (stream (documents graph.now roots.now.ours.now)) (stream (documents graph.now roots.now.theirs.now)) (stream (documents graph.now roots.now.merge.now)) }
 {
     let is_ours = are_alike(graph, ranks, roots.merge, roots.ours);
     (are_alike(graph, ranks, roots.ours, roots.base)
@@ -117,7 +126,7 @@ fn is_followed(graph: &Graph<'_>, ranks: &Ranks, roots: &Roots<'_>) -> bool
 fn is_settled(graph: &Graph<'_>, ranks: &Ranks, roots: &Roots<'_>, given: bool) -> bool
     requires within { RootsWithin graph.now roots.now }
     requires ranked { RanksAre graph.now ranks.now }
-    ensures { result ≡ settled given (stream graph.now roots.now.base.now) (stream graph.now roots.now.ours.now) (stream graph.now roots.now.theirs.now) (stream graph.now roots.now.merge.now) }
+    ensures { result ≡ settled given (stream (documents graph.now roots.now.base.now)) (stream (documents graph.now roots.now.ours.now)) (stream (documents graph.now roots.now.theirs.now)) (stream (documents graph.now roots.now.merge.now)) }
 {
     if given {
         is_followed(graph, ranks, roots)
@@ -128,10 +137,38 @@ fn is_settled(graph: &Graph<'_>, ranks: &Ranks, roots: &Roots<'_>, given: bool) 
 
 /// Whether all four have equally many documents.
 fn are_paired(graph: &Graph<'_>, roots: &Roots<'_>) -> bool
-    ensures { result ≡ opens (stream graph.now roots.now.base.now) (stream graph.now roots.now.ours.now) (stream graph.now roots.now.theirs.now) (stream graph.now roots.now.merge.now) }
+    ensures { result ≡ are_paired (documents graph.now roots.now.base.now) (documents graph.now roots.now.ours.now) (documents graph.now roots.now.theirs.now) (documents graph.now roots.now.merge.now) }
 {
     are_long(graph, roots.base, roots.ours)
         && (are_long(graph, roots.base, roots.theirs) && are_long(graph, roots.base, roots.merge))
+}
+
+/// The places of the documents at one place: each is one value, unless it is alone in its stream.
+fn of_document(
+    alloc: Global,
+    graph: &Graph<'_>,
+    ranks: &Ranks,
+    sides: Sides,
+    given: bool,
+    is_alone: bool,
+    room: Room,
+) -> Result<Found, Fault>
+    requires within { SidesWithin graph.now sides }
+    requires ranked { RanksAre graph.now ranks.now }
+    ensures ok { IfOk result (FindsDocument graph.now given is_alone sides) }
+    ensures room { IfOk result (Spends room) }
+    ensures err { IfErr result (λ fault. fault ≡ Fault.OutOfMemory) }
+{
+    if is_alone {
+        return conflicts(alloc, graph, ranks, sides, given, room);
+    }
+    if rules::is_settled(graph, ranks, sides, given) {
+        return Ok(none(alloc, room, true));
+    }
+    if room.is_spent() {
+        return Ok(none(alloc, room, false));
+    }
+    one(alloc, sides, room.without_line())
 }
 
 /// The places of the documents, one after another.
@@ -145,22 +182,22 @@ fn of_documents(
 ) -> Result<Found, Fault>
     requires within { RootsWithin graph.now roots.now }
     requires ranked { RanksAre graph.now ranks.now }
-    requires free { settled given (stream graph.now roots.now.base.now) (stream graph.now roots.now.ours.now) (stream graph.now roots.now.theirs.now) (stream graph.now roots.now.merge.now) ≡ false }
-    requires paired { opens (stream graph.now roots.now.base.now) (stream graph.now roots.now.ours.now) (stream graph.now roots.now.theirs.now) (stream graph.now roots.now.merge.now) ≡ true }
-    ensures ok { IfOk result (FindsDocuments graph.now given roots.now) }
+    requires paired { are_paired (documents graph.now roots.now.base.now) (documents graph.now roots.now.ours.now) (documents graph.now roots.now.theirs.now) (documents graph.now roots.now.merge.now) ≡ true }
+    ensures ok { IfOk result (FindsDocuments graph.now given (documents graph.now roots.now.base.now) (documents graph.now roots.now.ours.now) (documents graph.now roots.now.theirs.now) (documents graph.now roots.now.merge.now)) }
     ensures err { IfErr result (λ fault. fault ≡ Fault.OutOfMemory) }
 {
+    let is_alone = roots.base.len() == 1;
     let mut found = none(alloc, room, true);
     for place in 0..roots.base.len() {
         let sides = documents(graph, roots, place);
-        let more = conflicts(alloc, graph, ranks, sides, given, found.room)?;
-        add(&mut found, Step::Item(place), more)?;
+        let more = of_document(alloc, graph, ranks, sides, given, is_alone, found.room)?;
+        add(&mut found, Step::Document(place), more)?;
     }
     Ok(found)
 }
 
-/// The paths of `conflicts` in streams. A stream is what a sequence of its documents would be: documents are taken by their places
-/// where all streams have equally many, and a stream is one value where they have not. The only error is want of memory (21).
+/// The paths of `conflicts` in streams. Documents are taken by their places where all streams have equally many, and of several
+/// documents each is one value. A stream is one value where they have not. The only error is want of memory (21).
 pub fn stream_conflicts(
     alloc: Global,
     graph: &Graph<'_>,
@@ -174,12 +211,12 @@ pub fn stream_conflicts(
     ensures ok { IfOk result (FindsStreams graph.now given roots.now) }
     ensures err { IfErr result (λ fault. fault ≡ Fault.OutOfMemory) }
 {
+    if are_paired(graph, roots) {
+        let found = of_documents(alloc, graph, ranks, roots, given, room)?;
+        return Ok(Outcome::Documents(found));
+    }
     if is_settled(graph, ranks, roots, given) {
         return Ok(Outcome::Documents(none(alloc, room, true)));
     }
-    if !are_paired(graph, roots) {
-        return Ok(Outcome::Streams);
-    }
-    let found = of_documents(alloc, graph, ranks, roots, given, room)?;
-    Ok(Outcome::Documents(found))
+    Ok(Outcome::Streams)
 }

@@ -3,12 +3,12 @@ ghost use Rattle.std.specs.Prelude.{◌≡◌, IfOk, IfErr, true};
 ghost use Rattle.yaml_rank.specs.RanksView.{RanksAre};
 ghost use Rattle.yaml_conflicts.specs.Found.{SidesWithin, Finds, Spends};
 
+use crate::keys::keys_of;
 use crate::lists::{add, none, one};
-use crate::parts::parts_at;
 use crate::rules::is_settled;
 use crate::shapes::is_open;
-use crate::sides::{Found, Room, Sides};
-use crate::steps::steps_of;
+use crate::sides::{Found, Room, Sides, Step};
+use crate::values::values_at;
 use std::alloc::Global;
 use yaml_graph::graph::Graph;
 use yaml_rank::ranks::Ranks;
@@ -40,11 +40,11 @@ pub fn conflicts(
         return one(alloc, sides, room.without_line());
     }
     let mut found = none(alloc, room.without_place(), true);
-    let steps = steps_of(alloc, graph, ranks, sides)?;
-    for step in &steps {
-        let parts = parts_at(graph, ranks, sides, *step);
-        let more = conflicts(alloc, graph, ranks, parts, given, found.room)?;
-        add(&mut found, *step, more)?;
+    let keys = keys_of(alloc, graph, ranks, sides)?;
+    for key in &keys {
+        let values = values_at(graph, ranks, sides, *key);
+        let more = conflicts(alloc, graph, ranks, values, given, found.room)?;
+        add(&mut found, Step::Value(*key), more)?;
     }
     Ok(found)
 }

@@ -1,17 +1,15 @@
 -- A merge exists, or there is a conflict.
-use Rattle.std.proofs.Common.{◌≡◌, ℕ, zero, suc, Bool, true, false, cond, not, ◌&&◌, ◌||◌, ◌==◌, ◌⊎◌, List, [], ◌∷◌, inl, inr, refl, sym, ◌∙◌, ap, subst, arith}
-use Rattle.std.specs.Prelude.{◌↔◌, Option, Some, None, bytes_eq}
-use Rattle.std.proofs.lemmas.Bool.{eqb-true, eq-eqb}
+use Rattle.std.proofs.Common.{◌≡◌, ℕ, Bool, true, false, cond, not, ◌&&◌, ◌||◌, ◌⊎◌, List, [], ◌∷◌, inl, inr, refl, sym, ◌∙◌, ap, subst}
+use Rattle.std.specs.Prelude.{◌↔◌, Option, Some, None}
 use lib.Pointwise.{bytes_decides}
-use Rattle.yaml_definitions.specs.model.Tree.{Tree, Trees, Pairs, scalar, sequence, mapping, end, item, done, entry}
-use Rattle.yaml_definitions.specs.model.Same.{same, keyed, keyed_trees, keyed_pairs, all_pairs}
-use Rattle.yaml_definitions.proofs.Members.{In, and_both, both_and, or_either, or_left, or_right, in_all}
+use Rattle.yaml_definitions.specs.model.Tree.{Tree, Pairs, scalar, sequence, mapping, done, entry}
+use Rattle.yaml_definitions.specs.model.Same.{same, keyed, keyed_pairs, all_pairs}
+use Rattle.yaml_definitions.proofs.Members.{In, both_and, or_either, or_left, or_right, in_all}
 use Rattle.yaml_definitions.proofs.SameLaws.{keyed_parts}
 use Rattle.yaml_definitions.proofs.Equivalence.{same_refl, same_like}
-use Rattle.yaml_path.specs.Path.{Path, Step, at_item, at_key, item_in, value_in, part_of}
-use Rattle.yaml_path.specs.Ways.{count_in}
+use Rattle.yaml_path.specs.Path.{Path, Step, at_item, at_key, value_in, part_of}
 use Rattle.yaml_path.proofs.PathLaws.{found_in, in_found}
-use Rattle.yaml_merge.specs.Merge.{is_ruled, opens, one_shape, Conflicts, IsMerge, IsKeyed}
+use Rattle.yaml_merge.specs.Merge.{follows, is_ruled, opens, one_shape, Conflicts, IsMerge, IsKeyed}
 use Rattle.yaml_merge.proofs.RuleLaws.{alike-self, rule-by, ruled-by, true-false, opens-three, three-open, follows-merge, open-merge, no-merge, conflict-none}
 use Rattle.yaml_merge.proofs.ShownLaws.{part-keyed}
 
@@ -32,11 +30,11 @@ ruled b o t ko kt h = elim (ruled-by b o t h) [
   | inr (inr e) ↦ (o, ko, follows-merge b o t o (rule-by b o t o (inr (inr (e, alike-self o)))))
 ]
 
-ruled-tree : (b o t : Tree) → keyed o ≡ true → keyed t ≡ true → is_ruled (Some b) (Some o) (Some t) ≡ true → (m : Tree) × (keyed m ≡ true) × IsMerge (Some b) (Some o) (Some t) (Some m)
+pub ruled-tree : (b o t : Tree) → keyed o ≡ true → keyed t ≡ true → is_ruled (Some b) (Some o) (Some t) ≡ true → (m : Tree) × (keyed m ≡ true) × (follows (Some b) (Some o) (Some t) (Some m) ≡ true)
 ruled-tree b o t ko kt h = elim (ruled-by (Some b) (Some o) (Some t) h) [
-  | inl e ↦ (t, kt, follows-merge (Some b) (Some o) (Some t) (Some t) (rule-by (Some b) (Some o) (Some t) (Some t) (inl (e, alike-self (Some t)))))
-  | inr (inl e) ↦ (o, ko, follows-merge (Some b) (Some o) (Some t) (Some o) (rule-by (Some b) (Some o) (Some t) (Some o) (inr (inl (e, alike-self (Some o))))))
-  | inr (inr e) ↦ (o, ko, follows-merge (Some b) (Some o) (Some t) (Some o) (rule-by (Some b) (Some o) (Some t) (Some o) (inr (inr (e, alike-self (Some o))))))
+  | inl e ↦ (t, kt, rule-by (Some b) (Some o) (Some t) (Some t) (inl (e, alike-self (Some t))))
+  | inr (inl e) ↦ (o, ko, rule-by (Some b) (Some o) (Some t) (Some o) (inr (inl (e, alike-self (Some o)))))
+  | inr (inr e) ↦ (o, ko, rule-by (Some b) (Some o) (Some t) (Some o) (inr (inr (e, alike-self (Some o)))))
 ]
 
 decide : (b o t : Option Tree) → IsKeyed o → IsKeyed t → (opens b o t b ≡ true → is_ruled b o t ≡ false → Decided b o t) → Decided b o t
@@ -51,44 +49,9 @@ decide-tree : (b o t : Tree) → keyed o ≡ true → keyed t ≡ true → (open
 decide-tree b o t ko kt f = by (is_ruled (Some b) (Some o) (Some t)) (opens (Some b) (Some o) (Some t) (Some b)) refl refl
   where
     by : (x y : Bool) → is_ruled (Some b) (Some o) (Some t) ≡ x → opens (Some b) (Some o) (Some t) (Some b) ≡ y → DecidedTree b o t
-    by true y e g = inr (ruled-tree b o t ko kt e)
+    by true y e g = let m = ruled-tree b o t ko kt e in inr (m.0, m.1, follows-merge (Some b) (Some o) (Some t) (Some m.0) m.2)
     by false true e g = f g e
     by false false e g = inl ([], (e, g))
-
--- ---- sequences
-
-abbrev ItemsDecided : (ts us vs : Trees) → Type 0
-ItemsDecided ts us vs =
-    ((k : ℕ) × (p : Path) × Conflicts p (item_in ts k) (item_in us k) (item_in vs k)) ⊎ ((ms : Trees) × (keyed_trees ms ≡ true) × (count_in ms ≡ count_in ts) × ((k : ℕ) → IsMerge (item_in ts k) (item_in us k) (item_in vs k) (item_in ms k)))
-
-item-merge : (b o t m : Tree) (ts us vs ms : Trees) → IsMerge (Some b) (Some o) (Some t) (Some m) → ((k : ℕ) → IsMerge (item_in ts k) (item_in us k) (item_in vs k) (item_in ms k)) → (k : ℕ) → IsMerge (item_in (item b ts) k) (item_in (item o us) k) (item_in (item t vs) k) (item_in (item m ms) k)
-item-merge b o t m ts us vs ms h f zero = h
-item-merge b o t m ts us vs ms h f (suc k) = f k
-
-seq-parts : (a c d e : List ℕ) (ts us vs ms : Trees) → ((k : ℕ) → IsMerge (item_in ts k) (item_in us k) (item_in vs k) (item_in ms k)) → (s : Step) → IsMerge (part_of (Some (sequence a ts)) s) (part_of (Some (sequence c us)) s) (part_of (Some (sequence d vs)) s) (part_of (Some (sequence e ms)) s)
-seq-parts a c d e ts us vs ms f (at_item k) = f k
-seq-parts a c d e ts us vs ms f (at_key x) = no-merge
-
-seq-open : (a : List ℕ) (ts : Trees) (o t : Tree) → keyed o ≡ true → keyed t ≡ true → ((us vs : Trees) → keyed_trees us ≡ true → keyed_trees vs ≡ true → count_in ts ≡ count_in us → count_in ts ≡ count_in vs → ItemsDecided ts us vs)
-    → opens (Some (sequence a ts)) (Some o) (Some t) (Some (sequence a ts)) ≡ true → is_ruled (Some (sequence a ts)) (Some o) (Some t) ≡ false → DecidedTree (sequence a ts) o t
-seq-open a ts (sequence c us) (sequence d vs) ko kt f g r =
-    let B = Some (sequence a ts) in
-    let O = Some (sequence c us) in
-    let T = Some (sequence d vs) in
-    let x = opens-three B O T B g in
-    let y = and_both (bytes_eq a c) (count_in ts == count_in us) x.0 in
-    let z = and_both (bytes_eq a d) (count_in ts == count_in vs) x.1 in
-    elim (f us vs ko kt (eqb-true (count_in ts) (count_in us) y.1) (eqb-true (count_in ts) (count_in vs) z.1)) [
-      | inl w ↦ inl (at_item w.0 ∷ w.1, (r, g, w.2))
-      | inr m ↦
-          let M = Some (sequence a m.0) in
-          let n = both_and (bytes_eq a a) (count_in ts == count_in m.0) ((bytes_decides a a).1 refl) (eq-eqb (count_in ts) (count_in m.0) (sym m.2)) in
-          inr (sequence a m.0, m.1, open-merge B O T M (three-open B O T M x.0 x.1 n) (seq-parts a c d a ts us vs m.0 m.3))
-    ]
-seq-open a ts (scalar c y) t ko kt f g r = absurd (true-false (opens-three (Some (sequence a ts)) (Some (scalar c y)) (Some t) (Some (sequence a ts)) g).0 refl)
-seq-open a ts (mapping c qs) t ko kt f g r = absurd (true-false (opens-three (Some (sequence a ts)) (Some (mapping c qs)) (Some t) (Some (sequence a ts)) g).0 refl)
-seq-open a ts (sequence c us) (scalar d y) ko kt f g r = absurd (true-false (opens-three (Some (sequence a ts)) (Some (sequence c us)) (Some (scalar d y)) (Some (sequence a ts)) g).1 refl)
-seq-open a ts (sequence c us) (mapping d rs) ko kt f g r = absurd (true-false (opens-three (Some (sequence a ts)) (Some (sequence c us)) (Some (mapping d rs)) (Some (sequence a ts)) g).1 refl)
 
 -- ---- mappings
 
@@ -274,26 +237,8 @@ map-open a ps (mapping c qs) (sequence d us) kb ko kt f g r = absurd (true-false
 mutual
   pub tree-decided : (b o t : Tree) → keyed b ≡ true → keyed o ≡ true → keyed t ≡ true → DecidedTree b o t
   tree-decided (scalar a x) o t kb ko kt = decide-tree (scalar a x) o t ko kt (λ g r. absurd (true-false (opens-three (Some (scalar a x)) (Some o) (Some t) (Some (scalar a x)) g).2 refl))
-  tree-decided (sequence a ts) o t kb ko kt = decide-tree (sequence a ts) o t ko kt (seq-open a ts o t ko kt (λ us vs ku kv e f. items-decided ts us vs kb ku kv e f))
+  tree-decided (sequence a ts) o t kb ko kt = decide-tree (sequence a ts) o t ko kt (λ g r. absurd (true-false (opens-three (Some (sequence a ts)) (Some o) (Some t) (Some (sequence a ts)) g).2 refl))
   tree-decided (mapping a ps) o t kb ko kt = decide-tree (mapping a ps) o t ko kt (map-open a ps o t kb ko kt (λ k v i x y kx ky. each-decided ps k v i x y kb kx ky))
-
-  items-decided : (ts us vs : Trees) → keyed_trees ts ≡ true → keyed_trees us ≡ true → keyed_trees vs ≡ true → count_in ts ≡ count_in us → count_in ts ≡ count_in vs → ItemsDecided ts us vs
-  items-decided end end end kb ko kt e f = inr (end, refl, refl, λ k. no-merge)
-  items-decided (item b ts) (item o us) (item t vs) kb ko kt e f =
-      let x = and_both (keyed b) (keyed_trees ts) kb in
-      let y = and_both (keyed o) (keyed_trees us) ko in
-      let z = and_both (keyed t) (keyed_trees vs) kt in
-      elim (tree-decided b o t x.0 y.0 z.0) [
-        | inl c ↦ inl (0, c.0, c.1)
-        | inr m ↦ elim (items-decided ts us vs x.1 y.1 z.1 (omega (arith, e)) (omega (arith, f))) [
-          | inl c ↦ inl (suc c.0, c.1, c.2)
-          | inr n ↦ inr (item m.0 n.0, both_and (keyed m.0) (keyed_trees n.0) m.1 n.1, ap suc n.2, item-merge b o t m.0 ts us vs n.0 m.2 n.3)
-        ]
-      ]
-  items-decided end (item o us) vs kb ko kt e f = absurd (omega (arith, e))
-  items-decided end end (item t vs) kb ko kt e f = absurd (omega (arith, f))
-  items-decided (item b ts) end vs kb ko kt e f = absurd (omega (arith, e))
-  items-decided (item b ts) (item o us) end kb ko kt e f = absurd (omega (arith, f))
 
   each-decided : (ps : Pairs) (k v : Tree) → In k v ps → (o t : Tree) → keyed_pairs ps ≡ true → keyed o ≡ true → keyed t ≡ true → DecidedTree v o t
   each-decided done k v i o t kp ko kt = absurd i

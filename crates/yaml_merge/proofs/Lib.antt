@@ -1,3 +1,4 @@
 pub mod RuleLaws
 pub mod ShownLaws
 pub mod ExistLaws
+pub mod StreamLaws

@@ -1,13 +1,11 @@
 -- What the rules say of one place.
-use Rattle.std.proofs.Common.{◌≡◌, ℕ, Bool, true, false, ◌&&◌, ◌||◌, ◌==◌, ◌⊎◌, [], ◌∷◌, inl, inr, refl, ◌∙◌}
-use Rattle.std.specs.Prelude.{Option, Some, None, bytes_eq}
+use Rattle.std.proofs.Common.{◌≡◌, Bool, true, false, ◌&&◌, ◌||◌, ◌⊎◌, [], ◌∷◌, inl, inr, refl, ◌∙◌}
+use Rattle.std.specs.Prelude.{Option, Some, None}
 use lib.Pointwise.{bytes_decides}
-use Rattle.std.proofs.lemmas.Bool.{eq-eqb}
 use Rattle.yaml_definitions.specs.model.Tree.{Tree, scalar, sequence, mapping}
 use Rattle.yaml_definitions.proofs.Members.{and_both, both_and, or_either, or_left, or_right}
 use Rattle.yaml_definitions.proofs.Equivalence.{same_refl, same_sym, same_trans}
 use Rattle.yaml_path.specs.Path.{Path, Step, part_of}
-use Rattle.yaml_path.specs.Ways.{count_in}
 use Rattle.yaml_merge.specs.Merge.{alike, follows, is_ruled, opens, one_shape, Conflicts, Strays, IsMerge}
 
 -- ---- equal values
@@ -100,16 +98,10 @@ three-open b o t m x y z = both_and (one_shape b o) (one_shape b t && one_shape 
 
 -- ---- shapes
 
-pub number-self : (n : ℕ) → (n == n) ≡ true
-number-self n = eq-eqb n n refl
-
 pub shape-self : (b o : Option Tree) → one_shape b o ≡ true → one_shape b b ≡ true
 shape-self None o e = absurd (cc)
 shape-self (Some (scalar a x)) o e = absurd (cc)
-shape-self (Some (sequence a ts)) None e = absurd (cc)
-shape-self (Some (sequence a ts)) (Some (scalar c x)) e = absurd (cc)
-shape-self (Some (sequence a ts)) (Some (sequence c us)) e = both_and (bytes_eq a a) (count_in ts == count_in ts) ((bytes_decides a a).1 refl) (number-self (count_in ts))
-shape-self (Some (sequence a ts)) (Some (mapping c qs)) e = absurd (cc)
+shape-self (Some (sequence a ts)) o e = absurd (cc)
 shape-self (Some (mapping a ps)) o e = (bytes_decides a a).1 refl
 
 -- ---- merges

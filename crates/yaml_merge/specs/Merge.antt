@@ -1,9 +1,8 @@
 -- The merge of two changes of one tree.
-use Rattle.std.specs.Prelude.{◌≡◌, ◌⊎◌, Bool, true, false, ◌&&◌, ◌||◌, ◌==◌, bytes_eq, [], ◌∷◌, Option, Some, None}
-use Rattle.yaml_definitions.specs.model.Tree.{Tree, sequence, mapping}
+use Rattle.std.specs.Prelude.{◌≡◌, ◌⊎◌, Bool, true, false, ◌&&◌, ◌||◌, bytes_eq, [], ◌∷◌, Option, Some, None}
+use Rattle.yaml_definitions.specs.model.Tree.{Tree, mapping}
 use Rattle.yaml_definitions.specs.model.Same.{same, keyed}
 use Rattle.yaml_path.specs.Path.{Path, part_of, see}
-use Rattle.yaml_path.specs.Ways.{count_in}
 
 -- ---- one place: what the base, ours, theirs and the merge have there
 
@@ -21,13 +20,12 @@ follows b o t m = (alike o b && alike m t) || ((alike t b && alike m o) || (alik
 abbrev pub is_ruled : (b o t : Option Tree) → Bool
 is_ruled b o t = alike o b || (alike t b || alike o t)
 
--- both are mappings of one tag, or sequences of one tag with equally many items
+-- both are mappings of one tag
 abbrev pub one_shape : Option Tree → Option Tree → Bool
-one_shape (Some (sequence a ts)) (Some (sequence b us)) = bytes_eq a b && (count_in ts == count_in us)
 one_shape (Some (mapping a ps)) (Some (mapping b qs)) = bytes_eq a b
 one_shape _ _ = false
 
--- All four are of one shape. Then each value of a mapping is merged by its key, and each item of a sequence by its place. Everything else is one value.
+-- All four are mappings of one tag. Then each value is merged by its key. Everything else is one value. So is a sequence: at one place, each side may have another item.
 abbrev pub opens : (b o t m : Option Tree) → Bool
 opens b o t m = one_shape b o && (one_shape b t && one_shape b m)
 
@@ -38,7 +36,7 @@ settled false b o t m = is_ruled b o t
 
 -- ---- all places
 
--- The path leads through parts of one shape to a place that is not settled, where the four are not of one shape; and no place above it is settled.
+-- The path leads through mappings to a place that is not settled and does not open; and no place above it is settled.
 abbrev pub Breaks : (given : Bool) → Path → (b o t m : Option Tree) → Type 0
 Breaks given [] b o t m = (settled given b o t m ≡ false) × (opens b o t m ≡ false)
 Breaks given (s ∷ p) b o t m = (settled given b o t m ≡ false) × (opens b o t m ≡ true) × Breaks given p (part_of b s) (part_of o s) (part_of t s) (part_of m s)

@@ -3,16 +3,23 @@ ghost use Rattle.std.specs.Prelude.{◌≡◌, ◌<◌, [], ◌∷◌, ◌++◌,
 ghost use Rattle.yaml_store.specs.StoreModel.{tag_at};
 
 use crate::no_memory::NoMemory;
-use crate::nodes::Span;
 use crate::text::place;
 use std::alloc::Global;
 use std::marker::Model;
+
+/// The bytes from one place of the text up to another. A tag of two characters may stand for a thousand bytes (YAML 1.2.2, 6.8.2.2), so
+/// the text of all tags may be longer than 32 bits count.
+#[derive(Clone, Copy)]
+struct Part {
+    start: usize,
+    end: usize,
+}
 
 /// Tags by number. Their texts stand one after the other, so that many long ones are let go at once.
 #[derive(Drop)]
 pub struct Tags {
     text: String,
-    spans: Vec<Span>,
+    parts: Vec<Part>,
 }
 
 impl Model for Tags {
@@ -34,7 +41,7 @@ impl Tags {
     {
         Tags {
             text: String::new(alloc),
-            spans: Vec::new(alloc),
+            parts: Vec::new(alloc),
         }
     }
 
@@ -42,7 +49,7 @@ impl Tags {
     pub fn len(&self) -> usize
         ensures { result ≡ length self.now }
     {
-        self.spans.len()
+        self.parts.len()
     }
 
     /// The tag at this place.
@@ -50,11 +57,11 @@ impl Tags {
         requires { place < length self.now }
         ensures { result.now ≡ tag_at self.now place }
     {
-        let span = self.spans[place];
-        if span.start >= span.end {
+        let part = self.parts[place];
+        if part.start >= part.end {
             return "";
         }
-        &self.text[span.start as usize..span.end as usize]
+        &self.text[part.start..part.end]
     }
 
     /// The tag of this number.
@@ -70,11 +77,11 @@ impl Tags {
         ensures number { IfOk result (λ number. number ≡ length self.old) }
         ensures pushed { IfOk result (λ _. self.new ≡ self.old ++ (tag.now ∷ [])) }
     {
-        let number = place(self.spans.len())?;
-        let start = place(self.text.len())?;
+        let number = place(self.parts.len())?;
+        let start = self.text.len();
         self.text.push_str(tag)?;
-        let end = place(self.text.len())?;
-        self.spans.push(Span { start, end })?;
+        let end = self.text.len();
+        self.parts.push(Part { start, end })?;
         Ok(number)
     }
 }

@@ -1,7 +1,7 @@
 """hints.py: the type hints of the module for Python, by `mypy --strict`.
 
 Three things are checked: the module itself; the examples of docs/using/LIBRARY.md over the module, as a user's programs, so that each
-public name has a type there; and a program with a wrong use on each line, each of which has to be reported, so that the hints say
+public name has a type there, and a program with other inputs; and a program with a wrong use on each line, each of which has to be reported, so that the hints say
 something.
 """
 import os
@@ -12,6 +12,16 @@ from .base import is_there, run, say, wrong
 from .page import EXAMPLE, PAGE, put
 
 MODULE = TOP + "/bindings/python/yamlcanon"
+# Right uses that the examples do not have.
+RIGHT_USES = """\
+import array
+import mmap
+import yamlcanon
+yamlcanon.canonical(array.array("B", b"a"))
+with open("a.yaml", "rb") as file:
+    yamlcanon.load(mmap.mmap(file.fileno(), 0))
+yamlcanon.same(bytearray(b"a"), memoryview(b"a"))
+"""
 # One wrong use a line.
 WRONG_USES = """\
 yamlcanon.canonical(3)
@@ -51,7 +61,7 @@ def try_hints(room):
         return
     with open("%s/%s" % (TOP, PAGE), encoding="utf-8") as file:
         texts = [text for kind, text, _ in EXAMPLE.findall(file.read()) if kind == "python"]
-    examples = [put("%s/example_%d.py" % (room, number), text) for number, text in enumerate(texts)]
+    examples = [put("%s/example_%d.py" % (room, number), text) for number, text in enumerate([*texts, RIGHT_USES])]
     for line in [*strict(room, MODULE), *(line for name in examples for line in strict(room, name))]:
         wrong("mypy: " + line)
     uses = put(room + "/wrong_uses.py", "import yamlcanon\n" + WRONG_USES)

@@ -6,7 +6,6 @@ The page says at its head what a section's repository has.
     ```text STATUS      all that the block before prints, on both streams, and its status (none: 0)
     ```yaml NAME        the file NAME is written (json too); `https://example.org/yamlcanon` is a repository with our hooks and a tag TAG
     ```sh needs=PROGRAM left out with a message if the program is not installed (systemd: if it does not run)
-    ```sh NAME          left to signing.py
 """
 import json
 import re
@@ -17,11 +16,6 @@ from lib.paths import TOP, read
 
 PAGE = "docs/using/GUIDE.md"
 BLOCK = re.compile(r"^```(sh|text|yaml|json)(?: ([^\n]*))?\n(.*?)^```$", re.M | re.S)
-
-
-def is_signing(word):
-    """Whether a block with this word is one of those that signing.py runs."""
-    return bool(word) and not word.startswith("needs=")
 
 
 def shown(status, printed):
@@ -46,7 +40,7 @@ class Section:
             self.room.put(word, text)
         elif kind == "sh" and word.startswith("needs=") and not is_there(word[6:]):
             self.checked.leave_out(f"{text.splitlines()[0]} .., since {word[6:]} is not there")
-        elif kind == "sh" and not is_signing(word):
+        elif kind == "sh":
             self.before = self.room.run(text)
         return block[0]
 

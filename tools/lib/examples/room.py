@@ -6,6 +6,7 @@ import subprocess
 from lib.paths import EXAMPLES, PROGRAM, REVIEW, TOP
 
 PROGRAMS = {"yamlcanon": PROGRAM, "yamlreview": REVIEW}
+SIGNING = ("yamlreview-sign", "yamlreview-verify")
 ADDRESS = "https://example.org/yamlcanon"
 SETTINGS = "[user]\n\tname = you\n\temail = you@example.org\n[init]\n\tdefaultBranch = main\n"
 
@@ -23,6 +24,8 @@ def environment(folder):
     for name, path in PROGRAMS.items():
         if os.access(path, os.X_OK):
             os.symlink(os.path.realpath(path), f"{folder}/bin/{name}")
+    for name in SIGNING:
+        os.symlink(f"{TOP}/packages/signing/yamlreview-sign", f"{folder}/bin/{name}")
     with open(f"{folder}/.gitconfig", "w", encoding="utf-8") as file:
         file.write(SETTINGS)
     return {

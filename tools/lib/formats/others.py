@@ -9,7 +9,7 @@ REFERENCE = re.compile(r"&#x([0-9A-F]{2});")
 # What a table has of its own, outside of escaped texts.
 MARKUP = re.compile(
     r"</?(?:code|details|summary|pre)>|^\*\*yamlreview [a-z]+\*\*|^\|(?:-+\|)+$|^\| (?:changed|only on the left|only on the right|moved) \||\||"
-    r"^(?:Nothing is found|There is more than is listed)\.$|\d+:\d+",
+    r"^(?:Nothing is found\.|Not listed: [a-z0-9, ]+)$|\d+:\d+",
     re.M,
 )
 

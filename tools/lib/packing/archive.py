@@ -12,6 +12,9 @@ from lib.packing.pages import mend
 from lib.packing.version import release
 
 PROGRAMS = {"yamlcanon": "yaml_tool", "yamlreview": "yaml_review"}
+# The programs in shell, which are packed as they are.
+# Two names of one program.
+SCRIPTS = ("yamlreview-sign", "yamlreview-verify")
 TEXTS = ("README.md", "CHANGELOG.md", "CONTRIBUTING.md", "SECURITY.md", "NOTICE", "LICENSE-MIT", "LICENSE-APACHE")
 LIBRARY = "libyamlcanon.so."
 # What the archive of the library alone has of the pages.
@@ -19,6 +22,8 @@ LIBRARY_TEXTS = (
     *("CHANGELOG.md", "SECURITY.md", "NOTICE", "LICENSE-MIT", "LICENSE-APACHE", "docs/using/LIBRARY.md"),
     *("library/yamlcanon.c", "examples/store.c", "examples/service.yaml", "examples/service_as_json.yaml"),
 )
+# The completions of a program for bash, zsh and fish: the form of a file's name, and the folder in which the shell looks for it.
+COMPLETIONS = (("%s", "bash-completion/completions"), ("_%s", "zsh/site-functions"), ("%s.fish", "fish/vendor_completions.d"))
 # The line of SECURITY.md that says whom to write to: whoever hands packages out puts an address there.
 CONTACT = re.compile(r"^Contact: .*$", re.M)
 PACKAGE = """\
@@ -51,6 +56,8 @@ def put_programs(tree, are_built):
         target = "%s/bin/%s" % (tree, name)
         copy(path, target, 0o755)
         run("strip", target)
+    for name in SCRIPTS:
+        copy("%s/packages/signing/%s" % (TOP, SCRIPTS[0]), "%s/bin/%s" % (tree, name), 0o755)
 
 
 def put_library(tree, folder, machine):
@@ -88,11 +95,13 @@ def put_texts(tree, build, supplier):
             copy("%s/%s" % (TOP, name), "%s/share/doc/yamlcanon/%s" % (tree, name))
     mend(tree + "/share/doc/yamlcanon")
     for name in os.listdir(TOP + "/docs/man"):
-        if name.partition(".")[0] in programs():
+        if name.partition(".")[0] in (*programs(), *SCRIPTS):
             copy("%s/docs/man/%s" % (TOP, name), "%s/share/man/man%s/%s" % (tree, name[-1], name))
-    for name in os.listdir(TOP + "/packages/completions"):
-        if name in programs():
-            copy("%s/packages/completions/%s" % (TOP, name), "%s/share/bash-completion/completions/%s" % (tree, name))
+    for program in (*programs(), *SCRIPTS):
+        for form, folder in COMPLETIONS:
+            source = "%s/packages/completions/%s" % (TOP, form % (SCRIPTS[0] if program in SCRIPTS else program))
+            if os.path.isfile(source):
+                copy(source, "%s/share/%s/%s" % (tree, folder, form % program))
 
 
 def make_tree(tree, folder, machine, build, supplier, are_built):

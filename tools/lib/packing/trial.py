@@ -127,6 +127,7 @@ def try_debs(root, folder, has_python):
     try_pages(root + "/usr/share/doc/yamlcanon")
     if os.path.exists(root + "/usr/bin/yamlreview"):
         hold("yamlreview", inside(root, "yamlreview", "--version"))
+    try_signing(root, "/usr/bin")
     return say("%d Debian packages, a program in C%s" % (len(own), ", Python" if has_python else ""))
 
 
@@ -149,6 +150,7 @@ def try_archive(root, folder):
     if not hold("install.sh", inside(root, script, "/opt/own"), 0, "/opt/own/bin/yamlcanon\n"):
         return
     try_program(root, "/opt/own/bin/yamlcanon", {})
+    try_signing(root, "/opt/own/bin")
     env = {"PKG_CONFIG_PATH": "/opt/own/lib/pkgconfig", "LD_LIBRARY_PATH": "/opt/own/lib"}
     try_c(root, env)
     stores.try_c(root, env, "the archive", say, wrong)
@@ -189,6 +191,16 @@ def try_words(root, script):
     if below(root + "/tmp") != before or os.path.exists(root + "/opt/x"):
         wrong("install.sh wrote something for other words than one PREFIX")
     say("install.sh: help, and words that it rejects")
+
+
+def try_signing(root, folder):
+    """The programs that sign are installed, with their help. The root has no ssh-keygen, which they report."""
+    env = {"PATH": folder + ":/usr/bin:/bin"}
+    keys = "/etc/passwd"
+    for name, options in (("yamlreview-sign", ["--key", keys]), ("yamlreview-verify", ["--allowed", keys, "--signer", "x"])):
+        hold(name, inside(root, name, "--help", env=env), 0, "usage: %s --" % name)
+        words = [name, *options, "--context", "x", "/tmp/examples/service.yaml"]
+        hold(name, inside(root, *words, env=env), 3, "ssh-keygen is not found")
 
 
 def try_places(root, script):

@@ -43,7 +43,7 @@ def page_of(statement, definitions):
         f"# What `{call}` promises",
         *INTRODUCTION.format(call=call).splitlines(),
         "",
-        f"{count_of(defined)} definitions and {len(statement.types)} types of the code in {total + len(contract)} lines, {comments} of them comments."
+        f"{count_of(defined)} definitions and {len(statement.types)} types of the code in {total + len(contract)} lines, {comments} of them comments: those of all clauses."
         f" No theorem constrains {count_of(loose)} of the definitions: [DEFINITIONS.md](DEFINITIONS.md#definitions-that-no-theorem-constrains)"
         " says which tests do.",
         "## The contract",

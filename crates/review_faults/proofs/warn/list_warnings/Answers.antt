@@ -1,6 +1,7 @@
-use Rattle.std.proofs.Common.{[], ◌∙◌, drop, subst, rules}
+use Rattle.std.proofs.Common.{◌∙◌, drop, length, map, subst, rules}
 use Rattle.yaml_definitions.specs.grammar.Reading.{Reads}
 use Rattle.yaml_definitions.specs.model.Text.{mark_len}
+use Rattle.yaml_text.specs.EventModel.{event_of}
 use Rattle.yaml_text.specs.Source.{text_of}
 use Rattle.review_faults.specs.Warned.{AllWarned, AreWarnings}
 use Rattle.review_faults.proofs.AgainLaws.{reading_refused}
@@ -10,20 +11,20 @@ pub returns-clause-ok : goal.returns-clause-ok
 unfolding Reads
 returns-clause-ok c =
     let bytes = c.args.bytes.now in
-    let events = c.in_ok-events.events.items in
+    let events = map event_of c.in_ok-events.events.items in
     let list = c.in_ok-told.field-0.items in
     let f = c.in_ok-found.ensures.ok in
-    let read = subst (λ z. AreWarnings z c.unmarked.result.now c.deref-3.result.now list) c.deref-2.ensures.value c.in_ok-told.ensures.ok in
+    let read = subst (λ z. AreWarnings (map event_of z) c.unmarked.result.now c.deref-3.result.now list) c.deref-2.ensures.value c.in_ok-told.ensures.ok in
     let bare = subst (λ z. AreWarnings events z c.deref-3.result.now list) c.unmarked.ensures read in
     record {
       all = f.all;
       first = record {
         events = events;
         reads = (text_of c.in_ok-source.source, c.in_ok-source.ensures.read, c.in_ok-events.ensures.ok);
-        warned = subst (λ z. AllWarned c.args.allowed.now 0 [] z f.all) c.deref.ensures.value f.warned;
-        are = subst (λ z. AreWarnings events (drop (mark_len bytes) bytes) z list) (c.deref-3.ensures.value ∙ f.first) bare;
+        warned = subst (λ z. AllWarned c.args.allowed.now (map event_of z) (length (map event_of z)) f.all) c.deref.ensures.value f.warned;
+        are = subst (λ z. AreWarnings events (drop (mark_len bytes) bytes) z list) (c.deref-3.ensures.value ∙ f.keeps.first) bare;
       };
-      whole = f.are_all;
+      whole = f.keeps.are_all;
     }
 
 pub returns-in_err-events-clause-err : goal.returns-in_err-events-clause-err

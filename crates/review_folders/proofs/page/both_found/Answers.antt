@@ -27,7 +27,7 @@ returns-in-Ok-clause-ok g c =
     c.in-Ok.listed (rw c.deref-2.ensures.value at (rw c.deref.ensures.value at c.in-Ok.ensures.same)) (rw c.deref-2.ensures.value at (rw c.deref.ensures.value at c.in-Ok.ensures.lists)) c.status_of.ensures in
     let list = rw c.as_str-4.ensures.value at (rw c.as_str-3.ensures.value at c.in_ok-list_found-in-Ok.ensures.ok) in
     let shown = shown_as c.args.page c.as_str-3.result.now left c.deref-in-Ok.result.now c.in-Ok-Ok.one.items c.as_str-4.result.now right c.deref-in-Ok-2.result.now c.in-Ok-Ok.other.items c.in_ok-lines_shown-in-Ok.field-0 c.as_str-3.ensures.value c.deref-in-Ok.ensures.value c.as_str-4.ensures.value c.deref-in-Ok-2.ensures.value c.in_ok-lines_shown-in-Ok.ensures.ok in
-    (left, right, c.in_ok-left_path.ensures.ok, c.in_ok-right_path.ensures.ok, inl (record { compared = h; list = list; shown = shown; whole = refl }, c.new-err.ensures.bytes))
+    (left, right, c.in_ok-left_path.ensures.ok, c.in_ok-right_path.ensures.ok, inl (record { compared = h; list = list; shown = shown; left_out = refl }, c.new-err.ensures.bytes))
 
 pub returns-clause-ok : goal.returns-clause-ok
 returns-clause-ok g c =

@@ -1,7 +1,6 @@
 use Rattle.std.proofs.Common.{true, false, ◌++◌, ◌∙◌, ap}
 use Rattle.std.specs.List.{flat_map}
 use Rattle.std.specs.String.{string_bytes}
-use Rattle.std.specs.Prelude.{OnOk}
 use Rattle.review_formats.specs.Markdown.{name_text, table_text, changes_text}
 use Rattle.review_formats.proofs.PieceLaws.{then_ok}
 use Rattle.review_formats.proofs.markdown.put_part.Goals as goal

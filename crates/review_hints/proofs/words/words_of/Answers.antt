@@ -1,13 +1,14 @@
-use Rattle.std.proofs.Common.{◌≡◌, ◌≤◌, ℕ, List, inl, length, Result, Ok, Err, IfOk, String, Global, string_bytes, sym, subst}
+use Rattle.std.proofs.Common.{◌≡◌, ◌≤◌, ℕ, List, length, Result, Ok, Err, IfOk, string_bytes, sym, subst}
 use Rattle.std.specs.Str.{IsUtf8}
 use Rattle.yaml_text.specs.declared.fault.Fault.{Fault}
 use Rattle.review_hints.specs.Hinted.{IsHint}
+use Rattle.review_hints.specs.declared.words.Words.{Words}
 use Rattle.review_hints.proofs.HintLaws.{line_of_plain}
 use Rattle.review_hints.proofs.words.words_of.Goals as goal
 
-of_bytes : (r : Result (String Global) Fault) (text source : List ℕ) (at : ℕ) → (IsUtf8 text → source ≡ text) → (at ≤ length source → IfOk r (λ words. IsHint source at (string_bytes words))) → IfOk r (λ words. IsUtf8 text → at ≤ length text → IsHint text at (string_bytes words))
+of_bytes : (r : Result Words Fault) (text source : List ℕ) (at : ℕ) → (IsUtf8 text → source ≡ text) → (at ≤ length source → IfOk r (λ words. IsHint source at words.cause (string_bytes words.text))) → IfOk r (λ words. IsUtf8 text → at ≤ length text → IsHint text at words.cause (string_bytes words.text))
 of_bytes (Ok words) text source at is hint =
-    λ utf8 within. subst (λ z. IsHint z at (string_bytes words)) (is utf8) (hint (subst (λ z. at ≤ length z) (sym (is utf8)) within))
+    λ utf8 within. subst (λ z. IsHint z at words.cause (string_bytes words.text)) (is utf8) (hint (subst (λ z. at ≤ length z) (sym (is utf8)) within))
 of_bytes (Err fault) text source at is hint = tt
 
 pub returns-in-Syntax-clause-hint : goal.returns-in-Syntax-clause-hint
@@ -15,10 +16,10 @@ returns-in-Syntax-clause-hint c = of_bytes c.syntax_words.result c.args.text.now
 
 pub returns : goal.returns
 returns c =
-    let plain = c.plain_words.ensures.plain in
+    let plain = c.plain_words-words.ensures.plain in
     record {
-      line = rw c.in_ok-to_string.ensures.ok (line_of_plain c.plain_words.result.now plain);
-      limit = rw c.in_ok-to_string.ensures.ok c.plain_words.ensures.limit;
-      hint = λ utf8 within. inl (rw c.in_ok-to_string.ensures.ok plain);
+      line = rw c.in_ok-to_string.ensures.ok (line_of_plain c.plain_words-words.result.now plain);
+      limit = rw c.in_ok-to_string.ensures.ok c.plain_words-words.ensures.limit;
+      hint = λ utf8 within. rw c.in_ok-to_string.ensures.ok plain;
       err = tt;
     }

@@ -1,17 +1,27 @@
-use Rattle.std.proofs.Common.{refl, arith}
-use Rattle.review_lines.proofs.CompareLaws.{tells_next, tells_whole, counts_next, counts_whole}
+use Rattle.std.proofs.Common.{◌+◌, get_or, refl, subst, sym, ap, arith}
+use Rattle.review_lines.proofs.CompareLaws.{TellsBefore, line_told, line_none, line_full, all_told}
+use Rattle.review_lines.proofs.diff.lines_with.Goals.{then-count-gt0+then-len-asked+in_ok-line_of+in_ok-push, else-count-gt0, else-count-gt0-via-then-count-gt0+else-len-asked, else-count-gt0-via-else-count-gt0}
 use Rattle.review_lines.proofs.diff.lines_with.Goals as goal
 
 pub loop-number-preserved : goal.loop-number-preserved
 loop-number-preserved c =
+    let both = c.args.both.now in
+    let asked = c.args.asked.now in
+    let ds = c.args.list.now in
+    let ns = c.args.counts.now in
+    let ls = c.loop-number.lines.items in
+    let i = c.loop-number.number in
     let d = c.index-list-number.result in
-    record {
-      each = tells_next c.args.both.now c.args.asked.now c.args.list.now c.loop-number.lines.items _ c.loop-number.number d d _ (omega arith) c.index-list-number.is c.loop-number.invariant.each c.in_ok-line_of.ensures.one c.in_ok-push.ensures.items;
-      counts = counts_next c.args.counts.now c.loop-number.lines.items _ c.loop-number.number _ _ _ (omega arith) refl c.loop-number.invariant.counts c.in_ok-line_of.ensures.count c.in_ok-push.ensures.items;
-    }
+    let n = get_or ns i 0 in
+    elim c.if-count-gt0.branch [
+      | then-count-gt0+then-len-asked+in_ok-line_of+in_ok-push w ↦
+          subst (TellsBefore both asked ds ns (i + 1)) (sym (ap (λ z. z.items) w.lines-is))
+          (line_told both asked ds ns ls i d n 0 (omega arith) c.requires.level c.index-list-number.is refl c.loop-number.invariant _ _ (omega (arith, w.if-count-gt0.true)) (omega (arith, w.len.ensures, w.if-len-asked.true)) w.in_ok-line_of.ensures.one w.in_ok-line_of.ensures.count w.in_ok-push.ensures.items)
+      | else-count-gt0 w ↦ subst (TellsBefore both asked ds ns (i + 1)) (sym (ap (λ z. z.items) w.lines-is)) (elim w.else-count-gt0.branch [
+        | else-count-gt0-via-then-count-gt0+else-len-asked v ↦ line_full both asked ds ns ls i d n 0 (omega arith) c.requires.level c.index-list-number.is refl c.loop-number.invariant (omega (arith, v.if-count-gt0.true)) (omega (arith, v.len.ensures, v.if-len-asked.false))
+        | else-count-gt0-via-else-count-gt0 v ↦ line_none both asked ds ns ls i d n 0 (omega arith) c.requires.level c.index-list-number.is refl c.loop-number.invariant (omega (arith, v.if-count-gt0.false))
+      ])
+    ]
 
-pub returns-clause-each : goal.returns-clause-each
-returns-clause-each c = tells_whole c.args.both.now c.args.asked.now c.args.list.now c.loop-number.lines.items c.loop-number.number (omega arith) c.loop-number.invariant.each
-
-pub returns-clause-counts : goal.returns-clause-counts
-returns-clause-counts c = counts_whole c.args.counts.now c.loop-number.lines.items c.loop-number.number (omega arith) c.loop-number.invariant.counts
+pub returns-clause-ok : goal.returns-clause-ok
+returns-clause-ok c = all_told c.args.both.now c.args.asked.now c.args.list.now c.args.counts.now c.loop-number.lines.items c.loop-number.number (omega arith) c.requires.level c.loop-number.invariant

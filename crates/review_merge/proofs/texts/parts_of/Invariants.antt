@@ -1,7 +1,6 @@
-use Rattle.std.proofs.Common.{◌≡◌, map, take}
-use Rattle.std.specs.Option.{option_map}
-use Rattle.review_merge.specs.Parts.{values_in, part_of}
+use Rattle.std.proofs.Common.{◌≡◌, ◌++◌, [], take, drop}
+use Rattle.review_merge.specs.Parts.{values_in, parts_behind}
 use Rattle.review_merge.proofs.texts.parts_of.Given as goal
 
 abbrev pub invariant-wholes : goal.invariant-wholes
-invariant-wholes l = values_in l.parts.items ≡ map (option_map (part_of l.place)) (values_in (take l.whole-index l.wholes))
+invariant-wholes l = values_in l.parts.items ++ parts_behind (values_in l.wholes) (values_in (take l.at l.wholes)) (values_in (drop l.at l.wholes)) ≡ parts_behind (values_in l.wholes) [] (values_in l.wholes)

@@ -1,10 +1,10 @@
-use Rattle.std.proofs.Common.{None, true, [], ◌∷◌, ◌++◌, refl, ◌∙◌, ap}
+use Rattle.std.proofs.Common.{None, [], ◌∷◌, ◌++◌, refl, ◌∙◌, ap}
 use Rattle.review_formats.specs.declared.finding.Part.{Part}
 use Rattle.review_reports.proofs.pages.as_found.Goals as goal
 
 pub returns-clause-ok : goal.returns-clause-ok
 returns-clause-ok c =
-    let part : Part = record { name = None; list = c.args.list; shown = None; whole = true } in
+    let part : Part = record { name = None; list = c.args.list; shown = None; left_out = c.none.result } in
     record {
       command = c.word_of.ensures;
       names = refl;
@@ -13,5 +13,5 @@ returns-clause-ok c =
       unnamed = refl;
       listed = refl;
       unshown = refl;
-      whole = refl;
+      whole = c.none.ensures;
     }

@@ -1,14 +1,13 @@
-use Rattle.std.proofs.Common.{refl}
 use Rattle.review_show.proofs.ShowLaws.{text_shown, text_cut, none_shown, none_cut}
 use Rattle.review_show.proofs.show.show_bytes.Goals as goal
 
 pub returns-in-Ok-clause-ok : goal.returns-in-Ok-clause-ok
 returns-in-Ok-clause-ok g c =
-    text_shown g.W.Write.contents g.E.Write.contents c.args.named.1.now c.args.named.0.now c.args.bytes.now c.args.out.now c.put_text.new.out c.args.err.now c.args.err.now _ c.put_text.result c.in-Ok.ensures.ok c.put_text.ensures.printed refl c.put_text.ensures.status
+    text_shown g.W.Write.contents g.E.Write.contents c.args.named.1.now c.args.named.0.now c.args.bytes.now c.args.out.now c.show_text.new.out c.args.err.now c.show_text.new.err _ c.show_text.result c.in-Ok.ensures.ok c.show_text.ensures.ok
 
 pub returns-in-Ok-clause-cut : goal.returns-in-Ok-clause-cut
 returns-in-Ok-clause-cut g c =
-    text_cut g.W.Write.contents g.E.Write.contents c.args.named.1.now c.args.named.0.now c.args.bytes.now c.args.out.now c.put_text.new.out c.args.err.now c.args.err.now _ c.put_text.result c.in-Ok.ensures.ok c.put_text.ensures.cut refl
+    text_cut g.W.Write.contents g.E.Write.contents c.args.named.1.now c.args.named.0.now c.args.bytes.now c.args.out.now c.show_text.new.out c.args.err.now c.show_text.new.err _ c.show_text.result c.in-Ok.ensures.ok c.show_text.ensures.cut
 
 pub returns-in-Err-clause-ok : goal.returns-in-Err-clause-ok
 returns-in-Err-clause-ok g c =

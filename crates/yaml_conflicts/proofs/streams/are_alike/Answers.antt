@@ -1,9 +1,9 @@
 use Rattle.std.proofs.Common.{sym, ◌∙◌, arith}
-use Rattle.yaml_conflicts.proofs.StreamLaws.{other-length, other-at, alike-first, alike-next, alike-whole, shape-length}
+use Rattle.yaml_conflicts.proofs.StreamLaws.{other-count, other-at, alike-first, alike-next, alike-whole, counts-length}
 use Rattle.yaml_conflicts.proofs.streams.are_alike.Goals as goal
 
 pub returns-then-not-are_long : goal.returns-then-not-are_long
-returns-then-not-are_long c = other-length c.args.graph.now c.args.left.now c.args.right.now (sym c.are_long.ensures ∙ c.if-not-are_long.true)
+returns-then-not-are_long c = other-count c.args.graph.now c.args.left.now c.args.right.now (sym c.are_long.ensures ∙ c.if-not-are_long.true)
 
 pub loop-place-init : goal.loop-place-init
 loop-place-init c = alike-first c.args.graph.now c.args.left.now c.args.right.now
@@ -18,5 +18,5 @@ loop-place-preserved c =
 
 pub returns : goal.returns
 returns c =
-    let e = shape-length c.args.graph.now c.args.left.now c.args.right.now (sym c.are_long.ensures ∙ c.if-not-are_long.false) in
-    alike-whole c.args.graph.now c.args.left.now c.args.right.now c.loop-place.place (sym e) (omega arith) c.loop-place.invariant
+    let e = counts-length c.args.graph.now c.args.left.now c.args.right.now (sym c.are_long.ensures ∙ c.if-not-are_long.false) in
+    alike-whole c.args.graph.now c.args.left.now c.args.right.now c.loop-place.place e (omega arith) c.loop-place.invariant

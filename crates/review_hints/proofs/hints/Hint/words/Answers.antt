@@ -1,8 +1,8 @@
-use Rattle.std.proofs.Common.{◌≡◌, true, ◌++◌, inl, inr, codes, string_bytes, sym, ◌∙◌, ap, subst, arith}
+use Rattle.std.proofs.Common.{◌≡◌, true, ◌++◌, inr, codes, string_bytes, sym, ◌∙◌, ap, subst, arith}
 use Rattle.std.specs.Fmt.{decimal}
 use Rattle.std.specs.List.{list_all}
-use Rattle.review_hints.specs.Hinted.{is_printed}
-use Rattle.review_hints.specs.Hints.{IsTrue}
+use Rattle.review_hints.specs.Hinted.{is_printed, IsHint}
+use Rattle.review_hints.specs.Hints.{cause_of, IsTrue}
 use Rattle.review_hints.proofs.HintLaws.{line_of_plain, line_line, opened_line, indent_plain, name_printed}
 use Rattle.review_hints.proofs.hints.Hint.words.Goals as goal
 
@@ -23,8 +23,7 @@ pub returns-in_ok-format-in-Opened-clause-hint : goal.returns-in_ok-format-in-Op
 returns-in_ok-format-in-Opened-clause-hint c at within good =
     let o = (subst (IsTrue c.args.text.now at) c.in-Opened.is good).0 in
     let place = c.place_in-line.result in
-    inr (inr (record {
-      offset = c.in-Opened.opened.at;
+    subst (λ z. IsHint c.args.text.now at (cause_of z) (string_bytes c.in_ok-format-in-Opened.field-0)) (sym c.in-Opened.is) (inr (record {
       mark = c.in-Opened.opened.mark;
       row = place.line;
       column = place.column;
@@ -42,4 +41,5 @@ returns-in_ok-format-in-Indent-clause-line c =
 
 pub returns-in_ok-format-in-Indent-clause-hint : goal.returns-in_ok-format-in-Indent-clause-hint
 returns-in_ok-format-in-Indent-clause-hint c at within good =
-    inl (indent_plain _ c.in-Indent.what.now c.in-Indent.count (subst (IsTrue c.args.text.now at) c.in-Indent.is good) c.in_ok-format-in-Indent.ensures.ok)
+    subst (λ z. IsHint c.args.text.now at (cause_of z) (string_bytes c.in_ok-format-in-Indent.field-0)) (sym c.in-Indent.is)
+    (indent_plain _ c.in-Indent.what.now c.in-Indent.count (subst (IsTrue c.args.text.now at) c.in-Indent.is good) c.in_ok-format-in-Indent.ensures.ok)

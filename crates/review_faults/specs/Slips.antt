@@ -1,0 +1,90 @@
+-- What is commonly a slip, although it is read.
+use Rattle.std.specs.Prelude.{◌==◌, ◌&&◌, ◌||◌, ◌-◌, ℕ, Bool, true, false, not, nat_le, nat_lt, cond, if◌then◌else◌, bytes_eq, List, [], ◌∷◌, length, drop, Option, Some, None, codes, slice_get}
+use Rattle.std.specs.List.{list_any, starts_with, ends_with}
+use Rattle.yaml_definitions.specs.model.Event.{Event, plain, scalar_event, mapping_start}
+use Rattle.review_faults.specs.Labels.{is_name_byte}
+use Rattle.review_faults.specs.declared.slip.Around.{Around}
+use Rattle.review_faults.specs.declared.slip.Slip.{Slip}
+use Rattle.review_faults.specs.declared.slip.Slip.TheVariants as slips
+
+-- ---- texts
+
+-- what is after a first letter, digit, `-` or `_`
+abbrev pub after_name_byte : List ℕ → Option (List ℕ)
+after_name_byte [] = None
+after_name_byte (c ∷ x) = cond (is_name_byte c) (Some x) None
+
+-- without those with which it begins
+abbrev pub after_word : List ℕ → List ℕ
+after_word [] = []
+after_word (c ∷ x) = cond (is_name_byte c) (after_word x) (c ∷ x)
+
+abbrev pub is_between : List ℕ → List ℕ → List ℕ → Bool
+is_between front end x = starts_with ◌==◌ x front && ends_with ◌==◌ x end
+
+-- a word, a colon, and brackets or braces
+abbrev pub is_tight : List ℕ → Bool
+is_tight x = not (length (after_word x) == length x) && (is_between (codes ":{") (codes "}") (after_word x) || is_between (codes ":[") (codes "]") (after_word x))
+
+-- U+2018 to U+201F in UTF-8
+abbrev pub is_quote_end : Option ℕ → Bool
+is_quote_end None = false
+is_quote_end (Some c) = nat_le 152 c && nat_le c 159
+
+abbrev pub begins_quote : List ℕ → Bool
+begins_quote x = starts_with ◌==◌ x (226 ∷ 128 ∷ []) && is_quote_end (slice_get x 2)
+
+abbrev pub is_quoted : List ℕ → Bool
+is_quoted x = nat_lt 3 (length x) && (begins_quote x && begins_quote (drop (length x - 3) x))
+
+-- U+00A0, U+200B, U+202F and U+2060 in UTF-8
+abbrev pub begins_space : List ℕ → Bool
+begins_space x =
+    starts_with ◌==◌ x (194 ∷ 160 ∷ []) || (starts_with ◌==◌ x (226 ∷ 128 ∷ 139 ∷ []) || (starts_with ◌==◌ x (226 ∷ 128 ∷ 175 ∷ []) || starts_with ◌==◌ x (226 ∷ 129 ∷ 160 ∷ [])))
+
+abbrev pub has_space : List ℕ → Bool
+has_space [] = false
+has_space (c ∷ x) = begins_space (c ∷ x) || has_space x
+
+abbrev pub has_colon : List ℕ → Bool
+has_colon x = list_any (λ c. c == 58) x
+
+-- ---- what is around a scalar
+
+abbrev pub begins_flow_mapping : Option Event → Bool
+begins_flow_mapping (Some (mapping_start flow a t)) = flow
+begins_flow_mapping _ = false
+
+-- a node that is not written begins
+abbrev pub is_unwritten : Option Event → Bool
+is_unwritten (Some (scalar_event a t plain x)) = length x == 0
+is_unwritten _ = false
+
+-- flow mappings begin at the two events before the one of this number
+abbrev pub is_doubled : List Event → ℕ → Bool
+is_doubled events n = begins_flow_mapping (slice_get events (n - 1)) && begins_flow_mapping (slice_get events (n - 2))
+
+-- the node at the next event is not written
+abbrev pub has_no_value : List Event → ℕ → Bool
+has_no_value events n = is_unwritten (slice_get (drop n events) 1)
+
+-- ---- slips
+
+-- of the text of a plain scalar
+abbrev pub slip_in : Around → List ℕ → Option Slip
+slip_in around x =
+    if around.is_doubled && around.has_no_value then Some slips.Template
+    else if around.is_key && (around.is_in_flow && (around.has_no_value && has_colon x)) then Some slips.Key
+    else if is_tight x then Some slips.Value
+    else if not around.is_key && bytes_eq x (codes "<<") then Some slips.Merge
+    else if is_quoted x then Some slips.Quotes
+    else if has_space x then Some slips.Space
+    else None
+
+abbrev pub slip_words : Slip → List ℕ
+slip_words slips.Template = codes "a key in a key here, as in `{{ x }}`: render a template first"
+slip_words slips.Key = codes "a key without a value here: a space is missing after its colon"
+slip_words slips.Value = codes "one string here: a space is missing after its colon"
+slip_words slips.Merge = codes "a string here, which PyYAML rejects"
+slip_words slips.Quotes = codes "its quotes are part of the string here: the quotes of YAML are \" and '"
+slip_words slips.Space = codes "a string with a no-break space or a space of no width"
