@@ -9,7 +9,7 @@ const SHOW: &[&str] = &["show", "left"];
 const JSON: &[&str] = &["show", "--format=json", "left"];
 
 /// Block style.
-pub static YAML: [Row; 18] = [
+pub static YAML: [Row; 22] = [
     Row {
         name: "a line for each entry and item, and keys in the order of the canonical text",
         words: SHOW,
@@ -38,6 +38,24 @@ pub static YAML: [Row; 18] = [
         err: "",
     },
     Row {
+        name: "a text that begins with a digit is plain if no reader takes it for a number or a time",
+        words: SHOW,
+        left: b"['512M', '7d', '1h', 10.0.0.1, 10.0.0.1/8, 1.2.3, 1.0.0-rc1, '3 items', 5m30s, 1a2b3c4, 0 a, 2001-01-01x]\n",
+        right: b"",
+        status: 0,
+        out: "---\n- 512M\n- 7d\n- 1h\n- 10.0.0.1\n- 10.0.0.1/8\n- 1.2.3\n- 1.0.0-rc1\n- 3 items\n- 5m30s\n- 1a2b3c4\n- 0 a\n- 2001-01-01x\n",
+        err: "",
+    },
+    Row {
+        name: "and quoted if one may",
+        words: SHOW,
+        left: b"['1.2', '1:30', '1:30.5', '1_0', '1,000', '1e3', '7E12', '0x1F', '0_x1F', '0b1', '0b+1', '0o17', '017', '0abc', '2001-01-01T10:00:00Z', '2001-01-01 10:00:00.5 +01:00', '80:80', '1-2']\n",
+        right: b"",
+        status: 0,
+        out: "---\n- \"1.2\"\n- \"1:30\"\n- \"1:30.5\"\n- \"1_0\"\n- \"1,000\"\n- \"1e3\"\n- \"7E12\"\n- \"0x1F\"\n- \"0_x1F\"\n- \"0b1\"\n- \"0b+1\"\n- \"0o17\"\n- \"017\"\n- \"0abc\"\n- \"2001-01-01T10:00:00Z\"\n- \"2001-01-01 10:00:00.5 +01:00\"\n- \"80:80\"\n- \"1-2\"\n",
+        err: "",
+    },
+    Row {
         name: "strings that are plain",
         words: SHOW,
         left: b"['yess', 'a b', '/usr/bin', './x', '..', '$HOME', '-x', '--long', 'http://a.b/c?d#e', 'a: b', 'a #b', 'a:', 'a ', '- a', '---', '*a']\n",
@@ -53,6 +71,24 @@ pub static YAML: [Row; 18] = [
         right: b"",
         status: 0,
         out: "---\n- |\n  a\n  b\n- |-\n  a\n\n   b\n- |+\n  a\n\n- |2-\n   a\n  b\n- |2\n\n  \tb\n",
+        err: "",
+    },
+    Row {
+        name: "a long string of one line is folded after its phrases and before its 80th column",
+        words: SHOW,
+        left: b"- Reads a file of settings from the folder of the user, and writes what it has changed to the same file at the end - see the page of each setting.\n- k: |\n    Reads a file of settings from the folder of the user, and writes what it has changed to the same file at the end: see the page of each setting.\n- !t 'Eine Zeile, die l\xC3\xA4nger als hundert Spalten ist, weil sie lauter lange W\xC3\xB6rter hat: \xC3\x9Cberraschungsg\xC3\xA4stef\xC3\xBChrer, Stra\xC3\x9Fenbahnhaltestellen.'\n",
+        right: b"",
+        status: 0,
+        out: "---\n- >-\n  Reads a file of settings from the folder of the user,\n  and writes what it has changed to the same file at the end - see the page of\n  each setting.\n- k: >\n    Reads a file of settings from the folder of the user,\n    and writes what it has changed to the same file at the end:\n    see the page of each setting.\n- !t >-\n  Eine Zeile, die l\u{E4}nger als hundert Spalten ist,\n  weil sie lauter lange W\u{F6}rter hat:\n  \u{DC}berraschungsg\u{E4}stef\u{FC}hrer, Stra\u{DF}enbahnhaltestellen.\n",
+        err: "",
+    },
+    Row {
+        name: "it is not folded between two spaces, and a word may be longer; a document, a key, an end in a space and one word",
+        words: SHOW,
+        left: b"--- 'xxxxxxxxxxxxxxxxxxxxxxxxxxxxxxxxxxxxxxxxxxxxxxxxxxxxxxxxxxxxxxxxxxxxxxxxxxxxxxxxxxxxxxxxxxxxxxxxxxxxxxxxxxxxxxxxxxxxxxxx and yyyyyyyyyyyyyyyyyyyyyyyyyyyyyyyyyyyyyyyyyyyyyyyyyyyyyyyyyyyyyyyyyyyyyyyyyyyyyyyyyyyyyyyyyy # no comment  and two spaces: zzzzzzzzzzzzzzzzzzzz z.'\n--- {? 'Reads a file of settings from the folder of the user, and writes what it has changed to the same file at the end: see the page of each setting.' : 'Reads a file of settings from the folder of the user, and writes what it has changed to the same file at the end: see the page of each setting. '}\n--- wwwwwwwwwwwwwwwwwwwwwwwwwwwwwwwwwwwwwwwwwwwwwwwwwwwwwwwwwwwwwwwwwwwwwwwwwwwwwwwwwwwwwwwwwwwwwwwwwwwww\n",
+        right: b"",
+        status: 0,
+        out: "--- >-\n  xxxxxxxxxxxxxxxxxxxxxxxxxxxxxxxxxxxxxxxxxxxxxxxxxxxxxxxxxxxxxxxxxxxxxxxxxxxxxxxxxxxxxxxxxxxxxxxxxxxxxxxxxxxxxxxxxxxxxxxx\n  and\n  yyyyyyyyyyyyyyyyyyyyyyyyyyyyyyyyyyyyyyyyyyyyyyyyyyyyyyyyyyyyyyyyyyyyyyyyyyyyyyyyyyyyyyyyyy\n  # no comment  and two spaces: zzzzzzzzzzzzzzzzzzzz z.\n---\n\"Reads a file of settings from the folder of the user, and writes what it has changed to the same file at the end: see the page of each setting.\": \"Reads a file of settings from the folder of the user, and writes what it has changed to the same file at the end: see the page of each setting. \"\n--- wwwwwwwwwwwwwwwwwwwwwwwwwwwwwwwwwwwwwwwwwwwwwwwwwwwwwwwwwwwwwwwwwwwwwwwwwwwwwwwwwwwwwwwwwwwwwwwwwwwww\n",
         err: "",
     },
     Row {
@@ -94,20 +130,20 @@ pub static YAML: [Row; 18] = [
     Row {
         name: "tags",
         words: SHOW,
-        left: b"- !Ref x\n- !!binary aGk=\n- !<a%20b> 1\n- !t [a]\n- !t {}\n- k: !t [a]\n- !!str x\n",
+        left: b"- !Ref x\n- !!binary aGk=\n- !<a%20b> 1\n- !<a#b> 1\n- !t [a]\n- !t {}\n- k: !t [a]\n- !!str x\n",
         right: b"",
         status: 0,
-        out: "---\n- !Ref x\n- !!binary aGk=\n- !<a%20b> \"1\"\n- !t\n  - a\n- !t {}\n- k: !t\n    - a\n- x\n",
+        out: "---\n- !Ref x\n- !!binary aGk=\n- !<a%20b> \"1\"\n- !<a%23b> \"1\"\n- !t\n  - a\n- !t {}\n- k: !t\n    - a\n- x\n",
         err: "",
     },
     Row {
         name: "keys",
         words: SHOW,
-        left: b"{[a, 1]: x, {}: w, 'a: b': 1, yes: 2, 3: 4, ~: 5, !t k: 6}\n",
+        left: b"{[a, 1]: x, {}: w, {{}: a, [b]: c}: v, 'a: b': 1, yes: 2, 3: 4, ~: 5, !t k: 6}\n",
         right: b"",
         status: 0,
-        out: "---\n!t k: 6\n3: 4\nnull: 5\n\"a: b\": 1\n\"yes\": 2\n{} : w\n[\"a\", 1] : x\n",
-        err: "left:1:31: warning: yes: a string here, a bool in YAML 1.1\n",
+        out: "---\n!t k: 6\n3: 4\nnull: 5\n\"a: b\": 1\n\"yes\": 2\n{} : w\n[\"a\", 1] : x\n{{}: \"a\", [\"b\"]: \"c\"} : v\n",
+        err: "left:1:51: warning: yes: a string here, a bool in YAML 1.1\n",
     },
     Row {
         name: "aliases are written out",
@@ -191,7 +227,7 @@ pub static LINES: [Row; 9] = [
         left: b"[yes, \"\\\"\\\\/\\n\\t\\r\\b\\f\\0\\x7F\\u2028\xC3\xA9\xF0\x9F\x98\x80\"]\n",
         right: b"",
         status: 0,
-        out: "[\"yes\", \"\\\"\\\\/\\n\\t\\r\\b\\f\\u0000\\u007F\\u2028é😀\"]\n",
+        out: "[\"yes\", \"\\\"\\\\/\\n\\t\\r\\b\\f\\u0000\\u007F\\u2028\u{E9}\u{1F600}\"]\n",
         err: "left:1:2: warning: yes: a string here, a bool in YAML 1.1\n",
     },
     Row {

@@ -10,7 +10,7 @@ use Rattle.yaml_show_scalar.specs.Scalars.{scalar_text}
 use Rattle.yaml_show_scalar.specs.Tags.{tag_before}
 use Rattle.yaml_show_scalar.specs.declared.scalar.Quotes.TheVariants.{Always}
 use Rattle.yaml_spell.specs.Walked.{separator}
-use Rattle.yaml_show.specs.Flow.{is_short, mark, colon, flow_text, flow_items, flow_entries}
+use Rattle.yaml_show.specs.Flow.{is_simple, mark, colon, flow_text, flow_items, flow_entries}
 
 -- ---- tags of the kinds
 
@@ -42,37 +42,37 @@ begun w o r b e = ap (λ z. z ++ r) e ∙ append_assoc w (b ∷ []) r
 
 -- ---- a tree by its kind
 
-pub scalar_flow : (t : Tree) (g x : List ℕ) → t ≡ scalar g x → scalar_text Always g x ≡ flow_text t
+pub scalar_flow : (q : Bool) (t : Tree) (g x : List ℕ) → t ≡ scalar g x → scalar_text Always g x ≡ flow_text q t
 unfolding flow_text
-scalar_flow t g x e = ap flow_text (sym e)
+scalar_flow q t g x e = ap (flow_text q) (sym e)
 
 -- a collection behind its tag
-pub sequence_flow : (t : Tree) (g own : List ℕ) (ts : Trees) (w o n : List ℕ) → t ≡ sequence g ts → own ≡ seq_tag → o ≡ w ++ tag_before g own → n ≡ o ++ (91 ∷ flow_items [] ts) → n ≡ w ++ flow_text t
+pub sequence_flow : (q : Bool) (t : Tree) (g own : List ℕ) (ts : Trees) (w o n : List ℕ) → t ≡ sequence g ts → own ≡ seq_tag → o ≡ w ++ tag_before g own → n ≡ o ++ (91 ∷ flow_items q [] ts) → n ≡ w ++ flow_text q t
 unfolding flow_text
-sequence_flow t g own ts w o n e f h k =
-    k ∙ ap (λ z. z ++ (91 ∷ flow_items [] ts)) (h ∙ ap (λ z. w ++ tag_before g z) f) ∙ append_assoc w (tag_before g seq_tag) (91 ∷ flow_items [] ts) ∙ ap (λ z. w ++ flow_text z) (sym e)
+sequence_flow q t g own ts w o n e f h k =
+    k ∙ ap (λ z. z ++ (91 ∷ flow_items q [] ts)) (h ∙ ap (λ z. w ++ tag_before g z) f) ∙ append_assoc w (tag_before g seq_tag) (91 ∷ flow_items q [] ts) ∙ ap (λ z. w ++ flow_text q z) (sym e)
 
-pub mapping_flow : (t : Tree) (g own : List ℕ) (ps : Pairs) (w o n : List ℕ) → t ≡ mapping g ps → own ≡ map_tag → o ≡ w ++ tag_before g own → n ≡ o ++ (123 ∷ flow_entries [] ps) → n ≡ w ++ flow_text t
+pub mapping_flow : (q : Bool) (t : Tree) (g own : List ℕ) (ps : Pairs) (w o n : List ℕ) → t ≡ mapping g ps → own ≡ map_tag → o ≡ w ++ tag_before g own → n ≡ o ++ (123 ∷ flow_entries q [] ps) → n ≡ w ++ flow_text q t
 unfolding flow_text
-mapping_flow t g own ps w o n e f h k =
-    k ∙ ap (λ z. z ++ (123 ∷ flow_entries [] ps)) (h ∙ ap (λ z. w ++ tag_before g z) f) ∙ append_assoc w (tag_before g map_tag) (123 ∷ flow_entries [] ps) ∙ ap (λ z. w ++ flow_text z) (sym e)
+mapping_flow q t g own ps w o n e f h k =
+    k ∙ ap (λ z. z ++ (123 ∷ flow_entries q [] ps)) (h ∙ ap (λ z. w ++ tag_before g z) f) ∙ append_assoc w (tag_before g map_tag) (123 ∷ flow_entries q [] ps) ∙ ap (λ z. w ++ flow_text q z) (sym e)
 
 -- ---- items
 
-module _ {X : Type 0} (f : X → Tree) (xs : List X) (i : ℕ) where
-  pub items_step : (d : X) (w s o whole : List ℕ) → drop i xs ≡ d ∷ drop (i + 1) xs → w ++ flow_items (separator i) (trees (map f (drop i xs))) ≡ whole → s ≡ w ++ separator i → o ≡ s ++ flow_text (f d)
-      → o ++ flow_items (separator (i + 1)) (trees (map f (drop (i + 1) xs))) ≡ whole
+module _ {X : Type 0} (q : Bool) (f : X → Tree) (xs : List X) (i : ℕ) where
+  pub items_step : (d : X) (w s o whole : List ℕ) → drop i xs ≡ d ∷ drop (i + 1) xs → w ++ flow_items q (separator i) (trees (map f (drop i xs))) ≡ whole → s ≡ w ++ separator i → o ≡ s ++ flow_text q (f d)
+      → o ++ flow_items q (separator (i + 1)) (trees (map f (drop (i + 1) xs))) ≡ whole
   unfolding flow_text
   items_step d w s o whole l h e k =
-      let r : List ℕ = flow_items (44 ∷ 32 ∷ []) (trees (map f (drop (i + 1) xs))) in
-      ap (λ z. o ++ flow_items (separator z) (trees (map f (drop (i + 1) xs)))) (add-one i)
-      ∙ ap (λ z. z ++ r) (k ∙ ap (λ z. z ++ flow_text (f d)) e)
-      ∙ two w (separator i) (flow_text (f d)) r
-      ∙ ap (λ z. w ++ flow_items (separator i) (trees (map f z))) (sym l) ∙ h
+      let r : List ℕ = flow_items q (44 ∷ 32 ∷ []) (trees (map f (drop (i + 1) xs))) in
+      ap (λ z. o ++ flow_items q (separator z) (trees (map f (drop (i + 1) xs)))) (add-one i)
+      ∙ ap (λ z. z ++ r) (k ∙ ap (λ z. z ++ flow_text q (f d)) e)
+      ∙ two w (separator i) (flow_text q (f d)) r
+      ∙ ap (λ z. w ++ flow_items q (separator i) (trees (map f z))) (sym l) ∙ h
 
-  pub items_end : (w o whole : List ℕ) → length xs ≤ i → w ++ flow_items (separator i) (trees (map f (drop i xs))) ≡ whole → o ≡ w ++ (93 ∷ []) → o ≡ whole
+  pub items_end : (w o whole : List ℕ) → length xs ≤ i → w ++ flow_items q (separator i) (trees (map f (drop i xs))) ≡ whole → o ≡ w ++ (93 ∷ []) → o ≡ whole
   unfolding flow_text
-  items_end w o whole l h e = e ∙ ap (λ z. w ++ flow_items (separator i) (trees (map f z))) (sym (drop_of_length-le xs l)) ∙ h
+  items_end w o whole l h e = e ∙ ap (λ z. w ++ flow_items q (separator i) (trees (map f z))) (sym (drop_of_length-le xs l)) ∙ h
 
 -- ---- entries
 
@@ -80,19 +80,19 @@ pub entry_written : (w a b c d k v : List ℕ) (x y : Bool) → x ≡ y → a �
 entry_written w a b c d k v x y s e f g h =
     h ∙ ap (λ z. z ++ v) (g ∙ ap (λ z. z ++ colon x) (f ∙ ap (λ z. z ++ k) e)) ∙ four w (mark x) k (colon x) v ∙ ap (λ z. w ++ (mark z ++ (k ++ (colon z ++ v)))) s
 
-module _ {X : Type 0} (f : X → Tree × Tree) (xs : List X) (i : ℕ) where
-  pub entries_step : (d : X) (w s o whole : List ℕ) → drop i xs ≡ d ∷ drop (i + 1) xs → w ++ flow_entries (separator i) (pairs (map f (drop i xs))) ≡ whole → s ≡ w ++ separator i
-      → o ≡ s ++ (mark (is_short (f d).0) ++ (flow_text (f d).0 ++ (colon (is_short (f d).0) ++ flow_text (f d).1)))
-      → o ++ flow_entries (separator (i + 1)) (pairs (map f (drop (i + 1) xs))) ≡ whole
+module _ {X : Type 0} (q : Bool) (f : X → Tree × Tree) (xs : List X) (i : ℕ) where
+  pub entries_step : (d : X) (w s o whole : List ℕ) → drop i xs ≡ d ∷ drop (i + 1) xs → w ++ flow_entries q (separator i) (pairs (map f (drop i xs))) ≡ whole → s ≡ w ++ separator i
+      → o ≡ s ++ (mark (is_simple q (f d).0) ++ (flow_text q (f d).0 ++ (colon (is_simple q (f d).0) ++ flow_text q (f d).1)))
+      → o ++ flow_entries q (separator (i + 1)) (pairs (map f (drop (i + 1) xs))) ≡ whole
   unfolding flow_text
   entries_step d w s o whole l h e k =
-      let r : List ℕ = flow_entries (44 ∷ 32 ∷ []) (pairs (map f (drop (i + 1) xs))) in
-      let x : List ℕ = mark (is_short (f d).0) ++ (flow_text (f d).0 ++ (colon (is_short (f d).0) ++ flow_text (f d).1)) in
-      ap (λ z. o ++ flow_entries (separator z) (pairs (map f (drop (i + 1) xs)))) (add-one i)
+      let r : List ℕ = flow_entries q (44 ∷ 32 ∷ []) (pairs (map f (drop (i + 1) xs))) in
+      let x : List ℕ = mark (is_simple q (f d).0) ++ (flow_text q (f d).0 ++ (colon (is_simple q (f d).0) ++ flow_text q (f d).1)) in
+      ap (λ z. o ++ flow_entries q (separator z) (pairs (map f (drop (i + 1) xs)))) (add-one i)
       ∙ ap (λ z. z ++ r) (k ∙ ap (λ z. z ++ x) e)
-      ∙ whole_entry w (separator i) (mark (is_short (f d).0)) (flow_text (f d).0) (colon (is_short (f d).0)) (flow_text (f d).1) r
-      ∙ ap (λ z. w ++ flow_entries (separator i) (pairs (map f z))) (sym l) ∙ h
+      ∙ whole_entry w (separator i) (mark (is_simple q (f d).0)) (flow_text q (f d).0) (colon (is_simple q (f d).0)) (flow_text q (f d).1) r
+      ∙ ap (λ z. w ++ flow_entries q (separator i) (pairs (map f z))) (sym l) ∙ h
 
-  pub entries_end : (w o whole : List ℕ) → length xs ≤ i → w ++ flow_entries (separator i) (pairs (map f (drop i xs))) ≡ whole → o ≡ w ++ (125 ∷ []) → o ≡ whole
+  pub entries_end : (w o whole : List ℕ) → length xs ≤ i → w ++ flow_entries q (separator i) (pairs (map f (drop i xs))) ≡ whole → o ≡ w ++ (125 ∷ []) → o ≡ whole
   unfolding flow_text
-  entries_end w o whole l h e = e ∙ ap (λ z. w ++ flow_entries (separator i) (pairs (map f z))) (sym (drop_of_length-le xs l)) ∙ h
+  entries_end w o whole l h e = e ∙ ap (λ z. w ++ flow_entries q (separator i) (pairs (map f z))) (sym (drop_of_length-le xs l)) ∙ h

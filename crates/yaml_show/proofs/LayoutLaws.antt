@@ -26,13 +26,13 @@ pub scalar_key : (t : Tree) (g x : List ℕ) → t ≡ scalar g x → scalar_tex
 unfolding key_text
 scalar_key t g x e = ap key_text (sym e)
 
-pub sequence_key : (t : Tree) (g : List ℕ) (ts : Trees) → t ≡ sequence g ts → flow_text t ++ (32 ∷ []) ≡ key_text t
+pub sequence_key : (t : Tree) (g : List ℕ) (ts : Trees) → t ≡ sequence g ts → flow_text true t ++ (32 ∷ []) ≡ key_text t
 unfolding key_text
-sequence_key t g ts e = ap (λ z. flow_text z ++ (32 ∷ [])) e ∙ ap key_text (sym e)
+sequence_key t g ts e = ap (λ z. flow_text true z ++ (32 ∷ [])) e ∙ ap key_text (sym e)
 
-pub mapping_key : (t : Tree) (g : List ℕ) (ps : Pairs) → t ≡ mapping g ps → flow_text t ++ (32 ∷ []) ≡ key_text t
+pub mapping_key : (t : Tree) (g : List ℕ) (ps : Pairs) → t ≡ mapping g ps → flow_text true t ++ (32 ∷ []) ≡ key_text t
 unfolding key_text
-mapping_key t g ps e = ap (λ z. flow_text z ++ (32 ∷ [])) e ∙ ap key_text (sym e)
+mapping_key t g ps e = ap (λ z. flow_text true z ++ (32 ∷ [])) e ∙ ap key_text (sym e)
 
 pub short_scalar : (t : Tree) (g x : List ℕ) → t ≡ scalar g x → (nat_le (length x) 200 && nat_le (length g) 64) ≡ is_short t
 unfolding is_short

@@ -53,7 +53,7 @@ empty_text place g own brackets = space place ++ (tag_before g own ++ brackets)
 
 -- a tree on one line, and the end of the line
 unfoldable pub one_line : Place → Tree → List ℕ
-one_line place t = space place ++ (flow_text t ++ (10 ∷ []))
+one_line place t = space place ++ (flow_text false t ++ (10 ∷ []))
 
 -- what stands before a part: nothing where its line is begun, else the indentation
 abbrev pub before_part : Bool → ℕ → List ℕ

@@ -1,5 +1,5 @@
 //! Keys of block mappings.
-ghost use Rattle.std.specs.Prelude.{◌≡◌, ◌<◌, ◌++◌, ◌∷◌, [], nat_le, length, OnOk, IfOk, IfErr};
+ghost use Rattle.std.specs.Prelude.{◌≡◌, ◌<◌, true, ◌++◌, ◌∷◌, [], nat_le, length, OnOk, IfOk, IfErr};
 ghost use Rattle.std.specs.List.{All};
 ghost use Rattle.std.specs.Str.{chars};
 ghost use Rattle.yaml_spell.specs.RankedNodes.{pairs_of};
@@ -26,11 +26,11 @@ const KEY_BYTES: usize = 4_096;
 fn put_flow_key<I: Copy, V: RankedNodes<I>>(view: &V, id: I, out: &mut Out) -> Result<(), Stop>
     requires stands { V.stands view.now }
     requires within { V.number id < V.count view.now }
-    ensures ok { OnOk result (written out.new ≡ written out.old ++ (flow_text (V.tree view.now (V.number id)) ++ (s-space ∷ []))) }
+    ensures ok { OnOk result (written out.new ≡ written out.old ++ (flow_text true (V.tree view.now (V.number id)) ++ (s-space ∷ []))) }
     ensures limit { limit_of out.new ≡ limit_of out.old }
-    ensures err { IfErr result (Stops (limit_of out.old) (written out.old ++ (flow_text (V.tree view.now (V.number id)) ++ (s-space ∷ [])))) }
+    ensures err { IfErr result (Stops (limit_of out.old) (written out.old ++ (flow_text true (V.tree view.now (V.number id)) ++ (s-space ∷ [])))) }
 {
-    put_flow(view, id, out)?;
+    put_flow(view, id, true, out)?;
     out.put(" ")
 }
 

@@ -134,7 +134,7 @@ pub(crate) fn put_line<I: Copy, V: RankedNodes<I>>(
     ensures err { IfErr result (Stops (limit_of out.old) (written out.old ++ one_line place (V.tree view.now (V.number id)))) }
 {
     put_space(out, place)?;
-    put_flow(view, id, out)?;
+    put_flow(view, id, false, out)?;
     out.put("\n")
 }
 

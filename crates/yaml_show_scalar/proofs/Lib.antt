@@ -1,4 +1,5 @@
 pub mod EscapeLaws
+pub mod FoldLaws
 pub mod NumberLaws
 pub mod ScalarLaws
 pub mod TagLaws

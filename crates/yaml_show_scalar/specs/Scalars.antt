@@ -6,6 +6,7 @@ use Rattle.yaml_definitions.specs.model.Core.{is_empty}
 use Rattle.yaml_definitions.specs.model.Tag.{float_tag, str_tag}
 use Rattle.yaml_show_scalar.specs.declared.escapes.Language.TheVariants.{Yaml}
 use Rattle.yaml_show_scalar.specs.Escapes.{is_unseen, escaped, quoted}
+use Rattle.yaml_show_scalar.specs.Folds.{folded_line, is_foldable}
 use Rattle.yaml_show_scalar.specs.Numbers.{float_text}
 use Rattle.yaml_show_scalar.specs.Plain.{is_plain}
 use Rattle.yaml_show_scalar.specs.Tags.{is_resolved, tag_before}
@@ -100,6 +101,16 @@ unfoldable pub long_text : ℕ → Bool → List ℕ → List ℕ → List ℕ
 long_text n is_root g x =
     cond (is_literal is_root x) (tag_before g str_tag ++ literal_text n x) (cond (list_any is_feed (body x)) (tag_before g str_tag ++ broken_text n x) (scalar_text Always g x ++ (10 ∷ [])))
 
+-- A folded scalar (YAML 1.2.2, 8.1.3) whose lines are at this level. It ends with `-` in its header where the text does not end with a line feed.
+unfoldable pub folded_text : ℕ → List ℕ → List ℕ
+folded_text n x = 62 ∷ (cond (ends_in 10 x) [] (45 ∷ []) ++ (10 ∷ folded_line n (body x)))
+
+-- The string is folded: it is one long line, with or without its line feed.
+abbrev pub is_folded : List ℕ → Bool
+is_folded x = is_foldable (body x)
+
 -- A scalar and the end of its line. Its further lines are at this level.
 unfoldable pub scalar_lines : ℕ → Bool → List ℕ → List ℕ → List ℕ
-scalar_lines n is_root g x = cond (is_resolved g || not (is_long x)) (scalar_text WhereNeeded g x ++ (10 ∷ [])) (long_text n is_root g x)
+scalar_lines n is_root g x =
+    cond (not (is_resolved g) && is_folded x) (tag_before g str_tag ++ folded_text n x)
+    (cond (is_resolved g || not (is_long x)) (scalar_text WhereNeeded g x ++ (10 ∷ [])) (long_text n is_root g x))

@@ -1,10 +1,11 @@
 -- Tags as they are shown (YAML 1.2.2, 6.9.1).
-use Rattle.std.specs.Prelude.{ℕ, Bool, not, ◌||◌, ◌&&◌, ◌==◌, cond, nat_le, List, [], ◌∷◌, ◌++◌, length, codes, bytes_eq, encode_utf8_all}
+use Rattle.std.specs.Prelude.{ℕ, Bool, not, ◌||◌, ◌&&◌, ◌==◌, cond, nat_le, ◌/◌, ◌%◌, List, [], ◌∷◌, ◌++◌, length, codes, bytes_eq, encode_utf8_all, flat_map}
 use Rattle.std.specs.List.{list_all}
 use Rattle.std.specs.declared.option.Option.{Option}
 use Rattle.std.specs.declared.option.Option.TheVariants.{None, Some}
 use Rattle.yaml_definitions.specs.model.Tag.{null_tag, bool_tag, int_tag, float_tag}
-use Rattle.yaml_definitions.specs.canonical.TagText.{encoded}
+use Rattle.yaml_definitions.specs.canonical.CharText.{hex_digit}
+use Rattle.yaml_definitions.specs.grammar.Characters.{is_uri}
 use Rattle.yaml_show_scalar.specs.Texts.{behind}
 
 -- a letter, a digit, or one of `_./:@+-`
@@ -29,9 +30,17 @@ suffix_behind front g = if_suffix (behind front g)
 abbrev pub tag_prefix : List ℕ
 tag_prefix = codes "tag:yaml.org,2002:"
 
--- a verbatim tag: percent-encoded, between `!<` and `>`
+-- a byte that stands in a verbatim tag as it is: a URI character other than `#`, which some readers reject there
+unfoldable pub is_tag_byte : ℕ → Bool
+is_tag_byte b = not (b == 35) && is_uri b
+
+-- a byte of a verbatim tag: as it is, or percent-encoded
+unfoldable pub tag_byte : ℕ → List ℕ
+tag_byte b = cond (is_tag_byte b) (b ∷ []) (37 ∷ hex_digit (b / 16) ∷ hex_digit (b % 16) ∷ [])
+
+-- a verbatim tag: its bytes between `!<` and `>`
 abbrev pub verbatim : List ℕ → List ℕ
-verbatim g = codes "!<" ++ (encode_utf8_all (encoded g []) ++ codes ">")
+verbatim g = codes "!<" ++ (encode_utf8_all (flat_map tag_byte g) ++ codes ">")
 
 -- a shorthand with this handle, or another text
 abbrev pub shorthand_or : List ℕ → Option (List ℕ) → List ℕ → List ℕ

@@ -4,6 +4,7 @@
 
 pub mod chars;
 pub mod escapes;
+mod fold;
 mod lines;
 pub mod number;
 pub mod output;

@@ -58,7 +58,7 @@ fn digits_before(exponent: &str) -> Option<usize>
 }
 
 /// Whether a byte is a digit of base 10.
-fn is_digit(byte: u8) -> bool
+pub(crate) fn is_digit(byte: u8) -> bool
     ensures { result ≡ is_digit byte }
 {
     b'0' <= byte && byte <= b'9'

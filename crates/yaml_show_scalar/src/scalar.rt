@@ -2,7 +2,7 @@
 ghost use Rattle.std.specs.Prelude.{◌≡◌, ◌==◌, ◌||◌, ◌++◌, [], ◌∷◌, OnOk, IfErr};
 ghost use Rattle.std.specs.List.{list_any};
 ghost use Rattle.yaml_definitions.specs.grammar.Characters.{b-line-feed, s-space, s-tab};
-ghost use Rattle.yaml_show_scalar.specs.Scalars.{stands_plain, string_text, scalar_text, is_feed, is_long, is_seen, is_blank, leads_blank, literal_text, broken_text, is_literal, long_text, scalar_lines};
+ghost use Rattle.yaml_show_scalar.specs.Scalars.{stands_plain, string_text, scalar_text, is_feed, is_long, is_seen, is_blank, leads_blank, literal_text, broken_text, folded_text, is_folded, is_literal, long_text, scalar_lines};
 ghost use Rattle.yaml_show_scalar.specs.Tags.{tag_before};
 ghost use Rattle.yaml_definitions.specs.model.Tag.{str_tag};
 ghost use Rattle.yaml_show_scalar.specs.Stops.{limit_of, Stops};
@@ -10,6 +10,7 @@ ghost use Rattle.yaml_show_scalar.specs.Texts.{written};
 
 use crate::chars::is_unseen;
 use crate::escapes::put_quoted;
+use crate::fold::{is_folded, put_folded};
 use crate::lines::{body_of, put_broken, put_literal};
 use crate::number::put_float;
 use crate::output::Out;
@@ -151,6 +152,17 @@ fn put_broken_string(out: &mut Out, tag: &str, content: &str, level: usize) -> R
     put_broken(out, content, level)
 }
 
+/// Writes a folded scalar behind its tag.
+#[tactic(auto, unfolding(yaml_definitions::specs::model::Tag::core_tag))]
+fn put_folded_string(out: &mut Out, tag: &str, content: &str, level: usize) -> Result<(), Stop>
+    ensures ok { OnOk result (written out.new ≡ written out.old ++ (tag_before tag.now str_tag ++ folded_text level content.now)) }
+    ensures limit { limit_of out.new ≡ limit_of out.old }
+    ensures err { IfErr result (Stops (limit_of out.old) (written out.old ++ (tag_before tag.now str_tag ++ folded_text level content.now))) }
+{
+    put_tag_before(out, tag, core_tag::STR)?;
+    put_folded(out, content, level)
+}
+
 /// Writes a scalar on one line, and its end.
 fn put_line(out: &mut Out, tag: &str, content: &str, quotes: Quotes) -> Result<(), Stop>
     ensures ok { OnOk result (written out.new ≡ written out.old ++ (scalar_text quotes tag.now content.now ++ (b-line-feed ∷ []))) }
@@ -197,6 +209,9 @@ pub fn put_scalar_lines(
     ensures limit { limit_of out.new ≡ limit_of out.old }
     ensures err { IfErr result (Stops (limit_of out.old) (written out.old ++ scalar_lines level is_root tag.now content.now)) }
 {
+    if !is_resolved(tag) && is_folded(content) {
+        return put_folded_string(out, tag, content, level);
+    }
     if is_resolved(tag) || !is_long(content) {
         return put_line(out, tag, content, Quotes::WhereNeeded);
     }

@@ -1,11 +1,10 @@
 //! Tags as they are written.
-ghost use Rattle.std.specs.Prelude.{◌≡◌, ◌++◌, ◌/◌, ◌%◌, [], ◌∷◌, OnOk, IfErr, encode_utf8_all};
+ghost use Rattle.std.specs.Prelude.{◌≡◌, ◌++◌, ◌/◌, ◌%◌, [], ◌∷◌, OnOk, IfErr, encode_utf8_all, flat_map};
 ghost use Rattle.std.specs.List.{list_all};
 ghost use Rattle.std.specs.Option.{option_map};
 ghost use Rattle.yaml_definitions.specs.canonical.CharText.{hex_digit};
-ghost use Rattle.yaml_definitions.specs.canonical.TagText.{spell_byte, encoded};
 ghost use Rattle.yaml_definitions.specs.grammar.Tags.{percent};
-ghost use Rattle.yaml_show_scalar.specs.Tags.{is_suffix_byte, is_suffix, suffix_behind, verbatim, other_text, tag_text, is_resolved, is_left_out, tag_before};
+ghost use Rattle.yaml_show_scalar.specs.Tags.{is_suffix_byte, is_suffix, suffix_behind, is_tag_byte, tag_byte, verbatim, other_text, tag_text, is_resolved, is_left_out, tag_before};
 ghost use Rattle.yaml_show_scalar.specs.Stops.{limit_of, Stops};
 ghost use Rattle.yaml_show_scalar.specs.Texts.{written};
 
@@ -64,14 +63,22 @@ fn put_percent(out: &mut Out, byte: u8) -> Result<(), Stop>
     out.put_digit(u32::from(byte))
 }
 
-/// Writes a byte of a verbatim tag: as it is if it is a URI character, else percent-encoded.
+/// Whether a byte is written as it is in a verbatim tag. Some readers reject `#` there, though it is a URI character.
+#[tactic(auto, unfolding(crate::specs::Tags::is_tag_byte))]
+fn is_tag_byte(byte: u8) -> bool
+    ensures { result ≡ is_tag_byte byte }
+{
+    byte != b'#' && is_uri(char::from(byte))
+}
+
+/// Writes a byte of a verbatim tag: as it is, or percent-encoded.
 fn put_byte(out: &mut Out, byte: u8) -> Result<(), Stop>
-    ensures ok { OnOk result (written out.new ≡ written out.old ++ encode_utf8_all (spell_byte byte)) }
+    ensures ok { OnOk result (written out.new ≡ written out.old ++ encode_utf8_all (tag_byte byte)) }
     ensures limit { limit_of out.new ≡ limit_of out.old }
-    ensures err { IfErr result (Stops (limit_of out.old) (written out.old ++ encode_utf8_all (spell_byte byte))) }
+    ensures err { IfErr result (Stops (limit_of out.old) (written out.old ++ encode_utf8_all (tag_byte byte))) }
 {
     let c = char::from(byte);
-    if is_uri(c) {
+    if is_tag_byte(byte) {
         let mut room = [0u8; 4];
         return out.put(c.encode_utf8(&mut room));
     }
@@ -80,9 +87,9 @@ fn put_byte(out: &mut Out, byte: u8) -> Result<(), Stop>
 
 /// Writes the bytes of a verbatim tag.
 fn put_encoded(out: &mut Out, tag: &str) -> Result<(), Stop>
-    ensures ok { OnOk result (written out.new ≡ written out.old ++ encode_utf8_all (encoded tag.now [])) }
+    ensures ok { OnOk result (written out.new ≡ written out.old ++ encode_utf8_all (flat_map tag_byte tag.now)) }
     ensures limit { limit_of out.new ≡ limit_of out.old }
-    ensures err { IfErr result (Stops (limit_of out.old) (written out.old ++ encode_utf8_all (encoded tag.now []))) }
+    ensures err { IfErr result (Stops (limit_of out.old) (written out.old ++ encode_utf8_all (flat_map tag_byte tag.now))) }
 {
     for byte in tag.as_bytes() {
         put_byte(out, *byte)?;

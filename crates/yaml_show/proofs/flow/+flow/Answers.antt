@@ -16,21 +16,21 @@ put_flow-returns-in-Scalar-clause-ok g w c =
     let N = g.V.RankedNodes.number in
     let T = g.V.RankedNodes.tree c.args.view.now in
     let e = scalar-shown N T (T (N c.args.id)) _ _ _ c.node-node.ensures.tree c.in-Scalar.is in
-    on_ok_weaker c.put_scalar.result (λ h. h ∙ ap (λ z. written c.args.out.now ++ z) (scalar_flow (T (N c.args.id)) _ _ e)) c.put_scalar.ensures.ok
+    on_ok_weaker c.put_scalar.result (λ h. h ∙ ap (λ z. written c.args.out.now ++ z) (scalar_flow c.args.in_key (T (N c.args.id)) _ _ e)) c.put_scalar.ensures.ok
 
 pub put_flow-returns-in_ok-put_tag_before-in-Sequence-clause-ok : goal.put_flow-returns-in_ok-put_tag_before-in-Sequence-clause-ok
 put_flow-returns-in_ok-put_tag_before-in-Sequence-clause-ok g w c =
     let N = g.V.RankedNodes.number in
     let T = g.V.RankedNodes.tree c.args.view.now in
     let e = sequence-shown N T (T (N c.args.id)) _ _ _ c.node-node.ensures.tree c.in-Sequence.is in
-    on_ok_weaker c.put_flow_items.result (λ h. sequence_flow (T (N c.args.id)) _ _ _ _ _ _ e seq_own c.in_ok-put_tag_before-in-Sequence.ensures.ok h) c.put_flow_items.ensures.ok
+    on_ok_weaker c.put_flow_items.result (λ h. sequence_flow c.args.in_key (T (N c.args.id)) _ _ _ _ _ _ e seq_own c.in_ok-put_tag_before-in-Sequence.ensures.ok h) c.put_flow_items.ensures.ok
 
 pub put_flow-returns-in_ok-put_tag_before-in-Mapping-clause-ok : goal.put_flow-returns-in_ok-put_tag_before-in-Mapping-clause-ok
 put_flow-returns-in_ok-put_tag_before-in-Mapping-clause-ok g w c =
     let N = g.V.RankedNodes.number in
     let T = g.V.RankedNodes.tree c.args.view.now in
     let e = mapping-shown N T (T (N c.args.id)) _ _ _ c.node-node.ensures.tree c.in-Mapping.is in
-    on_ok_weaker c.put_flow_entries.result (λ h. mapping_flow (T (N c.args.id)) _ _ _ _ _ _ e map_own c.in_ok-put_tag_before-in-Mapping.ensures.ok h) c.put_flow_entries.ensures.ok
+    on_ok_weaker c.put_flow_entries.result (λ h. mapping_flow c.args.in_key (T (N c.args.id)) _ _ _ _ _ _ e map_own c.in_ok-put_tag_before-in-Mapping.ensures.ok h) c.put_flow_entries.ensures.ok
 
 pub put_flow_items-loop-place-init : goal.put_flow_items-loop-place-init
 put_flow_items-loop-place-init g w c = (c.in_ok-put.ensures.limit, begun _ _ _ 91 c.in_ok-put.ensures.ok)
@@ -40,11 +40,11 @@ put_flow_items-loop-place-preserved g w c =
     let xs = c.args.items.now in
     let i = c.loop-place.place in
     let x = c.index-items-place.result in
-    (c.in_ok-put_flow.ensures.limit ∙ c.in_ok-put_separator.ensures.limit ∙ c.loop-place.invariant.0, items_step (tree_of g.V.RankedNodes.tree g.V.RankedNodes.number c.args.view.now) xs i x _ _ _ _ (drop_item xs i x (omega arith) c.index-items-place.is) c.loop-place.invariant.1 c.in_ok-put_separator.ensures.ok c.in_ok-put_flow.ensures.ok)
+    (c.in_ok-put_flow.ensures.limit ∙ c.in_ok-put_separator.ensures.limit ∙ c.loop-place.invariant.0, items_step c.args.in_key (tree_of g.V.RankedNodes.tree g.V.RankedNodes.number c.args.view.now) xs i x _ _ _ _ (drop_item xs i x (omega arith) c.index-items-place.is) c.loop-place.invariant.1 c.in_ok-put_separator.ensures.ok c.in_ok-put_flow.ensures.ok)
 
 pub put_flow_items-returns-clause-ok : goal.put_flow_items-returns-clause-ok
 put_flow_items-returns-clause-ok g w c =
-    on_ok_weaker c.put-2.result (λ h. items_end (tree_of g.V.RankedNodes.tree g.V.RankedNodes.number c.args.view.now) c.args.items.now c.loop-place.place _ _ _ (omega arith) c.loop-place.invariant.1 h) c.put-2.ensures.ok
+    on_ok_weaker c.put-2.result (λ h. items_end c.args.in_key (tree_of g.V.RankedNodes.tree g.V.RankedNodes.number c.args.view.now) c.args.items.now c.loop-place.place _ _ _ (omega arith) c.loop-place.invariant.1 h) c.put-2.ensures.ok
 
 pub put_flow_entries-loop-place-init : goal.put_flow_entries-loop-place-init
 put_flow_entries-loop-place-init g w c = (c.in_ok-put.ensures.limit, begun _ _ _ 123 c.in_ok-put.ensures.ok)
@@ -54,15 +54,15 @@ put_flow_entries-loop-place-preserved g w c =
     let xs = c.args.entries.now in
     let i = c.loop-place.place in
     let x = c.index-entries-place.result in
-    (c.in_ok-put_flow_entry.ensures.limit ∙ c.in_ok-put_separator.ensures.limit ∙ c.loop-place.invariant.0, entries_step (pair_of g.V.RankedNodes.tree g.V.RankedNodes.number c.args.view.now) xs i x _ _ _ _ (drop_item xs i x (omega arith) c.index-entries-place.is) c.loop-place.invariant.1 c.in_ok-put_separator.ensures.ok c.in_ok-put_flow_entry.ensures.ok)
+    (c.in_ok-put_flow_entry.ensures.limit ∙ c.in_ok-put_separator.ensures.limit ∙ c.loop-place.invariant.0, entries_step c.args.in_key (pair_of g.V.RankedNodes.tree g.V.RankedNodes.number c.args.view.now) xs i x _ _ _ _ (drop_item xs i x (omega arith) c.index-entries-place.is) c.loop-place.invariant.1 c.in_ok-put_separator.ensures.ok c.in_ok-put_flow_entry.ensures.ok)
 
 pub put_flow_entries-returns-clause-ok : goal.put_flow_entries-returns-clause-ok
 put_flow_entries-returns-clause-ok g w c =
-    on_ok_weaker c.put-2.result (λ h. entries_end (pair_of g.V.RankedNodes.tree g.V.RankedNodes.number c.args.view.now) c.args.entries.now c.loop-place.place _ _ _ (omega arith) c.loop-place.invariant.1 h) c.put-2.ensures.ok
+    on_ok_weaker c.put-2.result (λ h. entries_end c.args.in_key (pair_of g.V.RankedNodes.tree g.V.RankedNodes.number c.args.view.now) c.args.entries.now c.loop-place.place _ _ _ (omega arith) c.loop-place.invariant.1 h) c.put-2.ensures.ok
 
 pub put_flow_entry-returns-clause-ok : goal.put_flow_entry-returns-clause-ok
 put_flow_entry-returns-clause-ok g w c =
-    on_ok_weaker c.put_flow-2.result (λ h. entry_written _ _ _ _ _ _ _ _ _ c.is_short-is_simple.ensures c.in_ok-put_mark.ensures.ok c.in_ok-put_flow.ensures.ok c.in_ok-put_colon.ensures.ok h) c.put_flow-2.ensures.ok
+    on_ok_weaker c.put_flow-2.result (λ h. entry_written _ _ _ _ _ _ _ _ _ c.is_simple_key-is_simple.ensures c.in_ok-put_mark.ensures.ok c.in_ok-put_flow.ensures.ok c.in_ok-put_colon.ensures.ok h) c.put_flow-2.ensures.ok
 
 pub put_flow-put_flow_items-requires : goal.put_flow-put_flow_items-requires
 put_flow-put_flow_items-requires g w c =
@@ -116,7 +116,7 @@ put_flow-returns-in-Scalar-clause-err g w c =
     let N = g.V.RankedNodes.number in
     let T = g.V.RankedNodes.tree c.args.view.now in
     let e = scalar-shown N T (T (N c.args.id)) _ _ _ c.node-node.ensures.tree c.in-Scalar.is in
-    if_same c.put_scalar.result _ _ _ _ refl (ap (λ z. written c.args.out.now ++ z) (sym (scalar_flow (T (N c.args.id)) _ _ e))) c.put_scalar.ensures.err
+    if_same c.put_scalar.result _ _ _ _ refl (ap (λ z. written c.args.out.now ++ z) (sym (scalar_flow c.args.in_key (T (N c.args.id)) _ _ e))) c.put_scalar.ensures.err
 
 pub put_flow-returns-in_err-put_tag_before-in-Sequence-clause-err : goal.put_flow-returns-in_err-put_tag_before-in-Sequence-clause-err
 put_flow-returns-in_err-put_tag_before-in-Sequence-clause-err g w c =
@@ -124,14 +124,14 @@ put_flow-returns-in_err-put_tag_before-in-Sequence-clause-err g w c =
     let T = g.V.RankedNodes.tree c.args.view.now in
     let e = sequence-shown N T (T (N c.args.id)) _ _ _ c.node-node.ensures.tree c.in-Sequence.is in
     let p = err_from_is_err_and c.from_residual.result c.from_residual.ensures.1 in
-    rw (p.1, p.2) (stops_longer _ _ _ _ _ _ refl (sym (sequence_flow (T (N c.args.id)) _ _ _ _ _ _ e seq_own refl refl)) c.in_err-put_tag_before-in-Sequence.ensures.err)
+    rw (p.1, p.2) (stops_longer _ _ _ _ _ _ refl (sym (sequence_flow c.args.in_key (T (N c.args.id)) _ _ _ _ _ _ e seq_own refl refl)) c.in_err-put_tag_before-in-Sequence.ensures.err)
 
 pub put_flow-returns-in_ok-put_tag_before-in-Sequence-clause-err : goal.put_flow-returns-in_ok-put_tag_before-in-Sequence-clause-err
 put_flow-returns-in_ok-put_tag_before-in-Sequence-clause-err g w c =
     let N = g.V.RankedNodes.number in
     let T = g.V.RankedNodes.tree c.args.view.now in
     let e = sequence-shown N T (T (N c.args.id)) _ _ _ c.node-node.ensures.tree c.in-Sequence.is in
-    if_same c.put_flow_items.result _ _ _ _ c.in_ok-put_tag_before-in-Sequence.ensures.limit (sym (sequence_flow (T (N c.args.id)) _ _ _ _ _ _ e seq_own c.in_ok-put_tag_before-in-Sequence.ensures.ok refl)) c.put_flow_items.ensures.err
+    if_same c.put_flow_items.result _ _ _ _ c.in_ok-put_tag_before-in-Sequence.ensures.limit (sym (sequence_flow c.args.in_key (T (N c.args.id)) _ _ _ _ _ _ e seq_own c.in_ok-put_tag_before-in-Sequence.ensures.ok refl)) c.put_flow_items.ensures.err
 
 pub put_flow-returns-in_err-put_tag_before-in-Mapping-clause-err : goal.put_flow-returns-in_err-put_tag_before-in-Mapping-clause-err
 put_flow-returns-in_err-put_tag_before-in-Mapping-clause-err g w c =
@@ -139,14 +139,14 @@ put_flow-returns-in_err-put_tag_before-in-Mapping-clause-err g w c =
     let T = g.V.RankedNodes.tree c.args.view.now in
     let e = mapping-shown N T (T (N c.args.id)) _ _ _ c.node-node.ensures.tree c.in-Mapping.is in
     let p = err_from_is_err_and c.from_residual-in_err-put_tag_before-in-Mapping.result c.from_residual-in_err-put_tag_before-in-Mapping.ensures.1 in
-    rw (p.1, p.2) (stops_longer _ _ _ _ _ _ refl (sym (mapping_flow (T (N c.args.id)) _ _ _ _ _ _ e map_own refl refl)) c.in_err-put_tag_before-in-Mapping.ensures.err)
+    rw (p.1, p.2) (stops_longer _ _ _ _ _ _ refl (sym (mapping_flow c.args.in_key (T (N c.args.id)) _ _ _ _ _ _ e map_own refl refl)) c.in_err-put_tag_before-in-Mapping.ensures.err)
 
 pub put_flow-returns-in_ok-put_tag_before-in-Mapping-clause-err : goal.put_flow-returns-in_ok-put_tag_before-in-Mapping-clause-err
 put_flow-returns-in_ok-put_tag_before-in-Mapping-clause-err g w c =
     let N = g.V.RankedNodes.number in
     let T = g.V.RankedNodes.tree c.args.view.now in
     let e = mapping-shown N T (T (N c.args.id)) _ _ _ c.node-node.ensures.tree c.in-Mapping.is in
-    if_same c.put_flow_entries.result _ _ _ _ c.in_ok-put_tag_before-in-Mapping.ensures.limit (sym (mapping_flow (T (N c.args.id)) _ _ _ _ _ _ e map_own c.in_ok-put_tag_before-in-Mapping.ensures.ok refl)) c.put_flow_entries.ensures.err
+    if_same c.put_flow_entries.result _ _ _ _ c.in_ok-put_tag_before-in-Mapping.ensures.limit (sym (mapping_flow c.args.in_key (T (N c.args.id)) _ _ _ _ _ _ e map_own c.in_ok-put_tag_before-in-Mapping.ensures.ok refl)) c.put_flow_entries.ensures.err
 
 pub put_flow_items-returns-in_err-put_separator-clause-limit : goal.put_flow_items-returns-in_err-put_separator-clause-limit
 put_flow_items-returns-in_err-put_separator-clause-limit g w c = c.in_err-put_separator.ensures.limit ∙ c.loop-place.invariant.0
@@ -158,7 +158,7 @@ put_flow_items-returns-in_err-put_separator-clause-err g w c =
     let x = c.index-items-place.result in
     let l = drop_item xs i x (omega arith) c.index-items-place.is in
     let p = err_from_is_err_and c.from_residual-in_err-put_separator.result c.from_residual-in_err-put_separator.ensures.1 in
-    rw (p.1, p.2) (before_one _ _ _ _ _ c.loop-place.invariant.0 c.in_err-put_separator.ensures.err _ _ (sym (items_step (tree_of g.V.RankedNodes.tree g.V.RankedNodes.number c.args.view.now) xs i x _ _ _ _ l c.loop-place.invariant.1 refl refl)))
+    rw (p.1, p.2) (before_one _ _ _ _ _ c.loop-place.invariant.0 c.in_err-put_separator.ensures.err _ _ (sym (items_step c.args.in_key (tree_of g.V.RankedNodes.tree g.V.RankedNodes.number c.args.view.now) xs i x _ _ _ _ l c.loop-place.invariant.1 refl refl)))
 
 pub put_flow_items-returns-in_err-put_flow-clause-limit : goal.put_flow_items-returns-in_err-put_flow-clause-limit
 put_flow_items-returns-in_err-put_flow-clause-limit g w c = c.in_err-put_flow.ensures.limit ∙ c.in_ok-put_separator.ensures.limit ∙ c.loop-place.invariant.0
@@ -170,14 +170,14 @@ put_flow_items-returns-in_err-put_flow-clause-err g w c =
     let x = c.index-items-place.result in
     let l = drop_item xs i x (omega arith) c.index-items-place.is in
     let p = err_from_is_err_and c.from_residual-in_err-put_flow.result c.from_residual-in_err-put_flow.ensures.1 in
-    rw (p.1, p.2) (stops_longer _ _ _ _ _ _ (c.in_ok-put_separator.ensures.limit ∙ c.loop-place.invariant.0) (sym (items_step (tree_of g.V.RankedNodes.tree g.V.RankedNodes.number c.args.view.now) xs i x _ _ _ _ l c.loop-place.invariant.1 c.in_ok-put_separator.ensures.ok refl)) c.in_err-put_flow.ensures.err)
+    rw (p.1, p.2) (stops_longer _ _ _ _ _ _ (c.in_ok-put_separator.ensures.limit ∙ c.loop-place.invariant.0) (sym (items_step c.args.in_key (tree_of g.V.RankedNodes.tree g.V.RankedNodes.number c.args.view.now) xs i x _ _ _ _ l c.loop-place.invariant.1 c.in_ok-put_separator.ensures.ok refl)) c.in_err-put_flow.ensures.err)
 
 pub put_flow_items-returns-clause-limit : goal.put_flow_items-returns-clause-limit
 put_flow_items-returns-clause-limit g w c = c.put-2.ensures.limit ∙ c.loop-place.invariant.0
 
 pub put_flow_items-returns-clause-err : goal.put_flow_items-returns-clause-err
 put_flow_items-returns-clause-err g w c =
-    if_same c.put-2.result _ _ _ _ c.loop-place.invariant.0 (sym (items_end (tree_of g.V.RankedNodes.tree g.V.RankedNodes.number c.args.view.now) c.args.items.now c.loop-place.place _ _ _ (omega arith) c.loop-place.invariant.1 refl)) c.put-2.ensures.err
+    if_same c.put-2.result _ _ _ _ c.loop-place.invariant.0 (sym (items_end c.args.in_key (tree_of g.V.RankedNodes.tree g.V.RankedNodes.number c.args.view.now) c.args.items.now c.loop-place.place _ _ _ (omega arith) c.loop-place.invariant.1 refl)) c.put-2.ensures.err
 
 pub put_flow_entries-returns-in_err-put_separator-clause-limit : goal.put_flow_entries-returns-in_err-put_separator-clause-limit
 put_flow_entries-returns-in_err-put_separator-clause-limit g w c = c.in_err-put_separator.ensures.limit ∙ c.loop-place.invariant.0
@@ -189,7 +189,7 @@ put_flow_entries-returns-in_err-put_separator-clause-err g w c =
     let x = c.index-entries-place.result in
     let l = drop_item xs i x (omega arith) c.index-entries-place.is in
     let p = err_from_is_err_and c.from_residual-in_err-put_separator.result c.from_residual-in_err-put_separator.ensures.1 in
-    rw (p.1, p.2) (before_one _ _ _ _ _ c.loop-place.invariant.0 c.in_err-put_separator.ensures.err _ _ (sym (entries_step (pair_of g.V.RankedNodes.tree g.V.RankedNodes.number c.args.view.now) xs i x _ _ _ _ l c.loop-place.invariant.1 refl refl)))
+    rw (p.1, p.2) (before_one _ _ _ _ _ c.loop-place.invariant.0 c.in_err-put_separator.ensures.err _ _ (sym (entries_step c.args.in_key (pair_of g.V.RankedNodes.tree g.V.RankedNodes.number c.args.view.now) xs i x _ _ _ _ l c.loop-place.invariant.1 refl refl)))
 
 pub put_flow_entries-returns-in_err-put_flow_entry-clause-limit : goal.put_flow_entries-returns-in_err-put_flow_entry-clause-limit
 put_flow_entries-returns-in_err-put_flow_entry-clause-limit g w c = c.in_err-put_flow_entry.ensures.limit ∙ c.in_ok-put_separator.ensures.limit ∙ c.loop-place.invariant.0
@@ -201,30 +201,30 @@ put_flow_entries-returns-in_err-put_flow_entry-clause-err g w c =
     let x = c.index-entries-place.result in
     let l = drop_item xs i x (omega arith) c.index-entries-place.is in
     let p = err_from_is_err_and c.from_residual-in_err-put_flow_entry.result c.from_residual-in_err-put_flow_entry.ensures.1 in
-    rw (p.1, p.2) (stops_longer _ _ _ _ _ _ (c.in_ok-put_separator.ensures.limit ∙ c.loop-place.invariant.0) (sym (entries_step (pair_of g.V.RankedNodes.tree g.V.RankedNodes.number c.args.view.now) xs i x _ _ _ _ l c.loop-place.invariant.1 c.in_ok-put_separator.ensures.ok refl)) c.in_err-put_flow_entry.ensures.err)
+    rw (p.1, p.2) (stops_longer _ _ _ _ _ _ (c.in_ok-put_separator.ensures.limit ∙ c.loop-place.invariant.0) (sym (entries_step c.args.in_key (pair_of g.V.RankedNodes.tree g.V.RankedNodes.number c.args.view.now) xs i x _ _ _ _ l c.loop-place.invariant.1 c.in_ok-put_separator.ensures.ok refl)) c.in_err-put_flow_entry.ensures.err)
 
 pub put_flow_entries-returns-clause-limit : goal.put_flow_entries-returns-clause-limit
 put_flow_entries-returns-clause-limit g w c = c.put-2.ensures.limit ∙ c.loop-place.invariant.0
 
 pub put_flow_entries-returns-clause-err : goal.put_flow_entries-returns-clause-err
 put_flow_entries-returns-clause-err g w c =
-    if_same c.put-2.result _ _ _ _ c.loop-place.invariant.0 (sym (entries_end (pair_of g.V.RankedNodes.tree g.V.RankedNodes.number c.args.view.now) c.args.entries.now c.loop-place.place _ _ _ (omega arith) c.loop-place.invariant.1 refl)) c.put-2.ensures.err
+    if_same c.put-2.result _ _ _ _ c.loop-place.invariant.0 (sym (entries_end c.args.in_key (pair_of g.V.RankedNodes.tree g.V.RankedNodes.number c.args.view.now) c.args.entries.now c.loop-place.place _ _ _ (omega arith) c.loop-place.invariant.1 refl)) c.put-2.ensures.err
 
 pub put_flow_entry-returns-in_err-put_mark-clause-err : goal.put_flow_entry-returns-in_err-put_mark-clause-err
 put_flow_entry-returns-in_err-put_mark-clause-err g w c =
     let p = err_from_is_err_and c.from_residual.result c.from_residual.ensures.1 in
-    rw (p.1, p.2) (before_two _ _ _ _ _ refl c.in_err-put_mark.ensures.err _ _ _ (sym (entry_written _ _ _ _ _ _ _ _ _ c.is_short-is_simple.ensures refl refl refl refl)))
+    rw (p.1, p.2) (before_two _ _ _ _ _ refl c.in_err-put_mark.ensures.err _ _ _ (sym (entry_written _ _ _ _ _ _ _ _ _ c.is_simple_key-is_simple.ensures refl refl refl refl)))
 
 pub put_flow_entry-returns-in_err-put_flow-clause-err : goal.put_flow_entry-returns-in_err-put_flow-clause-err
 put_flow_entry-returns-in_err-put_flow-clause-err g w c =
     let p = err_from_is_err_and c.from_residual-in_err-put_flow.result c.from_residual-in_err-put_flow.ensures.1 in
-    rw (p.1, p.2) (before_one _ _ _ _ _ c.in_ok-put_mark.ensures.limit c.in_err-put_flow.ensures.err _ _ (sym (entry_written _ _ _ _ _ _ _ _ _ c.is_short-is_simple.ensures c.in_ok-put_mark.ensures.ok refl refl refl)))
+    rw (p.1, p.2) (before_one _ _ _ _ _ c.in_ok-put_mark.ensures.limit c.in_err-put_flow.ensures.err _ _ (sym (entry_written _ _ _ _ _ _ _ _ _ c.is_simple_key-is_simple.ensures c.in_ok-put_mark.ensures.ok refl refl refl)))
 
 pub put_flow_entry-returns-in_err-put_colon-clause-err : goal.put_flow_entry-returns-in_err-put_colon-clause-err
 put_flow_entry-returns-in_err-put_colon-clause-err g w c =
     let p = err_from_is_err_and c.from_residual-in_err-put_colon.result c.from_residual-in_err-put_colon.ensures.1 in
-    rw (p.1, p.2) (stops_longer _ _ _ _ _ _ (c.in_ok-put_flow.ensures.limit ∙ c.in_ok-put_mark.ensures.limit) (sym (entry_written _ _ _ _ _ _ _ _ _ c.is_short-is_simple.ensures c.in_ok-put_mark.ensures.ok c.in_ok-put_flow.ensures.ok refl refl)) c.in_err-put_colon.ensures.err)
+    rw (p.1, p.2) (stops_longer _ _ _ _ _ _ (c.in_ok-put_flow.ensures.limit ∙ c.in_ok-put_mark.ensures.limit) (sym (entry_written _ _ _ _ _ _ _ _ _ c.is_simple_key-is_simple.ensures c.in_ok-put_mark.ensures.ok c.in_ok-put_flow.ensures.ok refl refl)) c.in_err-put_colon.ensures.err)
 
 pub put_flow_entry-returns-clause-err : goal.put_flow_entry-returns-clause-err
 put_flow_entry-returns-clause-err g w c =
-    if_same c.put_flow-2.result _ _ _ _ (c.in_ok-put_colon.ensures.limit ∙ c.in_ok-put_flow.ensures.limit ∙ c.in_ok-put_mark.ensures.limit) (sym (entry_written _ _ _ _ _ _ _ _ _ c.is_short-is_simple.ensures c.in_ok-put_mark.ensures.ok c.in_ok-put_flow.ensures.ok c.in_ok-put_colon.ensures.ok refl)) c.put_flow-2.ensures.err
+    if_same c.put_flow-2.result _ _ _ _ (c.in_ok-put_colon.ensures.limit ∙ c.in_ok-put_flow.ensures.limit ∙ c.in_ok-put_mark.ensures.limit) (sym (entry_written _ _ _ _ _ _ _ _ _ c.is_simple_key-is_simple.ensures c.in_ok-put_mark.ensures.ok c.in_ok-put_flow.ensures.ok c.in_ok-put_colon.ensures.ok refl)) c.put_flow-2.ensures.err
