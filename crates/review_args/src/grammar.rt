@@ -85,7 +85,8 @@ const MERGE_STATUSES: &str =
 at which it is not the merge.
 
 Where one side is as BASE, the merge has what the other side has. Where both sides are the same, it has that. Otherwise mappings are
-merged by their keys, and lists (and streams) of one length by their places. All else is one value: if both sides changed it, they conflict.
+merged by their keys. All else is one value: if both sides changed it, they conflict. A list is one value, and so is each of several
+documents.
 
 Exit status:
   0  both changes can be merged; with RESULT: it is the merge
