@@ -26,7 +26,7 @@ pub static YAML: [Row; 22] = [
         right: b"",
         status: 0,
         out: "---\n- \"yes\"\n- \"No\"\n- \"ON\"\n- \"off\"\n- \"y\"\n- \"N\"\n- \"12:30\"\n- \"0o7x\"\n- \"1_0\"\n- \"2001-01-01\"\n- \"~\"\n- \"=\"\n- \"<<\"\n- .inf\n",
-        err: "left:1:2: warning: yes: a string here, a bool in YAML 1.1\nleft:1:7: warning: No: a string here, a bool in YAML 1.1\nleft:1:11: warning: ON: a string here, a bool in YAML 1.1\nleft:1:15: warning: off: a string here, a bool in YAML 1.1\nleft:1:20: warning: y: a string here, a bool in YAML 1.1\nleft:1:23: warning: N: a string here, a bool in YAML 1.1\nleft:1:41: warning: 1_0: a string here, an int in YAML 1.1\nleft:1:65: warning: =: a string here, a default value in YAML 1.1\n",
+        err: "left:1:2: warning: yes: a string here, a bool in YAML 1.1\nleft:1:7: warning: No: a string here, a bool in YAML 1.1\nleft:1:11: warning: ON: a string here, a bool in YAML 1.1\nleft:1:15: warning: off: a string here, a bool in YAML 1.1\nleft:1:20: warning: y: a string here, a bool in YAML 1.1\nleft:1:23: warning: N: a string here, a bool in YAML 1.1\nleft:1:41: warning: 1_0: a string here, an int in YAML 1.1\nleft:1:65: warning: =: a string here, a default value in YAML 1.1\nleft:1:68: warning: <<: a string here, which PyYAML rejects\n",
     },
     Row {
         name: "so is what the core schema takes for another value",
