@@ -1,15 +1,15 @@
 //! Slips that are common in files, and what `faults` says of each: its cause.
 use crate::runs::{ALL, Given, run};
-use crate::slips::NODES;
-use crate::tool_slips::{FOREIGN, TOOLS};
+use crate::slips::{BLOCKS, ESCAPES, INDICATORS, LANGUAGES, MARKERS};
+use crate::tool_slips::{ANSIBLE, COMPOSE, FOREIGN, KUBERNETES, OPENAPI, WORKFLOWS};
 use std::process::Abort;
 use std::test::Fail;
 
 /// A file, and the words of its fault.
 pub type Slip = (&'static [u8], &'static str);
 
-static LINES: [Slip; 75] = [
-    // Indentation of flow collections and quoted scalars.
+/// Indentation of flow collections and quoted scalars.
+static INDENTATION: [Slip; 8] = [
     (
         b"k: [\n  a\n]\n",
         "the closing bracket must be indented more than its key: put one space before it",
@@ -42,7 +42,10 @@ static LINES: [Slip; 75] = [
         b"x:\n  k: \"a\n  b\"\n",
         "a line inside quotes must be indented more than its key: put one space before it",
     ),
-    // What is filled in, merged or copied from elsewhere.
+];
+
+/// What is filled in, merged or copied from elsewhere.
+static COPIED: [Slip; 18] = [
     (
         b"{{- if .Values.x }}\na: 1\n{{- end }}\n",
         "a template, not YAML: render it first",
@@ -112,7 +115,10 @@ static LINES: [Slip; 75] = [
         b"a: 1\nEOF\n",
         "this line is no entry of a mapping: write `key: value`",
     ),
-    // Spaces that are missing or of another kind.
+];
+
+/// Spaces that are missing or of another kind.
+static SPACES: [Slip; 21] = [
     (
         b"a:1\nb: 2\n",
         "line 1 has no space after its colon: write `: `",
@@ -191,7 +197,10 @@ static LINES: [Slip; 75] = [
         b"x: 1\n-b\n",
         "line 2 has no space after its dash: write `- `",
     ),
-    // What is not closed, or closed by something else.
+];
+
+/// What is not closed, or closed by something else.
+static UNCLOSED: [Slip; 28] = [
     (
         b"a: \"b\nc: d\n",
         "the quote opened at line 1, column 4 is not closed",
@@ -319,13 +328,73 @@ fn is_hinted<T: Abort + AllocGlobal>(rt: &T, slip: &Slip) -> Result<(), Fail> {
     Ok(())
 }
 
-#[test]
-fn hints_name_the_cause(rt: HostRuntime) -> Result<(), Fail> {
-    let tables: [&[Slip]; 4] = [&LINES, &NODES, &TOOLS, &FOREIGN];
-    for table in &tables {
-        for slip in *table {
-            is_hinted(&rt, slip)?;
-        }
+/// Whether each slip of a table has its hint.
+fn are_hinted<T: Abort + AllocGlobal>(rt: &T, table: &[Slip]) -> Result<(), Fail> {
+    for slip in table {
+        is_hinted(rt, slip)?;
     }
     Ok(())
+}
+
+#[test]
+fn hints_of_lines(rt: HostRuntime) -> Result<(), Fail> {
+    are_hinted(&rt, &INDENTATION)?;
+    are_hinted(&rt, &COPIED)
+}
+
+#[test]
+fn hints_of_spaces_and_ends(rt: HostRuntime) -> Result<(), Fail> {
+    are_hinted(&rt, &SPACES)?;
+    are_hinted(&rt, &UNCLOSED)
+}
+
+#[test]
+fn hints_of_markers(rt: HostRuntime) -> Result<(), Fail> {
+    are_hinted(&rt, &MARKERS)
+}
+
+#[test]
+fn hints_of_indicators_and_blocks(rt: HostRuntime) -> Result<(), Fail> {
+    are_hinted(&rt, &INDICATORS)?;
+    are_hinted(&rt, &BLOCKS)
+}
+
+#[test]
+fn hints_of_escapes(rt: HostRuntime) -> Result<(), Fail> {
+    are_hinted(&rt, &ESCAPES)
+}
+
+#[test]
+fn hints_of_languages(rt: HostRuntime) -> Result<(), Fail> {
+    are_hinted(&rt, &LANGUAGES)
+}
+
+#[test]
+fn hints_of_workflows(rt: HostRuntime) -> Result<(), Fail> {
+    are_hinted(&rt, &WORKFLOWS)
+}
+
+#[test]
+fn hints_of_compose(rt: HostRuntime) -> Result<(), Fail> {
+    are_hinted(&rt, &COMPOSE)
+}
+
+#[test]
+fn hints_of_kubernetes(rt: HostRuntime) -> Result<(), Fail> {
+    are_hinted(&rt, &KUBERNETES)
+}
+
+#[test]
+fn hints_of_ansible(rt: HostRuntime) -> Result<(), Fail> {
+    are_hinted(&rt, &ANSIBLE)
+}
+
+#[test]
+fn hints_of_openapi(rt: HostRuntime) -> Result<(), Fail> {
+    are_hinted(&rt, &OPENAPI)
+}
+
+#[test]
+fn hints_of_foreign_files(rt: HostRuntime) -> Result<(), Fail> {
+    are_hinted(&rt, &FOREIGN)
 }

@@ -1,8 +1,8 @@
 //! Slips outside quotes and brackets that are common in files, and the words of their faults.
 use crate::hints::Slip;
 
-pub static NODES: [Slip; 92] = [
-    // Dashes, keys and document markers.
+/// Dashes, keys and document markers.
+pub static MARKERS: [Slip; 37] = [
     (
         b"a: - b\n",
         "start a block sequence on the line after its key",
@@ -130,7 +130,10 @@ pub static NODES: [Slip; 92] = [
         b"- a\n  b: 1\n",
         "this line is read as more of the value above: indent it like the entries that it belongs to",
     ),
-    // Anchors, aliases, tags, and characters that begin no plain scalar.
+];
+
+/// Anchors, aliases, tags, and characters that begin no plain scalar.
+pub static INDICATORS: [Slip; 20] = [
     (b"- */5 * * * *\n", "quote a value that starts with `*`"),
     (b"cron: */5 * * * *\n", "quote a value that starts with `*`"),
     (b"cron: * * * * *\n", "quote a value that starts with `*`"),
@@ -196,7 +199,10 @@ pub static NODES: [Slip; 92] = [
         b"a: &x 1\n*x: b\n",
         "put a space before this colon: it is read as part of the alias's name",
     ),
-    // Block scalars.
+];
+
+/// Block scalars.
+pub static BLOCKS: [Slip; 9] = [
     (
         b"a: | text\n  b\n",
         "begin the text of a block scalar on the line after its `|` or `>`",
@@ -233,7 +239,10 @@ pub static NODES: [Slip; 92] = [
         b"a:\n|\n  x\n",
         "put the `|` or `>` of a block scalar on the line of its key, or indent it more than the key",
     ),
-    // Escapes, directives and encodings.
+];
+
+/// Escapes, directives and encodings.
+pub static ESCAPES: [Slip; 25] = [
     (
         b"\xFF\xFEa\0:\0 \01\0\n\0",
         "this is UTF-16: convert the file by `iconv -f UTF-16 -t UTF-8`",
@@ -325,9 +334,10 @@ pub static NODES: [Slip; 92] = [
         b"a: !x - b\n",
         "start a block sequence on the line after its anchor or tag",
     ),
-    // What is another language's.
-    (
-        b"[section]\nkey=v\n",
-        "this looks like TOML or INI, and is not YAML",
-    ),
 ];
+
+/// What is another language's.
+pub static LANGUAGES: [Slip; 1] = [(
+    b"[section]\nkey=v\n",
+    "this looks like TOML or INI, and is not YAML",
+)];

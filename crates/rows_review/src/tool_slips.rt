@@ -1,9 +1,8 @@
 //! Slips in files of tools and of other languages, and the words of their faults.
 use crate::hints::Slip;
 
-/// Slips in files of tools.
-pub static TOOLS: [Slip; 98] = [
-    // Workflows of GitHub.
+/// Workflows of GitHub.
+pub static WORKFLOWS: [Slip; 19] = [
     (b"branches: [main, *]\n", "an alias needs a name: quote `*`"),
     (
         b"x: [x, *-rc]\n",
@@ -74,7 +73,10 @@ pub static TOOLS: [Slip; 98] = [
         b"when: 'a' == b\n",
         "put quotes around the whole value, or remove what follows the closing quote or bracket",
     ),
-    // Files of compose.
+];
+
+/// Files of compose.
+pub static COMPOSE: [Slip; 18] = [
     (
         b"services:\n  web:\n    ports: - 80:80\n",
         "start a block sequence on the line after its key",
@@ -144,7 +146,10 @@ pub static TOOLS: [Slip; 98] = [
         b"args: [\"--port, \"8080\"]\n",
         "a quote before this text is not closed, or one is too many",
     ),
-    // Kubernetes and Helm.
+];
+
+/// Kubernetes and Helm.
+pub static KUBERNETES: [Slip; 25] = [
     (
         b"metadata:\n  annotations:\n    a: {\"b\": \"c\"\n    d: e\n",
         "the brace opened at line 3, column 8 is not closed",
@@ -245,7 +250,10 @@ pub static TOOLS: [Slip; 98] = [
         b"a:\n  - name: y\n  -- name: x\n",
         "line 3 has a dash too many: an item begins with `- `, and a comment with `#`",
     ),
-    // Ansible.
+];
+
+/// Ansible.
+pub static ANSIBLE: [Slip; 11] = [
     (
         b"- name: x\n  shell: {{ cmd }} a\n",
         "a template, not YAML: render it first, or quote the value",
@@ -287,7 +295,10 @@ pub static TOOLS: [Slip; 98] = [
         b"cmd: a \\\n  b \\\n  --c: d\n",
         "this line is read as more of the value above: indent it like the entries that it belongs to",
     ),
-    // OpenAPI, and JSON by hand.
+];
+
+/// OpenAPI, and JSON by hand.
+pub static OPENAPI: [Slip; 25] = [
     (
         b"{id}/items: x\n",
         "quote this key: without quotes `[` and `{` begin a collection",
