@@ -1,8 +1,8 @@
 /* yamlcanon.h: the canonical text of YAML 1.2 streams, and whether two streams mean the same.
  *
  * tools/library builds libyamlcanon.a, libyamlcanon.so.1 and yamlcanon.pc. What a call answers is proved against its
- * contract in crates/yaml_c/src (calls.rt, show.rt, diff.rt, values.rt), which say which text, which answer and which
- * error. Not proved are the bound of memory and yamlcanon_release; nothing checks this header against the contracts,
+ * contract in crates/yaml_c/src (calls.rt, show.rt, diff.rt, values.rt, position.rt), which say which text, which answer
+ * and which error. Not proved are the bound of memory and yamlcanon_release; nothing checks this header against the contracts,
  * nor what a caller passes.
  *
  * A caller owes, for the time of the call:
@@ -15,7 +15,8 @@
  *     with threads;
  *   - 1,792 KiB of stack. The deepest input takes 1,400 kB. Where the stack is smaller, as on threads that have 128 KiB
  *     by default, such an input ends the process by a fault. An input of n bytes, up to 1,024, takes no more than
- *     256 + 1.5 * n KiB. yamlcanon_message, yamlcanon_position and those without arguments take less than 16 KiB.
+ *     256 + 1.5 * n KiB. yamlcanon_message, yamlcanon_position of a fault from 2 to 11, and those without arguments take
+ *     less than 16 KiB.
  *
  * The calls print nothing, open nothing, never end the process, hold no state but the bound of memory, keep no memory
  * and no pointer after they return, and may run on any number of threads at once. An input has at most 67,108,864
@@ -49,7 +50,8 @@ enum {
     YAMLCANON_REFUSED = 2,   /* an input is rejected, and *fault says why */
     YAMLCANON_SHORT = 3,     /* out has less room than the text, whose length is in *len */
     YAMLCANON_NO_JSON = 4,   /* yamlcanon_json alone: JSON cannot express the stream */
-    YAMLCANON_UNLIKE = 5     /* yamlcanon_json alone: the lines did not pass their check. No input is known for this */
+    YAMLCANON_UNLIKE = 5,    /* yamlcanon_json alone: the lines did not pass their check. No input is known for this */
+    YAMLCANON_NO_MEMORY = 6  /* the calls for positions alone: there is no memory to read the input again */
 };
 
 /* The numbers of faults. A number is never used again; a later library may have more. */
@@ -114,8 +116,8 @@ uint32_t yamlcanon_show(const uint8_t *input, size_t n, uint8_t *out, size_t cap
                         yamlcanon_fault *fault);
 
 /* The same of JSON (RFC 8259), a line for each document. Its numbers have a point or an exponent where they are floats.
- * NO_JSON: a key is no string, a float is .inf, -.inf or .nan, or a tag is none of the core schema. `yamlreview show
- * --format=json` says which and where. UNLIKE: a fault of the library. With both nothing is written. */
+ * NO_JSON: a key is no string, a float is .inf, -.inf or .nan, or a tag is none of the core schema. yamlcanon_json_position
+ * says where, `yamlreview show --format=json` also which. UNLIKE: a fault of the library. With both nothing is written. */
 uint32_t yamlcanon_json(const uint8_t *input, size_t n, uint8_t *out, size_t cap, size_t *len,
                         yamlcanon_fault *fault);
 
@@ -196,12 +198,19 @@ uint32_t yamlcanon_values(const uint8_t *input, size_t n, const yamlcanon_rooms 
  * SHORT: cap is at most *len, the message's length; out is as it was. REFUSED: no fault has this number. */
 uint32_t yamlcanon_message(const yamlcanon_fault *fault, char *out, size_t cap, size_t *len);
 
-/* Puts the line and the column of a fault from 2 to 11 in its input, which is the right one where fault->side is 1,
+/* Puts the line and the column of a fault from 2 to 19 in its input, which is the right one where fault->side is 1,
  * into *line and *column, both from 1. They are those that yamlreview faults prints: a line ends with a line feed, a
  * carriage return or both (YAML 1.2.2, 5.4), and a column counts characters; a byte order mark at the start has none.
- * REFUSED: the fault has another number, or its place is after the end of the input; *line and *column are as they were. */
+ * The place of 12, 13, 16 and 17 is where the event's own text begins, of 14 and 15 the event's tag if it has one, of 18
+ * the document's root, of 19 the second of the two equal keys. For 12 to 19 the input is read again, which takes stack and
+ * memory. Of *fault number, place, first and second are read.
+ * REFUSED: the fault has another number, or no place in this input. NO_MEMORY: 12 to 19 alone. With both *line and *column
+ * are as they were. */
 uint32_t yamlcanon_position(const uint8_t *input, size_t n, const yamlcanon_fault *fault, size_t *line,
                             size_t *column);
+
+/* The same of the first node that JSON cannot express, if yamlcanon_json answers NO_JSON. REFUSED: there is none. */
+uint32_t yamlcanon_json_position(const uint8_t *input, size_t n, size_t *line, size_t *column);
 
 /* Bounds the memory that calls on this thread may hold at once, in bytes, with 16 more for each block that they ask
  * for; 0, as at the start, is no bound. Beyond it a call answers 21. What the allocator needs besides is not
@@ -231,6 +240,9 @@ uint32_t yamlcanon_sha256_within(const uint8_t *input, size_t n, uint8_t out[32]
                                  size_t memory);
 uint32_t yamlcanon_values_within(const uint8_t *input, size_t n, const yamlcanon_rooms *rooms,
                                  yamlcanon_lengths *lengths, yamlcanon_fault *fault, size_t memory);
+uint32_t yamlcanon_position_within(const uint8_t *input, size_t n, const yamlcanon_fault *fault, size_t *line,
+                                   size_t *column, size_t memory);
+uint32_t yamlcanon_json_position_within(const uint8_t *input, size_t n, size_t *line, size_t *column, size_t memory);
 
 #ifdef __cplusplus
 }

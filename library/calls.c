@@ -13,6 +13,7 @@ uint32_t yaml_c_diff(const uint8_t *left, size_t left_n, const uint8_t *right, s
 uint32_t yaml_c_sha256(const uint8_t *input, size_t n, uint8_t *out, yamlcanon_fault *fault);
 uint32_t yaml_c_message(const yamlcanon_fault *fault, uint8_t *out, size_t cap, size_t *len);
 uint32_t yaml_c_position(const uint8_t *input, size_t n, const yamlcanon_fault *fault, size_t *line, size_t *column);
+uint32_t yaml_c_json_position(const uint8_t *input, size_t n, size_t *line, size_t *column);
 
 static uint8_t nothing;
 
@@ -77,6 +78,11 @@ uint32_t yamlcanon_position(const uint8_t *input, size_t n, const yamlcanon_faul
     return yaml_c_position(bytes(input, n), n, fault, line, column);
 }
 
+uint32_t yamlcanon_json_position(const uint8_t *input, size_t n, size_t *line, size_t *column)
+{
+    return yaml_c_json_position(bytes(input, n), n, line, column);
+}
+
 uint32_t yamlcanon_canonical_within(const uint8_t *input, size_t n, uint8_t *out, size_t cap, size_t *len, yamlcanon_fault *fault,
                                     size_t memory)
 {
@@ -135,6 +141,23 @@ uint32_t yamlcanon_sha256_within(const uint8_t *input, size_t n, uint8_t out[32]
 {
     size_t before = yaml_c_bound(memory);
     uint32_t status = yamlcanon_sha256(input, n, out, fault);
+    yaml_c_unbound(before);
+    return status;
+}
+
+uint32_t yamlcanon_position_within(const uint8_t *input, size_t n, const yamlcanon_fault *fault, size_t *line, size_t *column,
+                                   size_t memory)
+{
+    size_t before = yaml_c_bound(memory);
+    uint32_t status = yamlcanon_position(input, n, fault, line, column);
+    yaml_c_unbound(before);
+    return status;
+}
+
+uint32_t yamlcanon_json_position_within(const uint8_t *input, size_t n, size_t *line, size_t *column, size_t memory)
+{
+    size_t before = yaml_c_bound(memory);
+    uint32_t status = yamlcanon_json_position(input, n, line, column);
     yaml_c_unbound(before);
     return status;
 }

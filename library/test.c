@@ -173,23 +173,52 @@ static void in_json(const struct file *file, const struct answer *text)
     else if (yamlcanon_same(file->at, file->n, text->room, text->len, &fault) != YAMLCANON_DONE) wrong(file, "not the same as its JSON");
 }
 
-/* The line and the column of a byte, counted from the start: a line more for each break that ends before it. */
+/* From the line and the column of a byte to those of the next one: a line more where a break ends. */
+static void step(const uint8_t *text, size_t k, size_t n, size_t *line, size_t *column)
+{
+    if (text[k] == '\n' || (text[k] == '\r' && !(k + 1 < n && text[k + 1] == '\n'))) ++*line, *column = 1;
+    else *column += text[k] < 128 || text[k] >= 192;
+}
+
+/* The line and the column of a byte, counted from the start. */
 static void by_definition(const uint8_t *text, size_t at, size_t n, size_t *line, size_t *column)
 {
     *line = *column = 1;
-    for (size_t k = 0; k < at; k++) {
-        if (text[k] == '\n' || (text[k] == '\r' && !(k + 1 < n && text[k + 1] == '\n'))) ++*line, *column = 1;
-        else *column += text[k] < 128 || text[k] >= 192;
-    }
+    for (size_t k = 0; k < at; k++) step(text, k, n, line, column);
+}
+
+/* Whether a file has this line and this column. */
+static int is_in(const struct file *file, size_t line, size_t column)
+{
+    size_t at = file->n >= 3 && !memcmp(file->at, "\xef\xbb\xbf", 3) ? 3 : 0, own_line = 1, own_column = 1;
+    for (; at < file->n && !(own_line == line && own_column == column); at++) step(file->at, at, file->n, &own_line, &own_column);
+    return own_line == line && own_column == column;
+}
+
+/* Of what JSON cannot express. */
+static void json_position_of(const struct file *file)
+{
+    size_t line = UNTOLD, column = UNTOLD, other_line = UNTOLD, other_column = UNTOLD;
+    if (yamlcanon_json_position(file->at, file->n, &line, &column) != YAMLCANON_DONE) wrong(file, "no position of what JSON lacks");
+    else if (!is_in(file, line, column)) wrong(file, "a position of what JSON lacks that the file does not have");
+    if (yamlcanon_json_position_within(file->at, file->n, &other_line, &other_column, 1) != YAMLCANON_NO_MEMORY || other_line != UNTOLD
+        || other_column != UNTOLD)
+        wrong(file, "a position of what JSON lacks within 1 byte");
 }
 
 static void position_of(const struct file *file, const yamlcanon_fault *fault)
 {
     size_t line = UNTOLD, column = UNTOLD, own_line, own_column;
     size_t mark = file->n >= 3 && !memcmp(file->at, "\xef\xbb\xbf", 3) ? 3 : 0;
-    if (yamlcanon_position(file->at, file->n, fault, &line, &column) != YAMLCANON_DONE) {
-        if (fault->number >= 2 && fault->number <= 11) wrong(file, "no position");
+    uint32_t status = yamlcanon_position(file->at, file->n, fault, &line, &column);
+    if (yamlcanon_held()) wrong(file, "memory is kept by position");
+    if (status != YAMLCANON_DONE) {
+        if (fault->number >= 2 && fault->number <= 19) wrong(file, "no position");
         if (line != UNTOLD || column != UNTOLD) wrong(file, "a position beside a refusal");
+        return;
+    }
+    if (fault->number > 11) {
+        if (!is_in(file, line, column)) wrong(file, "a position that the file does not have");
         return;
     }
     by_definition(file->at + mark, fault->place - mark, file->n - mark, &own_line, &own_column);
@@ -255,6 +284,11 @@ static void nulls(void)
     if (yamlcanon_position(NULL, 0, &fault, &line, &column) != YAMLCANON_DONE || line != 1 || column != 1) wrong(&null, "position");
     fault.place = 1;
     if (yamlcanon_position(NULL, 0, &fault, &line, &column) != YAMLCANON_REFUSED) wrong(&null, "position behind the end");
+    fault.number = YAMLCANON_FAULT_EQUAL_KEYS;
+    if (yamlcanon_position(NULL, 0, &fault, &line, &column) != YAMLCANON_REFUSED) wrong(&null, "position of no node");
+    if (yamlcanon_position_within(NULL, 0, &fault, &line, &column, 1) != YAMLCANON_NO_MEMORY) wrong(&null, "position within 1 byte");
+    if (yamlcanon_json_position(NULL, 0, &line, &column) != YAMLCANON_REFUSED) wrong(&null, "json_position");
+    if (line != 1 || column != 1) wrong(&null, "a position beside a refusal");
     if (yamlcanon_held()) wrong(&null, "memory is kept");
 }
 
@@ -293,6 +327,8 @@ static void rooms(text_call *call, const struct file *file)
         if (!is_own(&other, &none)) wrong(file, "two refusals");
         message_of(file, &none.fault);
         position_of(file, &none.fault);
+    } else if (none.status == YAMLCANON_NO_JSON && is_own(&other, &none)) {
+        json_position_of(file);
     } else if (none.status == YAMLCANON_DONE ? none.len : !is_own(&other, &none)) {
         wrong(file, "an empty room with a text, or two answers");
     }

@@ -6,7 +6,7 @@ import "C"
 import "errors"
 
 // ErrNoJSON is the error of ToJSON for an input that is accepted and that JSON cannot express: a key is no string, a float is .inf,
-// -.inf or .nan, or a tag is none of the core schema. yamlreview show --format=json says which it is and where.
+// -.inf or .nan, or a tag is none of the core schema. JSONPosition says where it is, and yamlreview show --format=json also which.
 var ErrNoJSON = errors.New("JSON cannot express this stream")
 
 // ErrUnlike is the error of ToJSON where the lines did not pass their check: a fault of the library. No input is known for this.
@@ -26,3 +26,14 @@ func (l Limits) Show(input []byte) ([]byte, error) { return l.text(C.YC_SHOW, in
 
 // ToJSON is the call of this name under these limits.
 func (l Limits) ToJSON(input []byte) ([]byte, error) { return l.text(C.YC_JSON, input) }
+
+// JSONPosition is the line and the column of the first node that JSON cannot express, both from 1; not ok if there is none.
+func JSONPosition(input []byte) (line, column int, ok bool) { return Limits{}.JSONPosition(input) }
+
+// JSONPosition is the call of this name under these limits; not ok if they do not allow to find it.
+func (l Limits) JSONPosition(input []byte) (line, column int, ok bool) {
+	running <- struct{}{}
+	defer func() { <-running }()
+	answer := C.yc_json_position(first(input), C.size_t(len(input)), C.size_t(l.Memory))
+	return int(answer.line), int(answer.column), answer.status == C.YAMLCANON_DONE
+}

@@ -4,6 +4,7 @@ import (
 	"bytes"
 	"encoding/json"
 	"errors"
+	"strings"
 	"testing"
 )
 
@@ -45,5 +46,24 @@ func TestToJSON(t *testing.T) {
 	}
 	if _, err := ToJSON([]byte("[a")); refusal(t, err).Kind != Syntax {
 		t.Error(err)
+	}
+}
+
+func TestJSONPosition(t *testing.T) {
+	deep := strings.Repeat("[", 1000) + "{~: b}" + strings.Repeat("]", 1000)
+	for input, wanted := range map[string][2]int{
+		"a: 1\nb: .inf\nc: .nan": {2, 4}, "a: 1\n80: x": {2, 1}, "a\n--- [b, !x c]": {2, 9}, deep: {1, 1002},
+	} {
+		if line, column, ok := JSONPosition([]byte(input)); !ok || line != wanted[0] || column != wanted[1] {
+			t.Errorf("%.40q: %d:%d", input, line, column)
+		}
+		if _, _, ok := (Limits{Memory: 1000}).JSONPosition([]byte(input)); ok {
+			t.Errorf("%.40q: a position in 1,000 bytes", input)
+		}
+	}
+	for _, input := range []string{"a", "", "[a"} {
+		if line, column, ok := JSONPosition([]byte(input)); ok {
+			t.Errorf("%q: %d:%d", input, line, column)
+		}
 	}
 }

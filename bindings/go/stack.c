@@ -35,7 +35,7 @@ static int has_stack_for(size_t n)
     return lowest <= here && here < end && here - lowest >= BASE + LEVEL * (n < LEVELS ? n : LEVELS);
 }
 
-enum { SAME = YC_JSON + 1, SHA256, DIFF, VALUES };
+enum { SAME = YC_JSON + 1, SHA256, DIFF, VALUES, POSITION, JSON_POSITION };
 
 struct work {
     int which;
@@ -43,6 +43,7 @@ struct work {
     size_t left_n, right_n, lines, cap, memory;
     uint8_t *out;
     yamlcanon_rooms rooms;
+    yamlcanon_fault fault;
     yc_answer answer;
 };
 
@@ -68,6 +69,12 @@ static void *call(void *at)
         break;
     case DIFF:
         a->status = yamlcanon_diff_within(w->left, w->left_n, w->right, w->right_n, w->lines, w->out, w->cap, &a->len, &a->fault, w->memory);
+        break;
+    case POSITION:
+        a->status = yamlcanon_position_within(w->left, w->left_n, &w->fault, &a->line, &a->column, w->memory);
+        break;
+    case JSON_POSITION:
+        a->status = yamlcanon_json_position_within(w->left, w->left_n, &a->line, &a->column, w->memory);
         break;
     case VALUES:
         a->status = yamlcanon_values_within(w->left, w->left_n, &w->rooms, &a->lengths, &a->fault, w->memory);
@@ -139,8 +146,18 @@ uint32_t yc_message(uint32_t number, uint64_t place, uint64_t first, uint64_t se
     return yamlcanon_message(&fault, out, YAMLCANON_MESSAGE, len);
 }
 
-uint32_t yc_position(uint32_t number, uint64_t place, const uint8_t *input, size_t n, size_t *line, size_t *column)
+/* For a fault at a byte nothing is read, which takes little stack. */
+yc_answer yc_position(uint32_t number, uint64_t place, uint64_t first, uint64_t second, const uint8_t *input, size_t n, size_t memory)
 {
-    yamlcanon_fault fault = {.number = number, .place = place};
-    return yamlcanon_position(input, n, &fault, line, column);
+    struct work w = {.which = POSITION, .left = input, .left_n = n, .memory = memory};
+    w.fault = (yamlcanon_fault){.number = number, .place = place, .first = first, .second = second};
+    if (number > YAMLCANON_FAULT_BAD_TAG) return made(&w, n);
+    call(&w);
+    return w.answer;
+}
+
+yc_answer yc_json_position(const uint8_t *input, size_t n, size_t memory)
+{
+    struct work w = {.which = JSON_POSITION, .left = input, .left_n = n, .memory = memory};
+    return made(&w, n);
 }

@@ -9,7 +9,7 @@ enum { YC_CANONICAL, YC_EVENTS, YC_SHOW, YC_JSON };
 
 typedef struct {
     uint32_t status;
-    size_t len;
+    size_t len, line, column;
     yamlcanon_lengths lengths;
     yamlcanon_fault fault;
 } yc_answer;
@@ -26,6 +26,7 @@ yc_answer yc_sha256(const uint8_t *input, size_t n, uint8_t *out, size_t memory)
 
 /* The message of a fault, and its position: of its fields those that are passed are read. */
 uint32_t yc_message(uint32_t number, uint64_t place, uint64_t first, uint64_t second, char *out, size_t *len);
-uint32_t yc_position(uint32_t number, uint64_t place, const uint8_t *input, size_t n, size_t *line, size_t *column);
+yc_answer yc_position(uint32_t number, uint64_t place, uint64_t first, uint64_t second, const uint8_t *input, size_t n, size_t memory);
+yc_answer yc_json_position(const uint8_t *input, size_t n, size_t memory);
 
 #endif

@@ -122,10 +122,19 @@ func (r *Refused) message() (text string, ok bool) {
 	return C.GoStringN(&room[0], C.int(length)), status == C.YAMLCANON_DONE
 }
 
-// Position is the line and the column of Offset in the input that is rejected, both from 1, as yamlreview faults counts them. A
-// line ends with a line feed, a carriage return, or both (YAML 1.2.2, 5.4). A column counts characters. A byte order mark has none.
+// Position is the line and the column of the place in the input that is rejected, both from 1, as yamlreview faults prints them: of
+// the byte, of the event's text, of the document's root, or of the second of two equal keys. TooLong, TextTooLong and OutOfMemory have
+// none. A line ends with a line feed, a carriage return, or both (YAML 1.2.2, 5.4). A column counts characters. A byte order mark has
+// none. For UndefinedAlias to EqualKeys the input is read again.
 func (r *Refused) Position(input []byte) (line, column int, ok bool) {
-	var row, at C.size_t
-	status := C.yc_position(C.uint32_t(r.Kind), C.uint64_t(r.Place), first(input), C.size_t(len(input)), &row, &at)
-	return int(row), int(at), status == C.YAMLCANON_DONE
+	return Limits{}.Position(r, input)
+}
+
+// Position is that of the error under these limits; not ok if they do not allow to find it.
+func (l Limits) Position(r *Refused, input []byte) (line, column int, ok bool) {
+	running <- struct{}{}
+	defer func() { <-running }()
+	kind, place, one, other := C.uint32_t(r.Kind), C.uint64_t(r.Place), C.uint64_t(r.First), C.uint64_t(r.Second)
+	answer := C.yc_position(kind, place, one, other, first(input), C.size_t(len(input)), C.size_t(l.Memory))
+	return int(answer.line), int(answer.column), answer.status == C.YAMLCANON_DONE
 }

@@ -133,6 +133,38 @@ func TestPositionIsThatOfTheDefinition(t *testing.T) {
 	}
 }
 
+func TestPositionsOfEventsDocumentsAndKeys(t *testing.T) {
+	deep := strings.Repeat("[", 1000) + "{a: 1, 'a': 2}" + strings.Repeat("]", 1000)
+	for _, one := range []struct {
+		kind         Kind
+		input        string
+		line, column int
+	}{
+		{UndefinedAlias, "a: 1\nb: *x\n", 2, 4},
+		{CyclicAlias, "a: &a\n  b: [*a]", 2, 7},
+		{WrongKind, "a: 1\nb: !!seq x", 2, 4},
+		{BadContent, "a: 1\r\nb: &x !!int x", 2, 7},
+		{IntRange, "\ufeff0xffffffffffffffffffffffffffffffff", 1, 1},
+		{FloatRange, "é: [é, 1e-1000001]", 1, 8},
+		{TooHigh, "--- a\n---\n" + strings.Repeat("- ", 1024) + "x", 3, 1},
+		{EqualKeys, "- {b: 1}\n- a: 1\n  b: 2\n  a: 3", 4, 3},
+		{EqualKeys, deep, 1, 1008},
+	} {
+		input := []byte(one.input)
+		_, err := Canonical(input)
+		r := refusal(t, err)
+		if line, column, ok := r.Position(input); r.Kind != one.kind || !ok || line != one.line || column != one.column {
+			t.Errorf("%v of %.40q: %d:%d", &r, input, line, column)
+		}
+		if line, column, ok := (Limits{Memory: 1000}).Position(&r, input); ok {
+			t.Errorf("%v has the position %d:%d in 1,000 bytes", &r, line, column)
+		}
+		if line, column, ok := r.Position([]byte("[a")); ok {
+			t.Errorf("%v has the position %d:%d in another input", &r, line, column)
+		}
+	}
+}
+
 func deepest() [][]byte {
 	return [][]byte{
 		[]byte(strings.Repeat("[", 1000) + strings.Repeat("]", 1000)),

@@ -28,16 +28,19 @@ from yamlcanon import (
     budget,
     canonical,
     canonical_file,
+    diff,
     events,
     iter_events,
     library_release,
     library_version,
+    load,
     same,
     sha256,
     show,
     to_json,
 )
-from yamlcanon.library import message_of, position_of
+from yamlcanon.library import message_of
+from yamlcanon.position import position_of
 
 # A command finds the module where these tests have found it.
 ENVIRONMENT = {**os.environ, "PYTHONPATH": os.path.dirname(os.path.dirname(os.path.realpath(yamlcanon.__file__)))}
@@ -58,6 +61,28 @@ REFUSED = (
     b"\xff", b"a\0", b"[a", b"a:\tb", b"a" * 1025 + b": b", b"[" * 1025, b'"\\q"', b"%YAML 1.3\n---\n", b"!e!x v", b"!!%ff x", b"[*x]", b"&a [*a]",
     b"!!seq x", b"!!int x", b"0x8" + b"0" * 31, b"1e-1000001", b"{1: a, 0x1: b}",
 )  # fmt: skip
+
+
+# Inputs that are rejected for an event, a document or two keys, with the number of the error, the line and the column.
+PLACED = (
+    (b"a: 1\nb: *x\n", 12, (2, 4)),
+    (b"a: &a\n  b: [*a]", 13, (2, 7)),
+    (b"a: 1\nb: !!seq x", 14, (2, 4)),
+    (b"a: 1\r\nb: &x !!int x", 15, (2, 7)),
+    (b"\xef\xbb\xbf0x8" + b"0" * 31, 16, (1, 1)),
+    ("\u00e9: [\u00e9, 1e-1000001]".encode(), 17, (1, 8)),
+    (b"--- a\n---\n" + b"- " * 1024 + b"x", 18, (3, 1)),
+    (b"- {b: 1}\n- a: 1\n  b: 2\n  a: 3", 19, (4, 3)),
+    (b"[" * 1000 + b"{a: 1, 'a': 2}" + b"]" * 1000, 19, (1, 1008)),
+)
+
+# Inputs that JSON cannot express, with the line and the column of the first such node.
+UNSAYABLE = (
+    (b"a: 1\nb: .inf\nc: .nan", (2, 4)),
+    (b"a: 1\n80: x", (2, 1)),
+    (b"a\n--- [b, !x c]", (2, 9)),
+    (b"[" * 1000 + b"{~: b}" + b"]" * 1000, (1, 1002)),
+)
 
 
 def position_by_definition(data, at):
@@ -82,6 +107,14 @@ def or_memory(work):
         return work()
     except MemoryError:
         return MemoryError
+
+
+def refusal(work):
+    """What some work raises."""
+    try:
+        return work()
+    except ValueError as fault:
+        return fault
 
 
 def on_thread(stack, work):
@@ -148,9 +181,12 @@ class Calls(unittest.TestCase):
             with self.assertRaisesRegex(NoJson, "^JSON cannot express this stream$"):
                 to_json(data)
         self.assertTrue(issubclass(NoJson, ValueError) and not issubclass(NoJson, Refused))
-        with self.assertRaises(NoJson) as seen:
-            to_json("{1: a}")
-        self.assertEqual(str(pickle.loads(pickle.dumps(seen.exception))), str(seen.exception))
+        for data, place in UNSAYABLE:
+            for stack in (64 << 10, 0):
+                fault = on_thread(stack, lambda data=data: refusal(lambda: to_json(data)))
+                self.assertEqual((type(fault), fault.line, fault.column), (NoJson, *place), data)
+            again = pickle.loads(pickle.dumps(fault))
+            self.assertEqual((str(again), vars(again)), (str(fault), vars(fault)))
 
     def test_events_one_by_one(self):
         data = "- a\n- |\n  \u2028b\x85\n---\n&x {}"
@@ -258,7 +294,7 @@ class Calls(unittest.TestCase):
         self.assertEqual(sorted(found), list(range(1, 21)))
         for number, fault in found.items():
             self.assertEqual((fault.kind, fault.kind.name), (number, fault.name))
-            self.assertEqual(fault.line is None, not 2 <= number <= 11)
+            self.assertEqual(fault.line is None, number in (1, 20))
 
     def test_the_message_of_an_error_that_the_library_does_not_know(self):
         self.assertIsNone(message_of(24, 0, 0, 0))
@@ -288,7 +324,18 @@ class Calls(unittest.TestCase):
             for at in range(len(data) + 1):
                 self.assertEqual(position_of(data, 4, at), position_by_definition(data, at), (data, at))
             self.assertIsNone(position_of(data, 4, len(data) + 1))
-            self.assertIsNone(position_of(data, 12, 0))
+            self.assertIsNone(position_of(data, 20, 0))
+
+    def test_lines_and_columns_of_events_documents_and_keys(self):
+        for data, number, place in PLACED:
+            for call in (canonical, show, to_json, sha256, load, lambda it: same(b"a", it), lambda it: diff(it, b"a")):
+                fault = refusal(lambda call=call, data=data: call(data))
+                self.assertEqual((fault.number, fault.line, fault.column), (number, *place), data)
+            small = on_thread(64 << 10, lambda data=data: refusal(lambda: canonical(data)))
+            self.assertEqual((small.line, small.column), place)
+            self.assertIsNone(Refused(number, fault.name, fault.place).locate(data, 1000).line)
+            self.assertEqual(position_of(data, number, 1 << 62), None)
+            self.assertIsNone(position_of(b"[a", number, fault.place))
 
     def test_a_place_is_found_in_the_input_that_is_rejected(self):
         left, right = b"a:\r\n  b: \xc3\xa9\xc3\xa9\r\n  c: 1\r\n\td: 2", b"\xef\xbb\xbf- a\n- %"

@@ -29,4 +29,8 @@ complete -c yamlreview -n '__fish_seen_subcommand_from show' -l strict -d 'Do no
 complete -c yamlreview -n '__fish_seen_subcommand_from show' -l textconv -d 'Write a rejected file as it is'
 complete -c yamlreview -n '__fish_seen_subcommand_from sum' -l files-from -r -F -d 'Take names from a list'
 complete -c yamlreview -n '__fish_seen_subcommand_from sum' -l check -r -F -d 'Check the digests of a list'
+complete -c yamlreview -n '__fish_seen_subcommand_from sum' -l ignore-missing -d 'Leave out files that are not there'
+complete -c yamlreview -n '__fish_seen_subcommand_from sum' -l quiet -d 'Print no line for a file that has its digest'
+complete -c yamlreview -n '__fish_seen_subcommand_from sum' -l status -d 'Print nothing of files'
+complete -c yamlreview -n '__fish_seen_subcommand_from sum' -l strict -d 'End with status 1 for a line that is no digest'
 complete -c yamlreview -n '__fish_seen_subcommand_from git' -l lines -x -a show -d 'Print changed lines'

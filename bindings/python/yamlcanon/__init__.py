@@ -99,13 +99,13 @@ def _memory(memory: Optional[int]) -> int:
     return _limit.get() if memory is None else _checked(memory)
 
 
-def _raised(fault: Fault, *inputs: bytes) -> Exception:
-    """What a call on this input, or on these two, raises."""
+def _raised(fault: Fault, memory: int, *inputs: bytes) -> Exception:
+    """What a call on this input, or on these two, raises under a memory limit."""
     if fault.number == _OUT_OF_MEMORY:
         return MemoryError("yamlcanon: 21 OutOfMemory")
     side = ("left", "right")[fault.side] if len(inputs) > 1 else None
     refused = Refused(fault.number, fault.name.decode(), fault.place, fault.first, fault.second, side)
-    return refused.locate(inputs[fault.side])
+    return refused.locate(inputs[fault.side], memory)
 
 
 def _bytes(data: Data) -> bytes:
@@ -133,9 +133,9 @@ def _text(call: Any, data: Data, memory: Optional[int]) -> bytes:
         room = _thread.take_room(length.value)
         status = called(room)
     if status == REFUSED:
-        raise _raised(fault, own)
+        raise _raised(fault, limit, own)
     if status != DONE:
-        raise _unwritten(status)
+        raise _unwritten(status, own, limit)
     text = bytes(memoryview(room)[: length.value])
     _thread.keep_room(room)
     return text
@@ -229,11 +229,11 @@ def same(left: Data, right: Data, *, memory: Optional[int] = None) -> bool:
     yamlcanon.Refused: right: 4 Syntax at byte 5
     """
     left, right = _bytes(left), _bytes(right)
-    size, fault = max(len(left), len(right)), Fault()
+    size, fault, limit = max(len(left), len(right)), Fault(), _memory(memory)
     call = _lib.yamlcanon_same_within
-    status = status_of(size, call, left, len(left), right, len(right), byref(fault), _memory(memory))
+    status = status_of(size, call, left, len(left), right, len(right), byref(fault), limit)
     if status == REFUSED:
-        raise _raised(fault, left, right)
+        raise _raised(fault, limit, left, right)
     return status == DONE
 
 
@@ -253,10 +253,10 @@ def diff(left: Data, right: Data, *, lines: int = 1000, memory: Optional[int] = 
     """
     if not 0 <= lines <= _MOST:
         raise ValueError(f"yamlcanon: lines is a number from 0 to {_MOST}, not {lines}")
-    left, right = _bytes(left), _bytes(right)
-    text, fault = lines_of(left, right, lines, _memory(memory))
+    left, right, limit = _bytes(left), _bytes(right), _memory(memory)
+    text, fault = lines_of(left, right, lines, limit)
     if text is None:
-        raise _raised(fault, left, right)
+        raise _raised(fault, limit, left, right)
     return differences_in(text)
 
 
@@ -268,9 +268,9 @@ def sha256(data: Data, *, memory: Optional[int] = None) -> bytes:
     >>> sha256("a: 0x3") == sha256("{a: 3}")
     True
     """
-    own, digest, fault = _bytes(data), ctypes.create_string_buffer(_DIGEST), Fault()
-    if status_of(len(own), _lib.yamlcanon_sha256_within, own, len(own), digest, byref(fault), _memory(memory)) != DONE:
-        raise _raised(fault, own)
+    own, digest, fault, limit = _bytes(data), ctypes.create_string_buffer(_DIGEST), Fault(), _memory(memory)
+    if status_of(len(own), _lib.yamlcanon_sha256_within, own, len(own), digest, byref(fault), limit) != DONE:
+        raise _raised(fault, limit, own)
     return digest.raw
 
 
@@ -330,10 +330,10 @@ def load(data: Data, *, memory: Optional[int] = None, floats: Callable[[str], An
     Traceback (most recent call last):
     yamlcanon.TooManyNodes: the values have 3 nodes, and the limit is 2
     """
-    own = _bytes(data)
-    records, fault = records_of(own, _memory(memory))
+    own, cap = _bytes(data), _memory(memory)
+    records, fault = records_of(own, cap)
     if records is None:
-        raise _raised(fault, own)
+        raise _raised(fault, cap, own)
     return values_in(records, floats, limit_for(own) if limit is None else limit)
 
 

@@ -5,7 +5,7 @@ import os
 from ctypes import POINTER, Structure, byref, c_char, c_char_p, c_size_t, c_uint32, c_uint64, c_void_p
 from typing import Optional, Tuple
 
-__all__ = ["DONE", "FORM", "NO_JSON", "REFUSED", "SHORT", "Fault", "file", "lib", "libc", "message_of", "position_of"]
+__all__ = ["DONE", "FORM", "NO_JSON", "REFUSED", "SHORT", "Fault", "file", "lib", "libc", "message_of"]
 
 # The form of the texts: yamlcanon-form-1. Another form has another soname, and with it another version of each exported name.
 FORM = 1
@@ -97,8 +97,10 @@ def _load() -> Tuple[ctypes.CDLL, str]:
     own.yamlcanon_values_within.argtypes = [c_void_p, c_size_t, c_void_p, c_void_p, POINTER(Fault), c_size_t]
     own.yamlcanon_message.restype = c_uint32
     own.yamlcanon_message.argtypes = [POINTER(Fault), c_void_p, c_size_t, POINTER(c_size_t)]
-    own.yamlcanon_position.restype = c_uint32
-    own.yamlcanon_position.argtypes = [c_void_p, c_size_t, POINTER(Fault), POINTER(c_size_t), POINTER(c_size_t)]
+    own.yamlcanon_position_within.restype = c_uint32
+    own.yamlcanon_position_within.argtypes = [c_void_p, c_size_t, POINTER(Fault), POINTER(c_size_t), POINTER(c_size_t), c_size_t]
+    own.yamlcanon_json_position_within.restype = c_uint32
+    own.yamlcanon_json_position_within.argtypes = [c_void_p, c_size_t, POINTER(c_size_t), POINTER(c_size_t), c_size_t]
     own.yamlcanon_release.restype = c_char_p
     own.yamlcanon_release.argtypes = []
     return own, told
@@ -113,17 +115,3 @@ def message_of(number: int, place: int, first: int, second: int) -> Optional[str
     if lib.yamlcanon_message(byref(fault), room, len(room), byref(length)) != DONE:
         return None
     return room.value.decode()
-
-
-def position_of(data: bytes, number: int, place: int) -> Optional[Tuple[int, int]]:
-    r"""The line and the column of an error in its input, both from 1, as `yamlreview faults` prints them; None if it is at no byte.
-
-    A line ends with a line feed, a carriage return, or both (YAML 1.2.2, 5.4). A column counts characters. A byte order mark has none.
-
-    >>> position_of(b"a: 1\r\nb: \xc3\xa9}", 4, 11)
-    (2, 5)
-    """
-    fault, line, column = Fault(number, 0, place), c_size_t(), c_size_t()
-    if lib.yamlcanon_position(data, len(data), byref(fault), byref(line), byref(column)) != DONE:
-        return None
-    return line.value, column.value

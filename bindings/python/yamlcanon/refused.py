@@ -3,7 +3,8 @@
 import enum
 from typing import Optional
 
-from yamlcanon.library import message_of, position_of
+from yamlcanon.library import message_of
+from yamlcanon.position import position_of
 
 __all__ = ["Kind", "Refused"]
 
@@ -50,7 +51,9 @@ class Refused(ValueError):
         place           a byte offset for 2 to 11, an event for 12 to 17, a document for 18, a node for 19; else 0
         first, second   the two entries of EqualKeys; else 0
         side            'left' or 'right' if the call was `same` or `diff`, else None
-        line, column    of the byte offset, from 1; None if `place` is not a byte offset, or no call has raised this
+        line, column    of the byte, of the event's text, of the document's root or of the second of two equal keys, from 1, as
+                        `yamlreview faults` prints them; None for 1 and 20, where the memory limit did not allow to find them, or if
+                        no call has raised this
 
     Two are equal if they have the same number, name, place, entries and side. It can be pickled, so a pool of processes hands it on.
 
@@ -76,9 +79,9 @@ class Refused(ValueError):
     def kind(self) -> Kind:
         return Kind(self.number) if self.number in [*Kind] else Kind.Other
 
-    def locate(self, data: bytes) -> "Refused":
-        """Sets line and column from the input that is rejected. Returns itself."""
-        found = position_of(data, self.number, self.place)
+    def locate(self, data: bytes, memory: int = 0) -> "Refused":
+        """Sets line and column from the input that is rejected, within a memory limit. Returns itself."""
+        found = position_of(data, self.number, self.place, self.first, self.second, memory)
         if found is not None:
             self.line, self.column = found
         return self

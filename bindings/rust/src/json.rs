@@ -1,5 +1,5 @@
 //! Why a stream is not written as JSON.
-use crate::{Refused, Unwritten};
+use crate::{Limits, Refused, Unwritten};
 use std::{error, fmt};
 
 /// Why a stream is not written as JSON.
@@ -9,13 +9,28 @@ pub enum JsonError {
     /// The input is rejected, its text would be too long, or memory was refused.
     Refused(Refused),
     /// The input is accepted, and JSON cannot express it: a key is no string, a float is `.inf`, `-.inf` or `.nan`, or a tag is none of
-    /// the core schema. `yamlreview show --format=json` says which it is and where.
+    /// the core schema. `yamlreview show --format=json` says which it is.
     NoJson,
     /// The lines did not pass their check: a fault of the library. No input is known for this.
     Unlike,
 }
 
 impl JsonError {
+    /// The line and the column, both from 1, of the place in the input: that of [`Refused::position`], or of the first node that JSON
+    /// cannot express. The input is read again.
+    ///
+    /// ```
+    /// let input = b"a: 1\nb: .inf\n";
+    /// assert_eq!(yamlcanon::to_json(input).unwrap_err().position(input), Some((2, 4)));
+    /// ```
+    pub fn position(&self, input: &[u8]) -> Option<(usize, usize)> {
+        match self {
+            JsonError::Refused(refused) => refused.position(input),
+            JsonError::NoJson => Limits::default().json_position(input),
+            JsonError::Unlike => None,
+        }
+    }
+
     pub(crate) fn of(unwritten: Unwritten) -> JsonError {
         match unwritten.status {
             2 => JsonError::Refused(unwritten.fault.refused(false)),

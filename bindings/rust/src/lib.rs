@@ -48,6 +48,9 @@ const STACK_LEVEL: usize = 1536;
 const MOST_LEVELS: usize = 1024;
 const STACK_GIVEN: usize = 8 << 20;
 
+// The last error at a byte.
+const LAST_OF_BYTES: u32 = BadTag as u32;
+
 // The room that is enough for each message: YAMLCANON_MESSAGE.
 const MESSAGE: usize = 128;
 
@@ -134,19 +137,21 @@ impl Refused {
         KINDS.get(self.number as usize).copied().unwrap_or(Other)
     }
 
-    /// The line and the column, both from 1, of the byte offset in the input that is rejected, as `yamlreview faults` counts them. A
-    /// line ends with a line feed, a carriage return, or both (YAML 1.2.2, 5.4). A column counts characters. A byte order mark has none.
+    /// The line and the column, both from 1, of the place in the input that is rejected, as `yamlreview faults` prints them: of the byte,
+    /// of the event's text, of the document's root, or of the second of two equal keys. 1, 20 and 21 have none. A line ends with a line
+    /// feed, a carriage return, or both (YAML 1.2.2, 5.4). A column counts characters. A byte order mark has none. For 12 to 19 the input
+    /// is read again.
     ///
     /// ```
     /// let input = b"port: 80\nhost:\tweb\n";
     /// let fault = yamlcanon::canonical(input).unwrap_err();
     /// assert_eq!(fault.position(input), Some((2, 6)));
+    /// let input = b"a: 1\na: 2\n";
+    /// let fault = yamlcanon::canonical(input).unwrap_err();
+    /// assert_eq!(fault.position(input), Some((2, 1)));
     /// ```
     pub fn position(&self, input: &[u8]) -> Option<(usize, usize)> {
-        let (mut line, mut column) = (0, 0);
-        // SAFETY: the slice is lent for the call; its pointer is not null.
-        let status = unsafe { yamlcanon_position(input.as_ptr(), input.len(), &self.told(), &mut line, &mut column) };
-        (status == 0).then_some((line, column))
+        Limits::default().position(self, input)
     }
 
     /// The numbers as the library tells them.
@@ -230,7 +235,15 @@ extern "C" {
     fn yamlcanon_version() -> u32;
     fn yamlcanon_release() -> *const c_char;
     fn yamlcanon_message(fault: *const Fault, out: *mut c_char, cap: usize, len: *mut usize) -> u32;
-    fn yamlcanon_position(input: *const u8, n: usize, fault: *const Fault, line: *mut usize, column: *mut usize) -> u32;
+    fn yamlcanon_position_within(
+        input: *const u8,
+        n: usize,
+        fault: *const Fault,
+        line: *mut usize,
+        column: *mut usize,
+        memory: usize,
+    ) -> u32;
+    fn yamlcanon_json_position_within(input: *const u8, n: usize, line: *mut usize, column: *mut usize, memory: usize) -> u32;
     fn yamlcanon_canonical_within(
         input: *const u8,
         n: usize,
@@ -418,6 +431,36 @@ impl Limits {
             }
         })
     }
+
+    /// [`Refused::position`] under this limit. There is none if it does not allow to find it.
+    pub fn position(self, refused: &Refused, input: &[u8]) -> Option<(usize, usize)> {
+        let (fault, memory) = (refused.told(), self.memory);
+        let size = if fault.number > LAST_OF_BYTES { input.len() } else { 0 };
+        placed(size, |line, column| {
+            // SAFETY: the slice is lent for the call; its pointer is not null.
+            unsafe { yamlcanon_position_within(input.as_ptr(), input.len(), &fault, line, column, memory) }
+        })
+    }
+
+    /// The line and the column of the first node that JSON cannot express. There is none if this limit does not allow to find it.
+    pub fn json_position(self, input: &[u8]) -> Option<(usize, usize)> {
+        placed(input.len(), |line, column| {
+            // SAFETY: as above.
+            unsafe { yamlcanon_json_position_within(input.as_ptr(), input.len(), line, column, self.memory) }
+        })
+    }
+}
+
+/// What a call tells of lines and columns that reads so many bytes again. One that reads none takes little stack.
+fn placed(size: usize, call: impl FnOnce(&mut usize, &mut usize) -> u32 + Send) -> Option<(usize, usize)> {
+    let work = || {
+        let (mut line, mut column) = (0, 0);
+        match call(&mut line, &mut column) {
+            0 => Ok((line, column)),
+            _ => Err(Refused::from(Fault::default())),
+        }
+    };
+    if size == 0 { work() } else { with_stack(size, work) }.ok()
 }
 
 /// The canonical text of a stream's bytes. It is UTF-8, and empty for a stream without documents.

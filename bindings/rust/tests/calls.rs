@@ -101,7 +101,48 @@ fn lines_and_columns() {
         assert_eq!((fault.kind(), fault.position(&input)), (Kind::Tab, Some(place)), "{input:?}");
         assert_eq!(fault.position(b""), None);
     }
-    assert_eq!(canonical(b"{1: a, 0x1: b}").unwrap_err().position(b"{1: a, 0x1: b}"), None);
+    assert_eq!(canonical(&[b'a'; 67_108_860]).err().expect("its text is too long").position(b"a"), None);
+}
+
+#[test]
+fn lines_and_columns_of_events_documents_and_keys() {
+    let high = "--- a\n---\n".to_string() + &"- ".repeat(1024) + "x";
+    let deep = "[".repeat(1000) + "{a: 1, 'a': 2}" + &"]".repeat(1000);
+    let cases: [(Kind, &str, (usize, usize)); 9] = [
+        (Kind::UndefinedAlias, "a: 1\nb: *x\n", (2, 4)),
+        (Kind::CyclicAlias, "a: &a\n  b: [*a]", (2, 7)),
+        (Kind::WrongKind, "a: 1\nb: !!seq x", (2, 4)),
+        (Kind::BadContent, "a: 1\r\nb: &x !!int x", (2, 7)),
+        (Kind::IntRange, "\u{feff}0xffffffffffffffffffffffffffffffff", (1, 1)),
+        (Kind::FloatRange, "\u{e9}: [\u{e9}, 1e-1000001]", (1, 8)),
+        (Kind::TooHigh, &high, (3, 1)),
+        (Kind::EqualKeys, "- {b: 1}\n- a: 1\n  b: 2\n  a: 3", (4, 3)),
+        (Kind::EqualKeys, &deep, (1, 1008)),
+    ];
+    for (kind, input, place) in cases {
+        let input = input.as_bytes();
+        let fault = canonical(input).unwrap_err();
+        assert_eq!((fault.kind(), fault.position(input)), (kind, Some(place)));
+        assert_eq!(to_json(input).unwrap_err().position(input), Some(place));
+        assert_eq!((fault.position(b""), Limits::memory(1000).position(&fault, input)), (None, None));
+    }
+}
+
+#[test]
+fn lines_and_columns_of_what_json_cannot_express() {
+    let deep = "[".repeat(1000) + "{~: b}" + &"]".repeat(1000);
+    let cases: [(&str, (usize, usize)); 4] = [
+        ("a: 1\nb: .inf\nc: .nan", (2, 4)),
+        ("a: 1\n80: x", (2, 1)),
+        ("a\n--- [b, !x c]", (2, 9)),
+        (&deep, (1, 1002)),
+    ];
+    for (input, place) in cases {
+        let input = input.as_bytes();
+        assert_eq!(to_json(input).unwrap_err().position(input), Some(place));
+        assert_eq!(Limits::memory(1000).json_position(input), None);
+    }
+    assert_eq!(Limits::default().json_position(b"a"), None);
 }
 
 #[test]
@@ -187,5 +228,10 @@ fn deep_inputs_on_threads_with_a_small_stack() {
         on(|| assert!(show(blocks(1023).as_bytes()).is_ok()));
         on(|| assert!(to_json(flow_mappings(1023).as_bytes()).is_ok()));
         on(|| assert!(same(blocks(1023).as_bytes(), blocks(1023).as_bytes()).unwrap()));
+        on(|| {
+            let equal = "[".repeat(1000) + "{a: 1, 'a': 2}" + &"]".repeat(1000);
+            let fault = canonical(equal.as_bytes()).unwrap_err();
+            assert_eq!(fault.position(equal.as_bytes()), Some((1, 1008)));
+        });
     }
 }

@@ -125,7 +125,15 @@ abbrev pub show : Choices → App
 show choices = command (codes "show") (files ∷ flag (codes "check") ∷ format choices ∷ flag (codes "strict") ∷ flag (codes "textconv") ∷ [])
 
 abbrev pub sum : App
-sum = command (codes "sum") (files ∷ list (codes "files-from") ∷ list (codes "check") ∷ [])
+sum = command (codes "sum")
+    (files
+    ∷ list (codes "files-from")
+    ∷ list (codes "check")
+    ∷ flag (codes "ignore-missing")
+    ∷ flag (codes "quiet")
+    ∷ flag (codes "status")
+    ∷ flag (codes "strict")
+    ∷ [])
 
 abbrev pub merge3 : Choices → App
 merge3 choices = command (codes "merge3")

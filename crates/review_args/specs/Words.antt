@@ -164,11 +164,21 @@ abbrev pub are_several : List Row → Bool
 are_several rows = (is_there (codes "files-from") rows && is_there (codes "FILE") rows)
     || (is_there (codes "check") rows && (is_there (codes "FILE") rows || is_there (codes "files-from") rows))
 
+-- how a list is checked is said, and none is
+abbrev pub lacks_list : List Row → Bool
+lacks_list rows = not (is_there (codes "check") rows)
+    && (is_on (codes "ignore-missing") rows || (is_on (codes "quiet") rows || (is_on (codes "status") rows || is_on (codes "strict") rows)))
+
 pub record AsksSum (rows : List Row) (sum : Sum) : Type 0 where
   pub files : texts sum.files.items ≡ files_in rows
   pub files_from : option_map (λ s. s.now) sum.files_from ≡ first_of (codes "files-from") rows
   pub check : option_map (λ s. s.now) sum.check ≡ first_of (codes "check") rows
+  pub is_quiet : sum.is_quiet ≡ is_on (codes "quiet") rows
+  pub is_silent : sum.is_silent ≡ is_on (codes "status") rows
+  pub is_strict : sum.is_strict ≡ is_on (codes "strict") rows
+  pub skips_missing : sum.skips_missing ≡ is_on (codes "ignore-missing") rows
   pub one : are_several rows ≡ false
+  pub has_list : lacks_list rows ≡ false
 
 pub record AsksMerge (rows : List Row) (is_terminal : Bool) (merge : Merge) : Type 0 where
   pub base : merge.base.now ≡ file_of (codes "BASE") rows
@@ -249,7 +259,7 @@ abbrev pub RefusesShow : List Row → ErrorKind → Type 0
 RefusesShow rows k = (k ≡ kind.OutOfMemory) ⊎ ((k ≡ kind.ArgumentConflict) × (has_two_modes rows ≡ true))
 
 abbrev pub RefusesSum : List Row → ErrorKind → Type 0
-RefusesSum rows k = (k ≡ kind.OutOfMemory) ⊎ ((k ≡ kind.ArgumentConflict) × (are_several rows ≡ true))
+RefusesSum rows k = (k ≡ kind.OutOfMemory) ⊎ ((k ≡ kind.ArgumentConflict) × ((are_several rows ≡ true) ⊎ (lacks_list rows ≡ true)))
 
 -- the commands but `git`
 abbrev pub is_command : Text → Bool

@@ -76,7 +76,8 @@ Exit status (of several files the greatest):
 
 const SUM_STATUSES: &str = "Exit status (of several files the greatest):
   0  each file has a digest, or the one that LIST has
-  1  a file has another digest than LIST has
+  1  a file has another digest than LIST has; with --strict: a line of LIST is not one of a digest; with --ignore-missing: no file has
+     its digest
   2  a file is rejected
   3  the words, a file, LIST or a stream cannot be used";
 
@@ -239,7 +240,27 @@ fn sum<'a>(alloc: Global) -> Result<Command<'a>, AllocError>
         list(
             alloc,
             "check",
-            "Check the digests of LIST, which `sum` wrote"
+            "Check the digests of LIST, which `sum` or `sha256sum` wrote"
+        ),
+        flag(
+            alloc,
+            "ignore-missing",
+            "With --check: leave out files that are not there, if one file has its digest"
+        ),
+        flag(
+            alloc,
+            "quiet",
+            "With --check: print no line for a file that has its digest"
+        ),
+        flag(
+            alloc,
+            "status",
+            "With --check: print nothing of files and lines; the status tells the result"
+        ),
+        flag(
+            alloc,
+            "strict",
+            "With --check: end with status 1 if a line of LIST is not one of a digest"
         ),
     ]?;
     command(

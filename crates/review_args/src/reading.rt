@@ -23,6 +23,7 @@ ghost use Rattle.review_args.specs.Words.{
   git_words,
   has_two_modes,
   keys_in,
+  lacks_list,
 };
 
 use crate::found::{
@@ -216,6 +217,20 @@ fn are_several(inner: &ArgMatches<'_>) -> bool
     (has_names && has_files) || (is_there(inner, "check") && (has_files || has_names))
 }
 
+/// What is wrong with words that say how a list is checked, where none is.
+const NO_LIST: &str = "--ignore-missing, --quiet, --status and --strict are for --check";
+
+/// Whether one of these is given without `--check`.
+fn lacks_list(inner: &ArgMatches<'_>) -> bool
+    ensures { result ≡ lacks_list (rows_of (found_of inner.now)) }
+{
+    !is_there(inner, "check")
+        && (is_on(inner, "ignore-missing")
+            || is_on(inner, "quiet")
+            || is_on(inner, "status")
+            || is_on(inner, "strict"))
+}
+
 /// What the words of `sum` ask for.
 fn sum_of<'a>(alloc: Global, inner: &ArgMatches<'a>) -> Result<Sum<'a>, Error>
     ensures ok { IfOk result (AsksSum (rows_of (found_of inner.now))) }
@@ -224,10 +239,17 @@ fn sum_of<'a>(alloc: Global, inner: &ArgMatches<'a>) -> Result<Sum<'a>, Error>
     if are_several(inner) {
         return Err(refusal(alloc, ErrorKind::ArgumentConflict, SEVERAL)?);
     }
+    if lacks_list(inner) {
+        return Err(refusal(alloc, ErrorKind::ArgumentConflict, NO_LIST)?);
+    }
     Ok(Sum {
         files: files_of(alloc, inner)?,
         files_from: value_of(inner, "files-from"),
         check: value_of(inner, "check"),
+        is_quiet: is_on(inner, "quiet"),
+        is_silent: is_on(inner, "status"),
+        is_strict: is_on(inner, "strict"),
+        skips_missing: is_on(inner, "ignore-missing"),
     })
 }
 

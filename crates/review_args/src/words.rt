@@ -135,6 +135,14 @@ pub struct Sum<'a> {
     pub files_from: Option<&'a str>,
     /// The list that is checked.
     pub check: Option<&'a str>,
+    /// Whether files that have the digest of the list are not told of.
+    pub is_quiet: bool,
+    /// Whether nothing is told of files and lines, but by the status.
+    pub is_silent: bool,
+    /// Whether a line that is none of a digest counts for the status.
+    pub is_strict: bool,
+    /// Whether files that are not there are left out.
+    pub skips_missing: bool,
 }
 
 /// A base and two changes of it, and what was made of them, if it is to be judged.

@@ -24,6 +24,7 @@ use Rattle.review_args.specs.declared.words.Warn.{Warn}
 use Rattle.yaml_sum.specs.Asks.{SumTells}
 use Rattle.yaml_sum.specs.declared.asked.Asked.{Asked as SumAsked}
 use Rattle.yaml_sum.specs.declared.asked.Asked.TheVariants.{Files, FilesFrom, Check}
+use Rattle.yaml_sum.specs.declared.asked.Rules.{Rules}
 use Rattle.review_args.specs.declared.words.Show.{Show}
 use Rattle.review_reports.specs.Pages.{TellsPage}
 use Rattle.review_reports.specs.Reports.{TellsFiles}
@@ -31,15 +32,22 @@ use Rattle.review_reports.specs.declared.reports.Kind.{Kind}
 use Rattle.review_reports.specs.declared.reports.Kind.TheVariants.{Faults, Warnings}
 use Rattle.review_show.specs.Files.{ShowsFiles}
 
+-- how a list is checked
+pub record AsksRules (asked : Sum) (rules : Rules) : Type 0 where
+  pub is_quiet : rules.is_quiet ≡ asked.is_quiet
+  pub is_silent : rules.is_silent ≡ asked.is_silent
+  pub is_strict : rules.is_strict ≡ asked.is_strict
+  pub skips_missing : rules.skips_missing ≡ asked.skips_missing
+
 -- what is asked of sums: a list is checked, the files of a list are summed, or those that are named
 abbrev pub AsksSum : Sum → SumAsked → Type 0
-AsksSum asked (Check list) = asked.check ≡ Some list
+AsksSum asked (Check list rules) = (asked.check ≡ Some list) × AsksRules asked rules
 AsksSum asked (FilesFrom list) = (asked.check ≡ None) × (asked.files_from ≡ Some list)
 AsksSum asked (Files words) = (asked.check ≡ None) × (asked.files_from ≡ None) × (words.now ≡ asked.files.items)
 
 -- the name of the list has a NUL, which stands for a byte that is not UTF-8
 abbrev pub is_unnamed : SumAsked → Bool
-is_unnamed (Check list) = list_any (λ byte. byte == 0) list.now
+is_unnamed (Check list rules) = list_any (λ byte. byte == 0) list.now
 is_unnamed (FilesFrom list) = list_any (λ byte. byte == 0) list.now
 is_unnamed (Files words) = false
 

@@ -7,7 +7,7 @@ ghost use Rattle.review_command.specs.Commands.{CommandEnds, FoldersEnd, HostDoe
 ghost use Rattle.review_command.specs.Gits.{GitEnds};
 ghost use Rattle.review_files.specs.Lines.{TakesLine};
 ghost use Rattle.review_command.specs.Rejections.{no_diff_status, no_diff_line, no_merge_line};
-ghost use Rattle.review_command.specs.Runs.{DiffRuns, PageRuns, ReportsTell, PagesTell, MergeRuns, AsksSum, SumRuns, is_unnamed, AsksMerge, AsksPrint, Does};
+ghost use Rattle.review_command.specs.Runs.{DiffRuns, PageRuns, ReportsTell, PagesTell, MergeRuns, AsksRules, AsksSum, SumRuns, is_unnamed, AsksMerge, AsksPrint, Does};
 ghost use Rattle.review_merge.specs.Merges.{no_merge_status};
 
 use crate::diff::{NoDiff, diff, diff_page};
@@ -28,7 +28,7 @@ use std::io::{Read, Write};
 use std::rt::Files;
 use yaml_command::shelf::Shelf;
 use yaml_command::streams::write_out;
-use yaml_sum::asked::Asked as SumAsked;
+use yaml_sum::asked::{Asked as SumAsked, Rules};
 use yaml_sum::reason::Reason;
 use yaml_sum::regular::Regular;
 use yaml_sum::sum::sum as sum_files;
@@ -254,12 +254,24 @@ fn run<S: Shelf, R: Read + Drop, W: Write + Drop, E: Write + Drop>(
     }
 }
 
+/// How a list of sums is checked.
+fn rules_of(asked: &Sum<'_>) -> Rules
+    ensures { AsksRules asked.now result }
+{
+    Rules {
+        is_quiet: asked.is_quiet,
+        is_silent: asked.is_silent,
+        is_strict: asked.is_strict,
+        skips_missing: asked.skips_missing,
+    }
+}
+
 /// What is asked of sums.
 fn sum_asked<'b, 'a: 'b>(asked: &'b Sum<'a>) -> SumAsked<'b>
     ensures { AsksSum asked.now result }
 {
     match (asked.check, asked.files_from) {
-        (Some(list), _) => SumAsked::Check(list),
+        (Some(list), _) => SumAsked::Check(list, rules_of(asked)),
         (None, Some(list)) => SumAsked::FilesFrom(list),
         (None, None) => SumAsked::Files(&asked.files),
     }
@@ -271,7 +283,7 @@ fn is_unnamed(asked: SumAsked<'_>) -> bool
 {
     match asked {
         SumAsked::Files(_) => false,
-        SumAsked::FilesFrom(list) | SumAsked::Check(list) => list.as_bytes().contains(&0),
+        SumAsked::FilesFrom(list) | SumAsked::Check(list, _) => list.as_bytes().contains(&0),
     }
 }
 

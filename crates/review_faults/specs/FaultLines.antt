@@ -56,6 +56,10 @@ abbrev pub IsSpot : List ℕ → Fault → Option ℕ → Spot → Type 0
 IsSpot bytes fault (Some offset) spot = (spot.at ≡ Some (offset - mark_len bytes)) × HasNoNode spot
 IsSpot bytes fault None spot = (names_event fault ≡ false → (spot.at ≡ None) × HasNoNode spot) × (names_event fault ≡ true → IsEventSpot bytes fault spot)
 
+-- The place is where the reader stopped: that of the offset that the fault names, or of the node of its event.
+abbrev pub IsStop : List ℕ → Fault → Option Place → Type 0
+IsStop bytes fault place = (spot : Spot) × IsSpot bytes fault (offset_in fault) spot × IsPlaceOf (text_in bytes) spot.at place
+
 -- a point of another line than the one where the reader stopped
 abbrev pub other_line : Option Place → ℕ → Option Place → Option Point
 other_line (Some stop) at (Some place) = cond (stop.line == place.line) None (Some (record { at = at; place = place }))

@@ -14,6 +14,7 @@ pub mod spotted;
 pub mod warn;
 
 pub use faults::put_fault;
-pub use no_json::put_no_json;
+pub use no_json::{no_json_place, put_no_json};
+pub use spots::fault_place;
 pub use spotted::{Spotted, spot_fault};
 pub use warn::{Warning, Warnings, list_warnings, put_warnings};

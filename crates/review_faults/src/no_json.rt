@@ -199,6 +199,18 @@ fn told(alloc: Global, bytes: &[u8]) -> Result<(Option<Place>, String), Fault>
     Ok((placed(text, offset), more))
 }
 
+/// Where in a file the first node is that JSON cannot express, if there is one.
+///
+/// # Errors
+/// `OutOfMemory`; of bytes that the reader rejects, the reader's.
+pub fn no_json_place(alloc: Global, bytes: &[u8]) -> Result<Option<Place>, Fault>
+    ensures ok { IfOk result (IsOfText (drop (mark_len bytes.now) bytes.now)) }
+    ensures err { IfErr result (CannotRead bytes.now) }
+{
+    let (place, _) = told(alloc, bytes)?;
+    Ok(place)
+}
+
 /// Writes where in a file the first node is that JSON cannot express, and why: position, path, words, the source line and a caret.
 ///
 /// # Errors

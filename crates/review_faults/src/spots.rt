@@ -1,5 +1,5 @@
 //! Where in a file a fault is, and what is known of it there.
-ghost use Rattle.std.specs.Prelude.{◌≡◌, ◌+◌, map, option_map, option_and_then, take, IfSome, IfOk, IfErr, string_bytes};
+ghost use Rattle.std.specs.Prelude.{◌≡◌, ◌+◌, true, map, option_map, option_and_then, take, IfSome, IfOk, IfErr, string_bytes};
 ghost use Rattle.std.specs.List.{count_by};
 ghost use Rattle.yaml_text.specs.EventModel.{event_of};
 ghost use Rattle.review_places.specs.Trace.{shapes_in};
@@ -8,7 +8,7 @@ ghost use Rattle.review_faults.specs.Again.{CannotRead, CannotTell};
 ghost use Rattle.review_faults.specs.EventPlaces.{IsEventOf, IsFirstOf, IsShownAt, IsPlaceAt, IsPlaceOf, noted_offset};
 ghost use Rattle.review_faults.specs.EventSpots.{ends_document, path_at, fault_words, IsSpotAt, IsEventSpot};
 ghost use Rattle.review_faults.specs.Explained.{AreWords};
-ghost use Rattle.review_faults.specs.FaultLines.{offset_in, names_event, other_line, IsCause, IsSpot, IsTold};
+ghost use Rattle.review_faults.specs.FaultLines.{offset_in, names_event, other_line, IsCause, IsSpot, IsStop, IsTold};
 
 use crate::equal_keys::equal_key_words;
 use review_hints::words::{Words, words_of};
@@ -315,6 +315,7 @@ fn spot_of_event(alloc: Global, bytes: &[u8], fault: Fault) -> Result<Spot, Faul
 fn find_spot(alloc: Global, bytes: &[u8], fault: Fault) -> Result<Spot, Fault>
     ensures ok { IfOk result (IsSpot bytes.now fault (offset_in fault)) }
     ensures err { IfErr result (CannotTell bytes.now fault) }
+    ensures event { IfErr result (λ _. names_event fault ≡ true) }
 {
     match offset_in(fault) {
         Some(at) => Ok(Spot::at(Some(at.saturating_sub(mark_len(bytes))))),
@@ -347,6 +348,19 @@ fn find_place(text: &[u8], at: Option<usize>) -> Option<Place>
         Some(at) => place_of(text, at),
         None => None,
     }
+}
+
+/// The place where the reader stopped at a fault, if the fault has one.
+///
+/// # Errors
+/// Only for a fault of an event, for which the bytes are read again: `OutOfMemory`; of bytes that the reader rejects, the reader's.
+pub fn fault_place(alloc: Global, bytes: &[u8], fault: Fault) -> Result<Option<Place>, Fault>
+    ensures ok { IfOk result (IsStop bytes.now fault) }
+    ensures err { IfErr result (CannotTell bytes.now fault) }
+    ensures event { IfErr result (λ _. names_event fault ≡ true) }
+{
+    let spot = find_spot(alloc, bytes, fault)?;
+    Ok(find_place(unmarked(bytes), spot.at))
 }
 
 /// What is said of a fault at this offset of a text, if its node has no words of its own.

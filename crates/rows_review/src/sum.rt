@@ -30,7 +30,7 @@ static SUMS: [Row; 11] = [
         input: b"",
         status: 2,
         out: "10fefbc4a80af0c4ff6ee9763b1d134ced76a83604f31803c082d5bfcc96318a  one.yaml\n",
-        err: "yamlreview: refused.yaml: 4 Syntax at byte 7\n",
+        err: "refused.yaml:2:1: 4 Syntax at byte 7: indent this line more than the key or the item of its bracket or brace\n2\n^\n",
     },
     Row {
         name: "the status is that of the worst",
@@ -38,7 +38,7 @@ static SUMS: [Row; 11] = [
         input: b"",
         status: 3,
         out: "10fefbc4a80af0c4ff6ee9763b1d134ced76a83604f31803c082d5bfcc96318a  one.yaml\n",
-        err: "yamlreview: absent.yaml: cannot open: not found\nyamlreview: refused.yaml: 4 Syntax at byte 7\n",
+        err: "yamlreview: absent.yaml: cannot open: not found\nrefused.yaml:2:1: 4 Syntax at byte 7: indent this line more than the key or the item of its bracket or brace\n2\n^\n",
     },
     Row {
         name: "a backslash, a line feed and a carriage return in a name are escaped",
@@ -123,7 +123,7 @@ static CHECKS: [Row; 7] = [
         input: b"# sums\n\nnonsense\n82AE564FDE271DD8A546CAE079EBA99E0C49B73B9E767EF20F8BBEA26C2AE94D *flow.yaml\n82ae564fde271dd8a546cae079eba99e0c49b73b9e767ef20f8bbea26c2ae94d  one.yaml\n",
         status: 1,
         out: "flow.yaml: OK\none.yaml: FAILED\n",
-        err: "yamlreview: lines that are no sums: 1\n",
+        err: "yamlreview: lines that are no sums: 1\nyamlreview: files with another sum: 1\n",
     },
     Row {
         name: "a file that is refused has no sum to be compared",
@@ -131,7 +131,7 @@ static CHECKS: [Row; 7] = [
         input: b"82ae564fde271dd8a546cae079eba99e0c49b73b9e767ef20f8bbea26c2ae94d  refused.yaml\n",
         status: 2,
         out: "refused.yaml: FAILED open or read\n",
-        err: "yamlreview: refused.yaml: 4 Syntax at byte 7\n",
+        err: "refused.yaml:2:1: 4 Syntax at byte 7: indent this line more than the key or the item of its bracket or brace\n2\n^\nyamlreview: files without a sum: 1\n",
     },
     Row {
         name: "nor one that is not there",
@@ -139,7 +139,7 @@ static CHECKS: [Row; 7] = [
         input: b"82ae564fde271dd8a546cae079eba99e0c49b73b9e767ef20f8bbea26c2ae94d  absent\n",
         status: 3,
         out: "absent: FAILED open or read\n",
-        err: "yamlreview: absent: cannot open: not found\n",
+        err: "yamlreview: absent: cannot open: not found\nyamlreview: files without a sum: 1\n",
     },
     Row {
         name: "a list without a line of a sum can't be used",
@@ -163,7 +163,163 @@ static CHECKS: [Row; 7] = [
         input: b"# many lines\n82ae564fde271dd8a546cae079eba99e0c49b73b9e767ef20f8bbea26c2ae94d  flow.yaml\n\n10fefbc4a80af0c4ff6ee9763b1d134ced76a83604f31803c082d5bfcc96318a  one.yaml\n10fefbc4a80af0c4ff6ee9763b1d134ced76a83604f31803c082d5bfcc96318a  flow.yaml\nnonsense\n82ae564fde271dd8a546cae079eba99e0c49b73b9e767ef20f8bbea26c2ae94d *block.yaml\n82ae564fde271dd8a546cae079eba99e0c49b73b9e767ef20f8bbea26c2ae94d  absent\n82ae564fde271dd8a546cae079eba99e0c49b73b9e767ef20f8bbea26c2ae94d  refused.yaml\n\\82ae564fde271dd8a546cae079eba99e0c49b73b9e767ef20f8bbea26c2ae94d  line\\nfeed\n82ae564fde271dd8a546cae079eba99e0c49b73b9e767ef20f8bbea26c2ae94d flow.yaml\n82ae564fde271dd8a546cae079eba99e0c49b73b9e767ef20f8bbea26c2ae94d  flow.yaml",
         status: 3,
         out: "flow.yaml: OK\none.yaml: OK\nflow.yaml: FAILED\nblock.yaml: OK\nabsent: FAILED open or read\nrefused.yaml: FAILED open or read\n\\line\\nfeed: OK\nflow.yaml: OK\n",
-        err: "yamlreview: absent: cannot open: not found\nyamlreview: refused.yaml: 4 Syntax at byte 7\nyamlreview: lines that are no sums: 2\n",
+        err: "yamlreview: absent: cannot open: not found\nrefused.yaml:2:1: 4 Syntax at byte 7: indent this line more than the key or the item of its bracket or brace\n2\n^\nyamlreview: lines that are no sums: 2\nyamlreview: files without a sum: 2\nyamlreview: files with another sum: 1\n",
+    },
+];
+
+/// Forms of lists that `sha256sum --check` of coreutils 9.1 reads, and its options. `tools/sums` compares with it.
+static FORMS: [Row; 19] = [
+    Row {
+        name: "lines may end in carriage returns and line feeds",
+        words: &["sum", "--check", "-"],
+        input: b"# sums\r\n\r\n82ae564fde271dd8a546cae079eba99e0c49b73b9e767ef20f8bbea26c2ae94d  flow.yaml\r\n10fefbc4a80af0c4ff6ee9763b1d134ced76a83604f31803c082d5bfcc96318a  one.yaml\r",
+        status: 0,
+        out: "flow.yaml: OK\none.yaml: OK\n",
+        err: "",
+    },
+    Row {
+        name: "one of two carriage returns belongs to the name",
+        words: &["sum", "--check", "-"],
+        input: b"82ae564fde271dd8a546cae079eba99e0c49b73b9e767ef20f8bbea26c2ae94d  flow.yaml\r\r\n",
+        status: 3,
+        out: "flow.yaml\r: FAILED open or read\n",
+        err: "yamlreview: flow.yaml\\r: cannot open: not found\nyamlreview: files without a sum: 1\n",
+    },
+    Row {
+        name: "names may have one space before them, in all lines",
+        words: &["sum", "--check", "-"],
+        input: b"82ae564fde271dd8a546cae079eba99e0c49b73b9e767ef20f8bbea26c2ae94d flow.yaml\n82ae564fde271dd8a546cae079eba99e0c49b73b9e767ef20f8bbea26c2ae94d  flow.yaml\n10fefbc4a80af0c4ff6ee9763b1d134ced76a83604f31803c082d5bfcc96318a\tone.yaml\n",
+        status: 3,
+        out: "flow.yaml: OK\n flow.yaml: FAILED open or read\none.yaml: OK\n",
+        err: "yamlreview:  flow.yaml: cannot open: not found\nyamlreview: files without a sum: 1\n",
+    },
+    Row {
+        name: "or two in all lines, as the first has it",
+        words: &["sum", "--check", "-"],
+        input: b"\t 82ae564fde271dd8a546cae079eba99e0c49b73b9e767ef20f8bbea26c2ae94d  flow.yaml\n82ae564fde271dd8a546cae079eba99e0c49b73b9e767ef20f8bbea26c2ae94d flow.yaml\n",
+        status: 0,
+        out: "flow.yaml: OK\n",
+        err: "yamlreview: lines that are no sums: 1\n",
+    },
+    Row {
+        name: "a line may have a tag",
+        words: &["sum", "--check", "-"],
+        input: b"SHA256 (flow.yaml) = 82ae564fde271dd8a546cae079eba99e0c49b73b9e767ef20f8bbea26c2ae94d\nSHA256(one.yaml)=10fefbc4a80af0c4ff6ee9763b1d134ced76a83604f31803c082d5bfcc96318a\n \\SHA256 (line\\nfeed) \t=  82ae564fde271dd8a546cae079eba99e0c49b73b9e767ef20f8bbea26c2ae94d\n82ae564fde271dd8a546cae079eba99e0c49b73b9e767ef20f8bbea26c2ae94d flow.yaml\n",
+        status: 0,
+        out: "flow.yaml: OK\none.yaml: OK\n\\line\\nfeed: OK\nflow.yaml: OK\n",
+        err: "",
+    },
+    Row {
+        name: "another tag is none",
+        words: &["sum", "--check", "-"],
+        input: b"MD5 (flow.yaml) = 82ae564fde271dd8a546cae079eba99e0c49b73b9e767ef20f8bbea26c2ae94d\nSHA256  (flow.yaml) = 82ae564fde271dd8a546cae079eba99e0c49b73b9e767ef20f8bbea26c2ae94d\nSHA256 flow.yaml = 82ae564fde271dd8a546cae079eba99e0c49b73b9e767ef20f8bbea26c2ae94d\nSHA256 (flow.yaml) 82ae564fde271dd8a546cae079eba99e0c49b73b9e767ef20f8bbea26c2ae94d\nSHA256 (flow.yaml)\nSHA256 (flow.yaml) = 82ae564fde271dd8a546cae079eba99e0c49b73b9e767ef20f8bbea26c2ae94d \n",
+        status: 3,
+        out: "",
+        err: "yamlreview: -: no line is one of a sum\n",
+    },
+    Row {
+        name: "the name ends at the last bracket",
+        words: &["sum", "--check", "-"],
+        input: b"SHA256 (a) = ) = 82ae564fde271dd8a546cae079eba99e0c49b73b9e767ef20f8bbea26c2ae94d\nSHA256 () = 82ae564fde271dd8a546cae079eba99e0c49b73b9e767ef20f8bbea26c2ae94d\n",
+        status: 3,
+        out: "a) = : FAILED open or read\n: FAILED open or read\n",
+        err: "yamlreview: a) = : cannot open: not found\nyamlreview: : cannot open: not found\nyamlreview: files without a sum: 2\n",
+    },
+    Row {
+        name: "a byte order mark makes its line one of no sum",
+        words: &["sum", "--check", "-"],
+        input: b"\xef\xbb\xbf82ae564fde271dd8a546cae079eba99e0c49b73b9e767ef20f8bbea26c2ae94d  one.yaml\n10fefbc4a80af0c4ff6ee9763b1d134ced76a83604f31803c082d5bfcc96318a  one.yaml\n",
+        status: 0,
+        out: "one.yaml: OK\n",
+        err: "yamlreview: lines that are no sums: 1\n",
+    },
+    Row {
+        name: "which --strict counts",
+        words: &["sum", "--check", "-", "--strict"],
+        input: b"\xef\xbb\xbf82ae564fde271dd8a546cae079eba99e0c49b73b9e767ef20f8bbea26c2ae94d  one.yaml\n10fefbc4a80af0c4ff6ee9763b1d134ced76a83604f31803c082d5bfcc96318a  one.yaml\n",
+        status: 1,
+        out: "one.yaml: OK\n",
+        err: "yamlreview: lines that are no sums: 1\n",
+    },
+    Row {
+        name: "--strict leaves a list alone that has sums only",
+        words: &["sum", "--strict", "--check", "-"],
+        input: b"# sums\n\n10fefbc4a80af0c4ff6ee9763b1d134ced76a83604f31803c082d5bfcc96318a  one.yaml\n",
+        status: 0,
+        out: "one.yaml: OK\n",
+        err: "",
+    },
+    Row {
+        name: "--quiet prints no line for a file that has its sum",
+        words: &["sum", "--check", "-", "--quiet"],
+        input: b"82ae564fde271dd8a546cae079eba99e0c49b73b9e767ef20f8bbea26c2ae94d  flow.yaml\n82ae564fde271dd8a546cae079eba99e0c49b73b9e767ef20f8bbea26c2ae94d  one.yaml\n82ae564fde271dd8a546cae079eba99e0c49b73b9e767ef20f8bbea26c2ae94d  absent\nnonsense\n",
+        status: 3,
+        out: "one.yaml: FAILED\nabsent: FAILED open or read\n",
+        err: "yamlreview: absent: cannot open: not found\nyamlreview: lines that are no sums: 1\nyamlreview: files without a sum: 1\nyamlreview: files with another sum: 1\n",
+    },
+    Row {
+        name: "--status prints nothing",
+        words: &["sum", "--check", "-", "--status"],
+        input: b"82ae564fde271dd8a546cae079eba99e0c49b73b9e767ef20f8bbea26c2ae94d  flow.yaml\n82ae564fde271dd8a546cae079eba99e0c49b73b9e767ef20f8bbea26c2ae94d  one.yaml\nnonsense\n",
+        status: 1,
+        out: "",
+        err: "",
+    },
+    Row {
+        name: "not of files without a sum either",
+        words: &["sum", "--check", "-", "--status", "--quiet"],
+        input: b"82ae564fde271dd8a546cae079eba99e0c49b73b9e767ef20f8bbea26c2ae94d  refused.yaml\n82ae564fde271dd8a546cae079eba99e0c49b73b9e767ef20f8bbea26c2ae94d  one.yaml\n",
+        status: 2,
+        out: "",
+        err: "",
+    },
+    Row {
+        name: "nor of a list without one",
+        words: &["sum", "--check", "-", "--status"],
+        input: b"nonsense\n",
+        status: 3,
+        out: "",
+        err: "",
+    },
+    Row {
+        name: "--ignore-missing leaves out files that are not there",
+        words: &["sum", "--check", "-", "--ignore-missing"],
+        input: b"82ae564fde271dd8a546cae079eba99e0c49b73b9e767ef20f8bbea26c2ae94d  absent\n10fefbc4a80af0c4ff6ee9763b1d134ced76a83604f31803c082d5bfcc96318a  one.yaml\n",
+        status: 0,
+        out: "one.yaml: OK\n",
+        err: "",
+    },
+    Row {
+        name: "and no others",
+        words: &["sum", "--check", "-", "--ignore-missing"],
+        input: b"82ae564fde271dd8a546cae079eba99e0c49b73b9e767ef20f8bbea26c2ae94d  absent\n10fefbc4a80af0c4ff6ee9763b1d134ced76a83604f31803c082d5bfcc96318a  one.yaml\n82ae564fde271dd8a546cae079eba99e0c49b73b9e767ef20f8bbea26c2ae94d  denied\n",
+        status: 3,
+        out: "one.yaml: OK\ndenied: FAILED open or read\n",
+        err: "yamlreview: denied: cannot open: permission denied\nyamlreview: files without a sum: 1\n",
+    },
+    Row {
+        name: "one has to have its sum",
+        words: &["sum", "--check", "-", "--ignore-missing"],
+        input: b"82ae564fde271dd8a546cae079eba99e0c49b73b9e767ef20f8bbea26c2ae94d  absent\n10fefbc4a80af0c4ff6ee9763b1d134ced76a83604f31803c082d5bfcc96318a  absent\n",
+        status: 1,
+        out: "",
+        err: "yamlreview: -: no file has its sum\n",
+    },
+    Row {
+        name: "another sum is none",
+        words: &["sum", "--check", "-", "--ignore-missing"],
+        input: b"82ae564fde271dd8a546cae079eba99e0c49b73b9e767ef20f8bbea26c2ae94d  absent\n82ae564fde271dd8a546cae079eba99e0c49b73b9e767ef20f8bbea26c2ae94d  one.yaml\n",
+        status: 1,
+        out: "one.yaml: FAILED\n",
+        err: "yamlreview: files with another sum: 1\nyamlreview: -: no file has its sum\n",
+    },
+    Row {
+        name: "a list without a line of a sum is no better for it",
+        words: &["sum", "--check", "-", "--ignore-missing", "--strict"],
+        input: b"nonsense\n",
+        status: 3,
+        out: "",
+        err: "yamlreview: -: no line is one of a sum\n",
     },
 ];
 
@@ -219,6 +375,14 @@ fn sums_and_lists_are_told_as_sha256sum_tells_them(rt: HostRuntime) -> Result<()
     }
     for (room, err_room, row) in &FAILING {
         is_told(&rt, row, (*room, *err_room))?;
+    }
+    Ok(())
+}
+
+#[test]
+fn lists_of_each_form_are_read_as_sha256sum_reads_them(rt: HostRuntime) -> Result<(), Fail> {
+    for row in &FORMS {
+        is_told(&rt, row, ALL)?;
     }
     Ok(())
 }

@@ -1,1 +1,2 @@
+pub mod PositionLaws
 pub mod ValuesLaws

@@ -8,7 +8,6 @@ ghost use Rattle.yaml_c.specs.Answers.{GivesCanonical, ShortCanonical, RefusesCa
 ghost use Rattle.yaml_c.specs.Answers.{GivesEvents, ShortEvents, RefusesEvents, Answers, RefusesSame};
 ghost use Rattle.yaml_c.specs.Digests.{GivesDigest, RefusesDigest, OnlyMemoryOfDigest};
 ghost use Rattle.yaml_c.specs.Messages.{GivesMessage, ShortMessage, NoMessage, Says};
-ghost use Rattle.yaml_c.specs.Positions.{IsPosition, HasNoPosition};
 ghost use Rattle.yaml_text.specs.declared.side.Side.{Side};
 ghost use Rattle.yaml_text.specs.declared.fault.Fault.{Fault};
 ghost use Rattle.yaml_c.specs.Told.{told};
@@ -16,7 +15,6 @@ ghost use Rattle.yaml_c.specs.Told.{told};
 use crate::digest::digest_of;
 use crate::fault::{YamlcanonFault, refuse};
 use crate::numbers::fault_in;
-use crate::position::place_behind_mark;
 use crate::room::{put_message, tell_length};
 use crate::status::{DIFFERENT, DONE, REFUSED};
 use std::alloc::Global;
@@ -153,29 +151,4 @@ pub extern "C" fn yaml_c_message(fault: &YamlcanonFault, out: &mut [u8], len: &m
         Some(known) => put_message(known, out, len),
         None => REFUSED,
     }
-}
-
-/// The line and the column of a fault at a byte (2 to 11) of the input that is refused, both from 1. A column counts characters. The
-/// byte order mark has none.
-///
-/// The status is 0, or 2 where the fault is at no byte of these; nothing is then written.
-#[unsafe(no_mangle)]
-pub extern "C" fn yaml_c_position(
-    input: &[u8],
-    fault: &YamlcanonFault,
-    line: &mut usize,
-    column: &mut usize,
-) -> u32
-    ensures status { (result ≡ 0) ⊎ (result ≡ 2) }
-    ensures given { result ≡ 0 → IsPosition input.now fault.now line.new column.new }
-    ensures none { result ≡ 2 → HasNoPosition input.now fault.now line.old line.new column.old column.new }
-{
-    let at = fault.place as usize;
-    if fault.number < 2 || fault.number > 11 || at > input.len() {
-        return REFUSED;
-    }
-    let place = place_behind_mark(input, at);
-    *line = place.line;
-    *column = place.column;
-    DONE
 }

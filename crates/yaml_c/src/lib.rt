@@ -18,10 +18,11 @@ mod status;
 mod values;
 
 pub use calls::{
-    yaml_c_canonical, yaml_c_events, yaml_c_message, yaml_c_position, yaml_c_same, yaml_c_sha256,
-    yamlcanon_form, yamlcanon_version,
+    yaml_c_canonical, yaml_c_events, yaml_c_message, yaml_c_same, yaml_c_sha256, yamlcanon_form,
+    yamlcanon_version,
 };
 pub use diff::yaml_c_diff;
 pub use fault::YamlcanonFault;
+pub use position::{yaml_c_json_position, yaml_c_position};
 pub use show::{yaml_c_json, yaml_c_show};
 pub use values::{Lengths, yaml_c_values};

@@ -17,3 +17,6 @@ pub const NO_JSON: u32 = 4;
 
 /// The status if the lines of JSON did not pass their check.
 pub const UNLIKE: u32 = 5;
+
+/// The status if there is no memory to find a position.
+pub const NO_MEMORY: u32 = 6;

@@ -4,4 +4,6 @@ mod DigestLaws
 mod LineLaws
 mod ListedLaws
 mod NameLaws
+mod PartLaws
 mod SumLaws
+mod SummaryLaws

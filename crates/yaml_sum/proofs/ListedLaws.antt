@@ -1,13 +1,16 @@
 -- A name that is written with escapes, byte by byte.
-use Rattle.std.proofs.Common.{◌≡◌, ◌==◌, ◌++◌, ℕ, ◌+◌, ◌<◌, Bool, true, false, cond, List, [], ◌∷◌, Option, None, Some, length, take, drop, get_or, refl, sym, ◌∙◌, ap, append_assoc, append-nil, arith}
-use Rattle.std.specs.Prelude.{◌&&◌, ◌||◌, nat_lt, slice_index, option_map}
+use Rattle.std.proofs.Common.{◌≡◌, ◌==◌, ◌++◌, ℕ, ◌+◌, ◌<◌, Bool, true, false, cond, List, [], ◌∷◌, Option, None, Some, length, map, take, drop, get_or, refl, sym, ◌∙◌, ap, append_assoc, append-nil, arith}
+use Rattle.std.specs.Prelude.{◌&&◌, nat_lt, slice_index, option_map, unwrap_or}
 use Rattle.std.proofs.lemmas.Bool.{ltb-true}
 use Rattle.std.proofs.lemmas.List.{length-take-le}
 use Rattle.std.proofs.lemmas.List.{drop_more}
 use Rattle.hex.specs.Hex.{decode_sized}
-use Rattle.yaml_sum.specs.Listed.{listed, escaped, with_front, name_of, is_apart, told_digest, both, listing, listing_of}
-use Rattle.yaml_sum.specs.Reads.{name_as, said, name_behind}
+use Rattle.yaml_sum.specs.Listed.{listed, escaped, with_front, name_as, name_of, name_part, name_read, has_digits, told_digest, both, plain, form_in, has_one_space, lines_of, listing_of}
+use Rattle.yaml_sum.specs.Names.{IsCut}
+use Rattle.yaml_sum.specs.Parts.{is_white, line_text}
+use Rattle.yaml_sum.specs.Reads.{said, name_behind}
 use Rattle.yaml_sum.specs.declared.listed.Listed.{Listed}
+use Rattle.yaml_sum.proofs.NameLaws.{pieces_cut, pieces_last}
 
 put_assoc : (plain : List ℕ) (b : ℕ) (r : Option (List ℕ)) → option_map (λ z. plain ++ z) (with_front (Some b) r) ≡ option_map (λ z. (plain ++ (b ∷ [])) ++ z) r
 put_assoc plain b None = refl
@@ -69,16 +72,39 @@ first_of : (a b : Bool) → (a && b) ≡ true → a ≡ true
 first_of true b e = refl
 first_of false b e = e
 
--- a line with room for a digest has its digits
-pub has_digits : (line : List ℕ) → is_apart line ≡ true → 64 ≡ length (take 64 line)
-has_digits line e =
-    let l : 66 < length line = ltb-true 66 (length line) (first_of (nat_lt 66 (length line)) ((slice_index line 64 == 32) && ((slice_index line 65 == 32) || (slice_index line 65 == 42))) e) in
-    sym (length-take-le 64 line (omega (arith, l)))
+-- a line with room for a digest has its digits and a byte behind them
+pub is_long : (line : List ℕ) → has_digits line ≡ true → 65 < length line
+is_long line e = ltb-true 65 (length line) (first_of (nat_lt 65 (length line)) (is_white (slice_index line 64)) e)
+
+pub digits_long : (line : List ℕ) → has_digits line ≡ true → 64 ≡ length (take 64 line)
+digits_long line e = let l = is_long line e in sym (length-take-le 64 line (omega (arith, l)))
 
 -- a line of a digest says what its name says
-pub listing_is : (line digest : List ℕ) (name : Option (List ℕ)) → is_apart line ≡ true → told_digest (decode_sized (take 64 line) 32) ≡ Some digest → both (Some digest) name ≡ listing line name
-listing_is line digest name e f = sym (ap (λ z. cond z (both (told_digest (decode_sized (take 64 line) 32)) name) None) e ∙ ap (λ z. both z name) f)
+pub plain_is : (line digest : List ℕ) (one_space is_escaped : Bool) (part : Option (List ℕ)) → has_digits line ≡ true → told_digest (decode_sized (take 64 line) 32) ≡ Some digest → part ≡ name_part one_space line
+    → both (Some digest) (name_read is_escaped part) ≡ plain one_space is_escaped line
+plain_is line digest one_space is_escaped part e f g =
+    sym (ap (λ z. cond z (both (told_digest (decode_sized (take 64 line) 32)) (name_read is_escaped (name_part one_space line))) None) e ∙ ap (λ z. both z (name_read is_escaped (name_part one_space line))) f
+    ∙ ap (λ z. both (Some digest) (name_read is_escaped z)) (sym g))
 
 -- a line whose name is written properly names a file
-pub listing_said : (line : List ℕ) (r : Option Listed) (l : Listed) (plain : List ℕ) → said r ≡ listing_of line → r ≡ Some l → name_as l.is_escaped l.name.now ≡ Some plain → listing_of line ≡ Some (listed l.digest plain)
-listing_said line r l plain e f g = sym e ∙ ap said f ∙ ap (both (Some l.digest)) g
+pub listing_said : (m : Bool) (line : List ℕ) (r : Option Listed) (l : Listed) (plain : List ℕ) → said r ≡ listing_of m line → r ≡ Some l → name_as l.is_escaped l.name.now ≡ Some plain → listing_of m line ≡ Some (listed l.digest plain)
+listing_said m line r l plain e f g = sym e ∙ ap said f ∙ ap (both (Some l.digest)) g
+
+-- ---- the form of a list
+
+-- a line that does not tell it comes off the rest
+pub form_more : (list rest piece more : List ℕ) → IsCut 10 rest piece (Some more) → form_in (line_text piece) ≡ None → has_one_space (lines_of list) ≡ has_one_space (lines_of rest) → has_one_space (lines_of list) ≡ has_one_space (lines_of more)
+form_more list rest piece more (one, e) f h =
+    h ∙ ap (λ z. has_one_space (lines_of z)) e ∙ ap (λ z. has_one_space (map line_text z)) (pieces_cut 10 piece more one) ∙ ap (λ z. unwrap_or z (has_one_space (lines_of more))) f
+
+-- the first one that tells it
+pub form_first : (list rest piece : List ℕ) (m : Option (List ℕ)) (form : Bool) → IsCut 10 rest piece m → form_in (line_text piece) ≡ Some form → has_one_space (lines_of list) ≡ has_one_space (lines_of rest) → form ≡ has_one_space (lines_of list)
+form_first list rest piece (Some more) form (one, e) f h =
+    sym (h ∙ ap (λ z. has_one_space (lines_of z)) e ∙ ap (λ z. has_one_space (map line_text z)) (pieces_cut 10 piece more one) ∙ ap (λ z. unwrap_or z (has_one_space (lines_of more))) f)
+form_first list rest piece None form (one, e) f h =
+    sym (h ∙ ap (λ z. has_one_space (lines_of z)) e ∙ ap (λ z. has_one_space (map line_text z)) (pieces_last 10 piece one) ∙ ap (λ z. unwrap_or z false) f)
+
+-- and none
+pub form_none : (list rest piece : List ℕ) → IsCut 10 rest piece None → form_in (line_text piece) ≡ None → has_one_space (lines_of list) ≡ has_one_space (lines_of rest) → false ≡ has_one_space (lines_of list)
+form_none list rest piece (one, e) f h =
+    sym (h ∙ ap (λ z. has_one_space (lines_of z)) e ∙ ap (λ z. has_one_space (map line_text z)) (pieces_last 10 piece one) ∙ ap (λ z. unwrap_or z false) f)

@@ -15,7 +15,7 @@ use Rattle.yaml_text.specs.Writers.{Printed, Broken}
 use Rattle.yaml_spell.proofs.Streams.{appends_none, appends_more}
 use Rattle.yaml_command.specs.Printing.{PrintFails}
 use Rattle.yaml_command.specs.Shelves.{IsOf, FileFails}
-use Rattle.yaml_sum.specs.Complaints.{complaint, IsTold}
+use Rattle.yaml_sum.specs.Complaints.{TellsStop}
 use Rattle.yaml_sum.specs.Lines.{sum_line}
 use Rattle.yaml_sum.specs.Reading.{GivesAll, GivesNotAll}
 use Rattle.yaml_sum.specs.Stops.{stop_status}
@@ -107,7 +107,7 @@ module _ {R : Type 0} (holds : List ℕ → Option (List ℕ)) (remaining : R �
     line_cut name old new o u a line piece fault (digest, has, e) f k = (inl (digest, has, subst (λ z. CutOff contents o u z fault) (f ∙ e) k), refl)
 
     -- or it has none, which is told
-    pub line_none : (name : List ℕ) (old new : R) (o : Counted W) (a b : Counted E) (stop : Stop) (status : ℕ) → HasNone holds remaining name old new stop → IsTold told a b (complaint name stop) → status ≡ stop_status stop → Sums holds remaining contents told name old new o o a b status
+    pub line_none : (name : List ℕ) (old new : R) (o : Counted W) (a b : Counted E) (stop : Stop) (status : ℕ) → HasNone holds remaining name old new stop → TellsStop told name stop a b → status ≡ stop_status stop → Sums holds remaining contents told name old new o o a b status
     line_none name old new o a b stop status has t e = record { outcome = stopped stop; becomes = has; sent = record { took = appends_none (contents (inner_of o)); counted = refl }; tells = t; status_is = e }
 
     -- or not

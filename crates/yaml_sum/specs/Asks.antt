@@ -4,16 +4,20 @@ use Rattle.std.specs.Borrow.{Bor}
 use Rattle.yaml_text.specs.declared.counted.Counted.{Counted}
 use Rattle.yaml_text.specs.CountedModel.{inner_of, faults_of}
 use Rattle.yaml_text.specs.Writers.{Printed, Broken}
-use Rattle.yaml_sum.specs.Checks.{ChecksAll, ChecksCut, Closes, any_in}
-use Rattle.yaml_sum.specs.Listed.{Listing, all_listings, improper_count, lines_of}
+use Rattle.yaml_sum.specs.Checks.{ChecksAll, ChecksCut, IsTally}
+use Rattle.yaml_sum.specs.Listed.{Listing, listings_in, impropers_in}
 use Rattle.yaml_sum.specs.Names.{names_in}
+use Rattle.yaml_sum.specs.Summaries.{Closes}
 use Rattle.yaml_sum.specs.Sums.{IsRead, IsNotRead, SumsAll, SumsCut}
+use Rattle.yaml_sum.specs.declared.asked.Rules.{Rules}
+use Rattle.yaml_sum.specs.declared.finding.Finding.{Finding}
+use Rattle.yaml_sum.specs.declared.told.Told.{Told}
 use Rattle.yaml_sum.specs.declared.asked.Asked.{Asked}
 use Rattle.yaml_sum.specs.declared.asked.Asked.TheVariants.{Files, FilesFrom, Check}
 use Rattle.yaml_sum.specs.Stops.{halt_status, halt_line}
 use Rattle.yaml_sum.specs.declared.stop.Halt.{Halt}
-use Rattle.yaml_sum.specs.declared.stop.Halt.TheVariants.{NoList, Fault}
-use Rattle.yaml_sum.specs.declared.stop.Stop.TheVariants.{CannotOpen, Refused}
+use Rattle.yaml_sum.specs.declared.stop.Halt.TheVariants.{NoList, Unread, Fault}
+use Rattle.yaml_sum.specs.declared.stop.Stop.TheVariants.{CannotOpen, Unread as NotRead, Refused}
 
 -- the greatest length of a list, in bytes
 abbrev pub list_limit : ℕ
@@ -23,13 +27,14 @@ list_limit = 1073741824
 abbrev pub list_in : Asked → Option (Bor (List ℕ))
 list_in (Files files) = None
 list_in (FilesFrom list) = Some list
-list_in (Check list) = Some list
+list_in (Check list rules) = Some list
 
 module _ {R : Type 0} (holds : List ℕ → Option (List ℕ)) (remaining : R → Option (List ℕ)) where
   -- why a list is not read
   abbrev pub ListUnread : List ℕ → R → R → Halt → Type 0
   ListUnread list old new (NoList name why) = (name.now ≡ list) × IsNotRead holds remaining list list_limit old new (CannotOpen why)
-  ListUnread list old new (Fault fault) = IsNotRead holds remaining list list_limit old new (Refused fault)
+  ListUnread list old new (Unread name fault) = (name.now ≡ list) × (IsNotRead holds remaining list list_limit old new (NotRead fault) ⊎ IsNotRead holds remaining list list_limit old new (Refused fault))
+  ListUnread list old new (Fault fault) = ⊥
 
 module _ {R W E : Type 0} (holds : List ℕ → Option (List ℕ)) (remaining : R → Option (List ℕ)) (contents : W → Option (List ℕ)) (told : E → Option (List ℕ)) where
   -- what summing these files leaves where it does not go on to the last
@@ -49,36 +54,39 @@ module _ {R W E : Type 0} (holds : List ℕ → Option (List ℕ)) (remaining : 
       ⊎ ((bytes : List ℕ) × (behind : R) × IsRead holds remaining list list_limit old behind bytes × CutAt (names_in bytes) behind out end before after halt)
 
   -- the files that a list of sums names are looked at, and what is told of all lines stands behind that
-  pub record ListChecked (list : List ℕ) (old new : R) (out end : Counted W) (before after : Counted E) (status : ℕ) : Type 0 where
+  pub record ListChecked (list : List ℕ) (rules : Rules) (old new : R) (out end : Counted W) (before after : Counted E) (status : ℕ) : Type 0 where
     pub bytes : List ℕ
     pub behind : R
     pub read : IsRead holds remaining list list_limit old behind bytes
-    pub worst : ℕ
+    pub findings : List Finding
     pub middle : Counted E
-    pub checks : ChecksAll holds remaining contents told (all_listings (lines_of bytes)) behind new out end before middle worst
-    pub closes : Closes told list (any_in (all_listings (lines_of bytes))) (improper_count (lines_of bytes)) worst middle after status
+    pub checks : ChecksAll holds remaining contents told rules (listings_in bytes) findings behind new out end before middle
+    pub told_of : Told
+    pub tally : IsTally findings told_of
+    pub improper : told_of.improper ≡ impropers_in bytes
+    pub closes : Closes told rules list told_of middle after status
 
   -- what checking these leaves where it does not go on to the last
-  abbrev pub CheckCutAt : List Listing → R → Counted W → Counted W → Counted E → Counted E → Halt → Type 0
-  CheckCutAt ls old out end before after (Fault fault) = ChecksCut holds remaining contents told ls old out end before after fault
-  CheckCutAt ls old out end before after _ = ⊥
+  abbrev pub CheckCutAt : Rules → List Listing → R → Counted W → Counted W → Counted E → Counted E → Halt → Type 0
+  CheckCutAt rules ls old out end before after (Fault fault) = ChecksCut holds remaining contents told rules ls old out end before after fault
+  CheckCutAt rules ls old out end before after _ = ⊥
 
   -- or the list is not read, or it is cut off
-  abbrev pub ListNotChecked : List ℕ → R → R → Counted W → Counted W → Counted E → Counted E → Halt → Type 0
-  ListNotChecked list old new out end before after halt =
+  abbrev pub ListNotChecked : List ℕ → Rules → R → R → Counted W → Counted W → Counted E → Counted E → Halt → Type 0
+  ListNotChecked list rules old new out end before after halt =
       (ListUnread holds remaining list old new halt × (end ≡ out) × (after ≡ before))
-      ⊎ ((bytes : List ℕ) × (behind : R) × IsRead holds remaining list list_limit old behind bytes × CheckCutAt (all_listings (lines_of bytes)) behind out end before after halt)
+      ⊎ ((bytes : List ℕ) × (behind : R) × IsRead holds remaining list list_limit old behind bytes × CheckCutAt rules (listings_in bytes) behind out end before after halt)
 
   -- what is asked is done, or why it is not
   abbrev pub Done : Asked → R → R → Counted W → Counted W → Counted E → Counted E → ℕ → Type 0
   Done (Files words) old new out end before after status = SumsAll holds remaining contents told (map (λ w. w.now) words.now) old new out end before after status
   Done (FilesFrom list) old new out end before after status = ListSummed list.now old new out end before after status
-  Done (Check list) old new out end before after status = ListChecked list.now old new out end before after status
+  Done (Check list rules) old new out end before after status = ListChecked list.now rules old new out end before after status
 
   abbrev pub NotDone : Asked → R → R → Counted W → Counted W → Counted E → Counted E → Halt → Type 0
   NotDone (Files words) old new out end before after halt = CutAt (map (λ w. w.now) words.now) old out end before after halt
   NotDone (FilesFrom list) old new out end before after halt = ListNotSummed list.now old new out end before after halt
-  NotDone (Check list) old new out end before after halt = ListNotChecked list.now old new out end before after halt
+  NotDone (Check list rules) old new out end before after halt = ListNotChecked list.now rules old new out end before after halt
 
   -- It is reported behind what standard error has, or a beginning of that line where a call fails, and the status is its own.
   pub record TellsHalt (asked : Asked) (old new : R) (out end : Counted W) (before after : Counted E) (status : ℕ) : Type 0 where

@@ -6,7 +6,9 @@ pub mod Digests
 pub mod Lines
 pub mod Listed
 pub mod Names
+pub mod Parts
 pub mod Reading
 pub mod Reads
 pub mod Stops
+pub mod Summaries
 pub mod Sums

@@ -1,5 +1,5 @@
 -- The lines of a list of sums.
-use Rattle.std.specs.Prelude.{◌==◌, ◌||◌, nat_lt, ◌++◌, ℕ, Bool, cond, List, [], ◌∷◌, Option, Some, None, is_some}
+use Rattle.std.specs.Prelude.{◌==◌, ◌||◌, ◌&&◌, not, nat_lt, ◌++◌, ℕ, Bool, cond, List, [], ◌∷◌, Option, Some, None, is_some}
 use Rattle.std.specs.List.{flat_map, list_any}
 use Rattle.hex.specs.Hex.{encode_lower}
 
@@ -15,16 +15,16 @@ byte_text b = cond (b == 92) (92 ∷ 92 ∷ []) (cond (b == 10) (92 ∷ 110 ∷ 
 abbrev pub name_text : List ℕ → List ℕ
 name_text name = flat_map byte_text name
 
--- a byte that stands for itself, and `?` for a control character, which a terminal would not print
-abbrev pub printed_byte : ℕ → ℕ
-printed_byte b = cond (nat_lt b 32 || (b == 127)) 63 b
+-- A byte that stands for itself, and `?` for a control character, which a terminal would not print. In a name that is no text each byte that is not ASCII is one.
+abbrev pub printed_byte : Bool → ℕ → ℕ
+printed_byte is_text b = cond (nat_lt b 32 || ((b == 127) || (nat_lt 127 b && not is_text))) 63 b
 
 -- a byte of a name, as it is written where a file has no sum
-abbrev pub told_byte : ℕ → List ℕ
-told_byte b = cond (b == 92) (92 ∷ 92 ∷ []) (cond (b == 10) (92 ∷ 110 ∷ []) (cond (b == 13) (92 ∷ 114 ∷ []) (printed_byte b ∷ [])))
+abbrev pub told_byte : Bool → ℕ → List ℕ
+told_byte is_text b = cond (b == 92) (92 ∷ 92 ∷ []) (cond (b == 10) (92 ∷ 110 ∷ []) (cond (b == 13) (92 ∷ 114 ∷ []) (printed_byte is_text b ∷ [])))
 
-abbrev pub told_name : List ℕ → List ℕ
-told_name name = flat_map told_byte name
+abbrev pub told_name : Bool → List ℕ → List ℕ
+told_name is_text name = flat_map (told_byte is_text) name
 
 -- whether a name is not written as it is
 abbrev pub is_special : List ℕ → Bool

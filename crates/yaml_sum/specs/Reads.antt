@@ -1,12 +1,7 @@
 -- What reading a line of a list of sums answers.
 use Rattle.std.specs.Prelude.{◌≡◌, ◌++◌, ℕ, Bool, true, false, List, Option, Some, None, option_map}
-use Rattle.yaml_sum.specs.Listed.{Listing, name_of, both}
+use Rattle.yaml_sum.specs.Listed.{Listing, name_as, name_of, both}
 use Rattle.yaml_sum.specs.declared.listed.Listed.{Listed}
-
--- a name by how it is written
-abbrev pub name_as : Bool → List ℕ → Option (List ℕ)
-name_as true written = name_of written
-name_as false written = Some written
 
 -- what a line says of which this was read
 abbrev pub says : Listed → Option Listing

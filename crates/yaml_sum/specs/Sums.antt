@@ -9,13 +9,13 @@ use Rattle.yaml_canon.specs.Claims.{CanonicalRefuses}
 use Rattle.yaml_spell.specs.Writers.{Sent, CutOff}
 use Rattle.yaml_text.specs.Writers.{Printed, Broken}
 use Rattle.yaml_command.specs.Shelves.{IsOf, FileFails}
-use Rattle.yaml_sum.specs.Complaints.{complaint, IsTold}
+use Rattle.yaml_sum.specs.Complaints.{TellsStop}
 use Rattle.yaml_sum.specs.Digests.{IsDigest}
 use Rattle.yaml_sum.specs.Lines.{sum_line}
 use Rattle.yaml_sum.specs.Reading.{GivesAll, GivesNotAll}
 use Rattle.yaml_sum.specs.Stops.{stop_status}
 use Rattle.yaml_sum.specs.declared.stop.Stop.{Stop}
-use Rattle.yaml_sum.specs.declared.stop.Stop.TheVariants.{CannotOpen, NotRegular, Refused}
+use Rattle.yaml_sum.specs.declared.stop.Stop.TheVariants.{CannotOpen, NotRegular, Unread, Refused}
 use Rattle.yaml_sum.specs.declared.buffers.Buffers.{Buffers}
 
 -- the line that is kept
@@ -55,7 +55,7 @@ worst (outcome ∷ outcomes) = max (outcome_status outcome) (worst outcomes)
 module _ {E : Type 0} (told : E → Option (List ℕ)) where
   abbrev pub Tells : List ℕ → Outcome → Counted E → Counted E → Type 0
   Tells name (summed digest) before after = after ≡ before
-  Tells name (stopped stop) before after = IsTold told before after (complaint name stop)
+  Tells name (stopped stop) before after = TellsStop told name stop before after
 
   -- the same of files in turn
   abbrev pub TellAll : List (List ℕ) → List Outcome → Counted E → Counted E → Type 0
@@ -68,6 +68,7 @@ module _ {E : Type 0} (told : E → Option (List ℕ)) where
 abbrev pub NotReadAs : Option (List ℕ) → List ℕ → ℕ → Stop → Type 0
 NotReadAs held name limit (CannotOpen why) = (¬ (IsUtf8 name)) ⊎ (held ≡ None)
 NotReadAs held name limit NotRegular = held ≡ None
+NotReadAs held name limit (Unread fault) = FileFails held limit fault
 NotReadAs held name limit (Refused fault) = FileFails held limit fault
 
 -- and standard input
@@ -75,12 +76,14 @@ module _ {R : Type 0} (remaining : R → Option (List ℕ)) where
   abbrev pub InputNotRead : R → R → ℕ → Stop → Type 0
   InputNotRead old new limit (CannotOpen why) = ⊥
   InputNotRead old new limit NotRegular = ⊥
+  InputNotRead old new limit (Unread fault) = GivesNotAll remaining old new limit fault
   InputNotRead old new limit (Refused fault) = GivesNotAll remaining old new limit fault
 
 -- what the bytes hold is refused
 abbrev pub IsRefused : List ℕ → Stop → Type 0
 IsRefused bytes (CannotOpen why) = ⊥
 IsRefused bytes NotRegular = ⊥
+IsRefused bytes (Unread fault) = ⊥
 IsRefused bytes (Refused fault) = CanonicalRefuses bytes fault
 
 module _ {R : Type 0} (holds : List ℕ → Option (List ℕ)) (remaining : R → Option (List ℕ)) where

@@ -1,5 +1,18 @@
 //! What is asked of `sum`.
 
+/// How a list is checked.
+#[derive(Clone, Copy, Debug, PartialEq, Eq)]
+pub struct Rules {
+    /// Whether a file that has its sum has no line.
+    pub is_quiet: bool,
+    /// Whether nothing is written of files and lines, so that the status alone tells of them.
+    pub is_silent: bool,
+    /// Whether a line that is none of a sum counts for the status.
+    pub is_strict: bool,
+    /// Whether files that are not there are left out.
+    pub skips_missing: bool,
+}
+
 /// Which files, and what of them.
 #[derive(Clone, Copy, Debug, PartialEq, Eq)]
 pub enum Asked<'a> {
@@ -8,7 +21,7 @@ pub enum Asked<'a> {
     /// The sum of each file that this list names; `-` is standard input.
     FilesFrom(&'a str),
     /// Whether the files have the sums that this list tells; `-` is standard input.
-    Check(&'a str),
+    Check(&'a str, Rules),
 }
 
 impl<'a> Asked<'a> {
@@ -21,7 +34,7 @@ impl<'a> Asked<'a> {
     {
         match self {
             Asked::Files(_) => None,
-            Asked::FilesFrom(list) | Asked::Check(list) => Some(list),
+            Asked::FilesFrom(list) | Asked::Check(list, _) => Some(list),
         }
     }
 }

@@ -1,5 +1,6 @@
 //! The sum of one file.
-ghost use Rattle.std.specs.Prelude.{◌≡◌, ◌<◌, ◌-◌, ◌^◌, OnOk, IfOk, IfErr};
+ghost use Rattle.std.specs.Prelude.{◌≡◌, ◌⊎◌, ◌<◌, ◌-◌, ◌^◌, OnOk, IfOk, IfErr};
+ghost use Rattle.yaml_sum.specs.declared.stop.Stop.TheVariants.{Refused, Unread as NotRead};
 ghost use Rattle.yaml_sum.specs.Sums.{is_input, kept_line, NotReadAs, IsRead, IsNotRead, HasDigest, HasNone, HasLine, Sums, Cuts};
 ghost use Rattle.yaml_command.specs.Shelves.{IsOf};
 
@@ -30,6 +31,16 @@ fn is_input(name: &[u8]) -> bool
     }
 }
 
+/// Why a file is not read to its end. One that is too long is refused, as others are for what they hold.
+fn unread(fault: Fault) -> Stop
+    ensures { (result ≡ Refused fault) ⊎ (result ≡ NotRead fault) }
+{
+    match fault {
+        Fault::TooLong => Stop::Refused(fault),
+        _ => Stop::Unread(fault),
+    }
+}
+
 /// Reads the file of a name into the buffer. A name that is no UTF-8 is not opened.
 fn read_named<S: Shelf>(
     shelf: &S,
@@ -52,7 +63,7 @@ fn read_named<S: Shelf>(
     };
     match refill(bytes, &mut file, limit) {
         Ok(()) => Ok(()),
-        Err(fault) => Err(Stop::Refused(fault)),
+        Err(fault) => Err(unread(fault)),
     }
 }
 
@@ -73,7 +84,7 @@ pub(crate) fn read_file<S: Shelf, R: Read>(
     }
     match refill(bytes, input, limit) {
         Ok(()) => Ok(()),
-        Err(fault) => Err(Stop::Refused(fault)),
+        Err(fault) => Err(unread(fault)),
     }
 }
 
@@ -141,7 +152,7 @@ pub(crate) fn sum_file<S: Shelf, R: Read, W: Write, E: Write>(
             Ok(0)
         }
         Err(stop) => {
-            tell(alloc, &mut buffers.line, name, stop, err)?;
+            tell(alloc, &mut buffers.line, name, &buffers.bytes, stop, err)?;
             Ok(stop.status())
         }
     }

@@ -52,22 +52,26 @@ pub(crate) fn push_name(line: &mut Vec<u8>, name: &[u8]) -> Result<(), Fault>
     Ok(())
 }
 
-/// A byte that stands for itself, and `?` for a control character.
-fn printed_byte(byte: u8) -> u8
-    ensures { result ≡ printed_byte byte }
+/// A byte that stands for itself, and `?` for a control character. In a name that is no text each byte that is not ASCII is one.
+fn printed_byte(byte: u8, is_text: bool) -> u8
+    ensures { result ≡ printed_byte is_text byte }
 {
-    if byte < 32 || byte == 127 { b'?' } else { byte }
+    if byte < 32 || byte == 127 || (byte > 127 && !is_text) {
+        b'?'
+    } else {
+        byte
+    }
 }
 
 /// Puts a name behind a line that reports a file, with `?` for each control character that has no escape.
-pub(crate) fn push_told_name(line: &mut Vec<u8>, name: &[u8]) -> Result<(), Fault>
-    ensures ok { OnOk result (line.new.items ≡ line.old.items ++ told_name name.now) }
+pub(crate) fn push_told_name(line: &mut Vec<u8>, name: &[u8], is_text: bool) -> Result<(), Fault>
+    ensures ok { OnOk result (line.new.items ≡ line.old.items ++ told_name is_text name.now) }
     ensures only { IfErr result (λ fault. fault ≡ Fault.OutOfMemory) }
 {
     'bytes: for byte in name {
         match escape_of(*byte) {
             Some(escape) => push(line, escape)?,
-            None => push(line, &[printed_byte(*byte)])?,
+            None => push(line, &[printed_byte(*byte, is_text)])?,
         }
     }
     Ok(())

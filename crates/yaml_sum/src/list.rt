@@ -28,6 +28,6 @@ pub(crate) fn read_list<'a, S: Shelf, R: Read>(
         Err(Stop::CannotOpen(why)) => Err(Halt::NoList(list, why)),
         // A list is opened whatever it is.
         Err(Stop::NotRegular) => Err(Halt::NoList(list, Reason::Other)),
-        Err(Stop::Refused(fault)) => Err(Halt::Fault(fault)),
+        Err(Stop::Unread(fault) | Stop::Refused(fault)) => Err(Halt::Unread(list, fault)),
     }
 }

@@ -40,14 +40,12 @@ impl<T: Files> Shelf for Regular<'_, '_, T> {
     type File = T::File;
 
     fn open(&self, name: &str) -> io::Result<T::File> {
-        if !self.is_list(name) {
-            let found = fs::metadata(self.rt, name)?;
-            if found.is_dir() {
-                return Err(io::Error::from(io::ErrorKind::IsADirectory));
-            }
-            if !found.is_file() {
-                return Err(io::Error::from(NOT_REGULAR));
-            }
+        let found = fs::metadata(self.rt, name)?;
+        if found.is_dir() {
+            return Err(io::Error::from(io::ErrorKind::IsADirectory));
+        }
+        if !found.is_file() && !self.is_list(name) {
+            return Err(io::Error::from(NOT_REGULAR));
         }
         fs::open(self.rt, name)
     }

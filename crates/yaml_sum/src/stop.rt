@@ -25,21 +25,34 @@ pub(crate) enum Stop {
     CannotOpen(Reason),
     /// It is no regular file, and not opened.
     NotRegular,
-    /// It can't be read, or what it holds is refused.
+    /// It can't be read to its end.
+    Unread(Fault),
+    /// It is too long, or what it holds is refused.
     Refused(Fault),
 }
 
 impl Stop {
     ghost use Rattle.std.specs.Prelude.{◌≡◌};
+    ghost use Rattle.yaml_sum.specs.Complaints.{is_text};
     ghost use Rattle.yaml_sum.specs.Stops.{stop_status};
+
+    /// Whether the name is text, as far as this tells it.
+    pub(crate) fn is_text(self) -> bool
+        ensures { result ≡ is_text self }
+    {
+        match self {
+            Stop::CannotOpen(Reason::NotUtf8) => false,
+            _ => true,
+        }
+    }
 
     /// The exit status: 2 where what a file holds is refused, 3 where it can't be opened or read.
     pub(crate) fn status(self) -> u8
         ensures { result ≡ stop_status self }
     {
         match self {
-            Stop::CannotOpen(_) | Stop::NotRegular | Stop::Refused(Fault::ReadFault) => UNUSABLE,
-            Stop::Refused(_) => REFUSED,
+            Stop::CannotOpen(_) | Stop::NotRegular => UNUSABLE,
+            Stop::Unread(fault) | Stop::Refused(fault) => fault_status(fault),
         }
     }
 }
@@ -49,7 +62,9 @@ impl Stop {
 pub(crate) enum Halt<'a> {
     /// The list of this name cannot be opened.
     NoList(&'a str, Reason),
-    /// The list cannot be read, the output fails, or memory is refused.
+    /// The list of this name is not read to its end.
+    Unread(&'a str, Fault),
+    /// The output fails, or memory is refused.
     Fault(Fault),
 }
 
@@ -63,7 +78,7 @@ impl Halt<'_> {
     {
         match self {
             Halt::NoList(_, _) => UNUSABLE,
-            Halt::Fault(fault) => fault_status(fault),
+            Halt::Unread(_, fault) | Halt::Fault(fault) => fault_status(fault),
         }
     }
 }

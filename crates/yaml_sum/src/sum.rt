@@ -106,13 +106,13 @@ fn run<'a, S: Shelf, R: Read, W: Write, E: Write>(
     match asked {
         Asked::Files(words) => sum_words(shelf, alloc, words, input, out, err),
         Asked::FilesFrom(list) => sum_listed(shelf, alloc, list, input, out, err),
-        Asked::Check(list) => check_list(shelf, alloc, list, input, out, err),
+        Asked::Check(list, rules) => check_list(shelf, alloc, list, rules, input, out, err),
     }
 }
 
 /// Sums files, or checks their sums, and answers the exit status, which is that of the worst file: 0, 1
 /// where a file has another sum than its list tells, 2 where one is refused, 3 where one can't be opened
-/// or read, or the list or a stream can't be used.
+/// or read, or the list or a stream can't be used. The rules may give a list the status 1 for other reasons.
 ///
 /// A line for each file is written on `out` as soon as it is made, in the order of the names, each in one
 /// piece. A file that is refused or can't be read has no line there and one on `err`, with its name, and
