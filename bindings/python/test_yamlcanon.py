@@ -489,7 +489,7 @@ OTHER = (
         f"uint32_t yamlcanon_{name}(void) {{ return 0; }}\n"
         for name in (
             *("canonical_within", "diff_within", "events_within", "json_within", "same_within", "sha256_within", "show_within"),
-            *("values_within", "message", "position", "release"),
+            *("values_within", "position_within", "json_position_within", "message", "position", "release"),
         )
     )
 )
