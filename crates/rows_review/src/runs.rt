@@ -8,38 +8,22 @@ use std::test::Fail;
 use yaml_command::shelf::Shelf;
 
 /// Files that are there in each run, by name.
-static FILES: [(&str, &[u8]); 10] = [
-    ("flow.yaml", b"[a, b]\n"),
-    ("back\\slash", b"[a, b]\n"),
-    ("line\nfeed", b"[a, b]\n"),
-    ("carriage\rreturn", b"[a, b]\n"),
-    ("block.yaml", b"# two items\n- 'a'\n- \"\\x62\"\n"),
-    ("one.yaml", b"- x\n"),
-    ("refused.yaml", b"a: [1,\n2\n"),
-    ("lines", b"flow.yaml\n\none.yaml"),
-    ("empty\nlist", b""),
-    ("nulls", b"line\nfeed\0one.yaml\0"),
-];
+static FILES: [(&str, &[u8]); 2] = [("flow.yaml", b"[a, b]\n"), ("one.yaml", b"- x\n")];
 
-/// These, a folder, and the files `left` and `right`.
+/// These, and names of which an open fails.
 #[derive(Clone, Copy)]
-struct Files<'a> {
-    left: &'a [u8],
-    right: &'a [u8],
-}
+struct Files;
 
-impl<'a> Shelf for Files<'a> {
-    type File = &'a [u8];
+impl Shelf for Files {
+    type File = &'static [u8];
 
-    fn open(&self, name: &str) -> io::Result<&'a [u8]> {
+    fn open(&self, name: &str) -> io::Result<&'static [u8]> {
         match name {
-            "left" => return Ok(self.left),
-            "right" => return Ok(self.right),
             // As the files of a runtime answer what is no regular file.
             "folder" => return Err(io::Error::from(io::ErrorKind::Unsupported)),
+            "one.yaml/a" => return Err(io::Error::from(io::ErrorKind::NotADirectory)),
             "a folder" => return Err(io::Error::from(io::ErrorKind::IsADirectory)),
             "denied" => return Err(io::Error::from(io::ErrorKind::PermissionDenied)),
-            "one.yaml/a" => return Err(io::Error::from(io::ErrorKind::NotADirectory)),
             _ => {}
         }
         for (file, bytes) in &FILES {
@@ -74,13 +58,10 @@ impl Write for Short<'_> {
     }
 }
 
-/// What a run is given: words, the files `left` and `right`, a standard input, and how many bytes standard
-/// output and standard error take.
+/// What a run is given: words, a standard input, and how many bytes standard output and standard error take.
 #[derive(Clone, Copy)]
 pub struct Given<'a> {
     pub words: &'a [&'a str],
-    pub left: &'a [u8],
-    pub right: &'a [u8],
     pub input: &'a [u8],
     pub rooms: (usize, usize),
 }
@@ -114,10 +95,6 @@ pub fn run(alloc: Global, given: Given<'_>) -> Result<Ran, Fail> {
     for word in given.words {
         words.push(word.to_string(alloc)?)?;
     }
-    let files = Files {
-        left: given.left,
-        right: given.right,
-    };
     let (mut held, mut held_err) = (Vec::new(alloc), Vec::new(alloc));
     let out = Short {
         held: &mut held,
@@ -127,7 +104,7 @@ pub fn run(alloc: Global, given: Given<'_>) -> Result<Ran, Fail> {
         held: &mut held_err,
         room: given.rooms.1,
     };
-    let status = command_over(&files, alloc, words.as_slice(), given.input, out, err);
+    let status = command_over(&Files, alloc, words.as_slice(), given.input, out, err);
     Ok(Ran {
         status,
         out: String::from_utf8(held)?,

@@ -253,6 +253,52 @@ static NAMED: [Row; 4] = [
     },
 ];
 
+/// Files of which a read fails: each file is read whole before either is judged, and no line names a file that is read.
+static FILES: [Row; 7] = [
+    Row {
+        name: "same of failing.yaml and missing.yaml",
+        words: &["same", "failing.yaml", "missing.yaml"],
+        err: "yaml: left: 22 ReadFault\n",
+        ..READ
+    },
+    Row {
+        name: "same of bad.yaml and failing.yaml",
+        words: &["same", "bad.yaml", "failing.yaml"],
+        err: "yaml: right: 22 ReadFault\n",
+        ..READ
+    },
+    Row {
+        name: "same of missing.yaml and failing.yaml",
+        words: &["same", "missing.yaml", "failing.yaml"],
+        err: "yaml: cannot open missing.yaml\n",
+        ..READ
+    },
+    Row {
+        name: "events of failing.yaml",
+        words: &["events", "failing.yaml"],
+        err: "yaml: 22 ReadFault\n",
+        ..READ
+    },
+    Row {
+        name: "check of open.yaml and failing.yaml",
+        words: &["check", "open.yaml", "failing.yaml"],
+        err: "yaml: events: 22 ReadFault\n",
+        ..READ
+    },
+    Row {
+        name: "check of failing.yaml and missing.yaml",
+        words: &["check", "failing.yaml", "missing.yaml"],
+        err: "yaml: 22 ReadFault\n",
+        ..READ
+    },
+    Row {
+        name: "check of missing.yaml and failing.yaml",
+        words: &["check", "missing.yaml", "failing.yaml"],
+        err: "yaml: cannot open missing.yaml\n",
+        ..READ
+    },
+];
+
 fn is_told<T: Abort + AllocGlobal>(rt: &T, row: &Row) -> Result<(), Fail> {
     let alloc = rt.alloc();
     let words = owned(alloc, row.words)?;
@@ -273,7 +319,7 @@ fn is_told<T: Abort + AllocGlobal>(rt: &T, row: &Row) -> Result<(), Fail> {
 
 #[test]
 fn streams_that_fail_or_give_too_much_are_told(rt: HostRuntime) -> Result<(), Fail> {
-    let tables: [&[Row]; 4] = [&LONG, &READS, &WRITES, &NAMED];
+    let tables: [&[Row]; 5] = [&LONG, &READS, &WRITES, &NAMED, &FILES];
     for table in &tables {
         for row in *table {
             is_told(&rt, row)?;

@@ -3,7 +3,7 @@ use crate::fakes::{NONE, Source};
 use std::io;
 use yaml_command::shelf::Shelf;
 
-pub static SOURCES: [(&str, Source<'static>); 16] = [
+static SOURCES: [(&str, Source<'static>); 6] = [
     (
         "a.yaml",
         Source {
@@ -19,20 +19,6 @@ pub static SOURCES: [(&str, Source<'static>); 16] = [
         },
     ),
     (
-        "-V",
-        Source {
-            bytes: b"--- \"named V\"",
-            ..NONE
-        },
-    ),
-    (
-        "-",
-        Source {
-            bytes: b"--- \"named -\"",
-            ..NONE
-        },
-    ),
-    (
         "bad.yaml",
         Source {
             bytes: b"a\xff",
@@ -40,44 +26,9 @@ pub static SOURCES: [(&str, Source<'static>); 16] = [
         },
     ),
     (
-        "keys.yaml",
-        Source {
-            bytes: b"--- {\"a\" : \"1\", \"a\" : \"2\"}",
-            ..NONE
-        },
-    ),
-    (
-        "map.yaml",
-        Source {
-            bytes: b"--- {\"b\" : [\"x\"], \"a\" : [\"x\"]}",
-            ..NONE
-        },
-    ),
-    (
-        "alias.yaml",
-        Source {
-            bytes: b"--- {\"a\" : &q [\"x\"], \"b\" : *q}",
-            ..NONE
-        },
-    ),
-    (
-        "cycle.yaml",
-        Source {
-            bytes: b"--- &a [*a]",
-            ..NONE
-        },
-    ),
-    (
         "open.yaml",
         Source {
             bytes: b"--- [\"",
-            ..NONE
-        },
-    ),
-    (
-        "long.yaml",
-        Source {
-            zeros: 67_108_865,
             ..NONE
         },
     ),
@@ -94,27 +45,6 @@ pub static SOURCES: [(&str, Source<'static>); 16] = [
         "a.events",
         Source {
             bytes: b"+STR\n+DOC ---\n+SEQ []\n=VAL \"a\n=VAL \"b\n-SEQ\n-DOC\n-STR\n",
-            ..NONE
-        },
-    ),
-    (
-        "empty.events",
-        Source {
-            bytes: b"+STR\n-STR\n",
-            ..NONE
-        },
-    ),
-    (
-        "bad.events",
-        Source {
-            bytes: b"+STR\n+DOC\nnothing\n-STR\n",
-            ..NONE
-        },
-    ),
-    (
-        "bytes.events",
-        Source {
-            bytes: b"+STR\n\xff\n",
             ..NONE
         },
     ),

@@ -1,4 +1,4 @@
-//! Test cases of what `yamlcanon` prints and its statuses.
+//! Test cases of `yamlcanon` that no run of the program shows: streams and files that fail, and the message of each fault.
 #![tactic(auto)]
 
 #[cfg(test)]
@@ -8,15 +8,7 @@ mod fakes;
 #[cfg(test)]
 mod files;
 #[cfg(test)]
-mod named;
-#[cfg(test)]
-mod opened;
-#[cfg(test)]
 mod pages;
-#[cfg(test)]
-mod pair;
-#[cfg(test)]
-mod rows;
 #[cfg(test)]
 mod runs;
 #[cfg(test)]

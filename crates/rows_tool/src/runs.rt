@@ -1,10 +1,7 @@
 //! Runs of words over the tests' own streams and files.
-use crate::fakes::Source;
 use std::alloc::Global;
 use std::process::Abort;
 use std::test::Fail;
-use yaml_command::command::command_over;
-use yaml_command::shelf::Shelf;
 
 /// What a run answered and wrote.
 #[derive(Drop)]
@@ -50,18 +47,4 @@ pub fn owned(alloc: Global, words: &[&str]) -> Result<Vec<String>, Fail> {
         list.push(word.to_string(alloc)?)?;
     }
     Ok(list)
-}
-
-/// Runs the words by `yaml_command` over a shelf of files and a standard input.
-pub fn run<S: Shelf>(
-    alloc: Global,
-    files: &S,
-    words: &[&str],
-    input: Source<'_>,
-) -> Result<Ran, Fail> {
-    let words = owned(alloc, words)?;
-    let mut out = Vec::new(alloc);
-    let mut err = Vec::new(alloc);
-    let status = command_over(files, alloc, words.as_slice(), input, &mut out, &mut err);
-    Ran::new(status, out, err)
 }

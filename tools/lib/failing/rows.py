@@ -1,16 +1,19 @@
-"""rows.py: the worked examples of `crates/yaml_vectors` and `crates/rows_streams`, read from the text of their tables.
+"""rows.py: the worked examples of `crates/yaml_vectors`, read from the text of their tables, and those of tools/data/cases/streams.
 
 A table is `static NAME: [Type; N] = [`, rows, `];`. Each has to give N rows, so that none is lost. Those of the type `Built` are
-left out, since their inputs are made by a function. `python3 rows.py` counts the rows of each file.
+left out, since their inputs are made by a function, and so are the streams whose inputs are made of a piece (lib/form/built.py has
+these). `python3 rows.py` counts the rows of each file.
 """
 import collections
 import glob
 import os
 import re
 
-from lib.paths import TOP
+from lib.cases.table import STREAMS, blocks_of, events_of, paths, table_of
+from lib.cases.texts import whole
+from lib.paths import TOP, read
 
-FILES = sorted(glob.glob(TOP + "/crates/yaml_vectors/src/*.rt") + glob.glob(TOP + "/crates/rows_streams/src/*.rt"))
+FILES = sorted(glob.glob(TOP + "/crates/yaml_vectors/src/*.rt"))
 
 # where a row stands; its input; what its table says of `canon` and of `events` (None: nothing): a text, or a fault's line
 Row = collections.namedtuple("Row", "place input canon events")
@@ -81,11 +84,10 @@ def rows_of_table(kind, place, body):
     return rows
 
 
-def tables():
+def rows_of_crates():
     """Each file's rows. A table that does not give as many rows as it says is an error."""
     for path in FILES:
-        with open(path, encoding="utf-8") as file:
-            source = file.read()
+        source = read(path)
         rows = []
         for name, kind, count, body in TABLE.findall(source):
             if kind != "Built" and not kind.startswith("&["):
@@ -93,6 +95,38 @@ def tables():
                 assert len(found) == int(count), (path, name, len(found), count)
                 rows += found
         yield path, rows
+
+
+def said_of(block):
+    """What the block of a stream says of `canon` and of `events`."""
+    events, fault = events_of(block), block["fault"].encode() if "fault" in block else None
+    canon = whole(block["canonical"]) if "canonical" in block else fault
+    return canon, fault if events is None and not block.get("read") else events
+
+
+def is_made(block):
+    return not isinstance(block["input"], str) and "bytes" not in block["input"]
+
+
+def streams():
+    """(path, name, block) of each stream of tools/data/cases/streams."""
+    for path in paths(STREAMS):
+        for _, _, block in blocks_of(table_of(path)):
+            yield path, "%s: %s" % (os.path.basename(path), block.get("name", block["input"])), block
+
+
+def rows_of_streams():
+    found = {path: [] for path in paths(STREAMS)}
+    for path, place, block in streams():
+        if not is_made(block):
+            found[path].append(Row(place, whole(block["input"]), *said_of(block)))
+    yield from found.items()
+
+
+def tables():
+    """Each file's rows."""
+    yield from rows_of_crates()
+    yield from rows_of_streams()
 
 
 def all_rows():
