@@ -8,7 +8,7 @@
 
 The list is planted.list. What is asked, the cheapest first, until something tells:
 
-- of a definition of the grammar: the rows of `yaml_vectors` and `rows_streams`, the cases of yaml-test-suite (PLACE: see
+- of a definition of the grammar: the rows of `yaml_vectors` and tools/data/cases/streams, the cases of yaml-test-suite (PLACE: see
   `tools/conformance suite --help`) and the short readings that are stored, as the wrong definitions read them (planted_texts.py);
 - `rt check` of yaml_definitions, over what an earlier check kept: an example that is computed or derived, or a law;
 - `rt check` of the law crates that stand on yaml_definitions alone or nearly so (`law_length`, `law_read_back`, `yaml_core`).
@@ -31,7 +31,7 @@ from concurrent.futures import ThreadPoolExecutor
 HERE = os.path.dirname(os.path.realpath(__file__))
 sys.path.insert(0, os.path.dirname(HERE))  # for lib
 from lib.arguments import parser
-from lib.paths import RT, TOP
+from lib.paths import RT, TOP, read, write
 from lib.antt import File
 from lib.crates import write_list
 
@@ -57,8 +57,7 @@ class Planting:
         path = "%s/%s.antt" % (specs, self.file)
         if not os.path.isfile(path):
             return None
-        with open(path, encoding="utf-8") as file:
-            lines = file.read().split("\n")
+        lines = read(path).split("\n")
         block = File(path, lines).by_name.get(self.name)
         if not block or block.text().count(self.right) != 1:
             return None
@@ -72,8 +71,7 @@ class Planting:
     def put(self, specs):
         """Puts it into a copy of the definitions."""
         text = self.changed(specs)
-        with open("%s/%s.antt" % (specs, self.file), "w", encoding="utf-8") as file:
-            file.write(text)
+        write("%s/%s.antt" % (specs, self.file), text)
 
 
 class Room:

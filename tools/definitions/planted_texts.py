@@ -1,7 +1,7 @@
 #!/usr/bin/env python3
 """planted_texts.py: the first text that tells changed definitions of the grammar from what it is known to be read as.
 
-The environment variable SPECS names a folder that has the definitions (as in shadow.py). The texts are the rows of `yaml_vectors` and `rows_streams`, the cases of
+The environment variable SPECS names a folder that has the definitions (as in shadow.py). The texts are the rows of `yaml_vectors` and tools/data/cases/streams, the cases of
 yaml-test-suite (SUITE: a checkout or an archive, see `tools/conformance suite --help`) and the texts of at most 3 characters of short_readings/, all
 of at most 400 characters, each with its events or none. Prints the first that is read otherwise, and its kind; nothing where
 there is none.

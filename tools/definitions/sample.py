@@ -1,8 +1,8 @@
 #!/usr/bin/env python3
 """Streams for the reader, with the events that the definitions give them.
 
-`rows` prints test cases for crates/rows_read/src/sample.rt; `hex` the streams alone, each a line of hexadecimal digits; `compare` reads
-what a reader answers to `hex`, a line for each stream as the rows have it (a fault begins with its number), and prints differences.
+`cases` prints test cases for tools/data/cases/reader; `hex` the streams alone, each a line of hexadecimal digits; `compare` reads what a
+reader answers to `hex`, a line for each stream with a bar before each event (a fault begins with its number), and prints differences.
 
 The streams are COUNT random rows of pieces, and under `hex` and `compare` all texts of at most three characters over some
 alphabets too. Their events are those that `shadow.py` finds, so a reader that agrees reads what the definitions say.
@@ -12,6 +12,7 @@ import sys
 
 import shadow
 from lib.arguments import parser
+from lib.cases.texts import spelled
 
 ALPHABETS = ["a:-# \n[],", 'a?{}:," \n', "a&*! :\n-", "a|> \n:-#", "&!a\n :[]", "'\"a\n \\:", "-.a\n %#"]
 PIECES = [
@@ -38,25 +39,9 @@ PIECES = [
     "'y'",
     "|\n",
     ">\n",
-    "# c\n",
-    "---\n",
-    "--- ",
-    "...\n",
-    "%x y\n",
-    "&b",
-    "!!s",
-    "\n ",
-    "\n  ",
-    "%TAG !e! q\n",
-    "!e!z ",
-    "k: v\n",
-    "- k: v\n",
-    "\t",
-    "\r\n",
-    " #",
-    "?",
-    ":\n",
 ]
+PIECES += ["# c\n", "---\n", "--- ", "...\n", "%x y\n", "&b", "!!s", "\n ", "\n  ", "%TAG !e! q\n", "!e!z ", "k: v\n", "- k: v\n"]
+PIECES += ["\t", "\r\n", " #", "?", ":\n"]
 
 
 def random_texts(count):
@@ -68,7 +53,7 @@ def all_texts(count):
     return sorted(short | random_texts(count))
 
 
-def shown(events):
+def shown(events, bar="|", content=str):
     """The events but for the stream's start and end, a bar before each."""
 
     def properties(anchor, tag):
@@ -78,48 +63,39 @@ def shown(events):
     for e in events:
         if e[0] in ("+STR", "-STR"):
             continue
-        out += "|" + e[0]
+        out += bar + e[0]
         if e[0] in ("+DOC", "-DOC"):
             out += (" ---" if e[0] == "+DOC" else " ...") if e[1] else ""
         elif e[0] in ("+SEQ", "+MAP"):
             out += ((" []" if e[0] == "+SEQ" else " {}") if e[1] else "") + properties(e[2], e[3])
         elif e[0] == "=VAL":
-            out += properties(e[1], e[2]) + " " + e[3] + e[4]
+            out += properties(e[1], e[2]) + " " + e[3] + content(e[4])
         elif e[0] == "=ALI":
             out += " *" + e[1]
     return out
 
 
-def answer(text):
+def answer(text, *how):
     lists = shadow.event_lists(text, True, 1024)
     assert len(lists) < 2, text
-    return shown(next(iter(lists))) if lists else "refused"
+    return shown(next(iter(lists)), *how) if lists else "refused"
 
 
-def literal(s):
-    marks = {"\\": "\\\\", '"': '\\"', "\n": "\\n", "\t": "\\t", "\r": "\\r"}
-    return '"' + "".join(marks.get(c, c) for c in s) + '"'
+def escaped(text):
+    """The content of a scalar as an event text has it."""
+    marks = {"\\": "\\\\", "\n": "\\n", "\t": "\\t", "\r": "\\r"}
+    return "".join(marks.get(c, c) for c in text)
 
 
-def rows(count):
+def cases(count):
     texts = sorted(random_texts(8 * count))
-    answers = [(t, answer(t)) for t in texts]
-    read = [r for r in answers if len(r[1]) > 20]
-    none = [r for r in answers if r[1] == "refused"]
+    answers = [(text, answer(text, "\n", escaped)) for text in texts]
+    read = [each for each in answers if len(each[1]) > 20]
+    none = [each for each in answers if each[1] == "refused"]
     chosen = sorted(random.sample(read, 2 * count // 3) + random.sample(none, count - 2 * count // 3))
-    print("//! A sample of random streams, with the events that the definitions give them (`tools/definitions/sample.py rows`).")
-    print("use crate::rows::{Row, agree};\nuse std::test::Fail;\n")
-    size = 40
-    for k in range(0, len(chosen), size):
-        part = chosen[k : k + size]
-        name = "SAMPLE_%d" % (k // size + 1)
-        print("static %s: [Row; %d] = [" % (name, len(part)))
-        for text, events in part:
-            print("    Row { input: %s, answer: %s }," % (literal(text), literal(events)))
-        print(
-            "];\n\n#[test]\nfn agrees_with_the_definitions_%d(rt: HostRuntime) -> Result<(), Fail> {\n    agree(&rt, &%s)\n}\n"
-            % (k // size + 1, name)
-        )
+    for text, events in chosen:
+        said = 'fault = "any"' if events == "refused" else f"events = {spelled(f'+STR{events}' + chr(10) + '-STR' + chr(10))}"
+        print(f"\n[[stream]]\ninput = {spelled(text)}\n{said}")
 
 
 def compare(count):
@@ -135,13 +111,13 @@ def compare(count):
 
 def main(words=None):
     given = parser("tools/definitions/sample.py", __doc__)
-    given.add_argument("command", choices=("rows", "hex", "compare"))
+    given.add_argument("command", choices=("cases", "hex", "compare"))
     given.add_argument("count", type=int, metavar="COUNT")
     given.add_argument("seed", type=int, metavar="SEED")
     options = given.parse_args(words)
     random.seed(options.seed)
-    if options.command == "rows":
-        rows(options.count)
+    if options.command == "cases":
+        cases(options.count)
     elif options.command == "hex":
         print("\n".join(t.encode().hex() for t in all_texts(options.count)))
     else:

@@ -897,21 +897,7 @@ class World:
     """All definitions, translated."""
 
     skipped = {"ReadsText", "Unread"}
-    mods = [
-        "Limits",
-        "Event",
-        "Tag",
-        "Characters",
-        "Events",
-        "Separation",
-        "Tags",
-        "FlowScalars",
-        "BlockScalars",
-        "Nodes",
-        "Directives",
-        "Streams",
-        "Calls",
-    ]
+    mods = "Limits Event Tag Characters Events Separation Tags FlowScalars BlockScalars Nodes Directives Streams Calls".split()
 
     def __init__(self):
         self.files, self.defs, self.code = {}, {}, []

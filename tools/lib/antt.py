@@ -1,6 +1,8 @@
 """The one reader of `.antt` files: the definitions of specs/, what each names, and what a name in them stands for.
 
 What is read is the layout that `rt fmt` gives. Nothing is checked: that is for the checker."""
+from __future__ import annotations
+
 import os
 import re
 
@@ -14,16 +16,17 @@ IMPORT = re.compile(r"(?:pub )?(?:ghost )?use (Rattle\.[\w.+]+?)(?:\.\{(.*)\}| a
 class Block:
     """A definition, or several that need each other: its comment, its lines, the names that it brings, the modules round it."""
 
-    def __init__(self, path, place, indent, comment, around):
+    def __init__(self, path: str, place: int, indent: int, comment: list[str], around: list[tuple[str, tuple[str, ...]]]) -> None:
         self.path, self.place, self.indent, self.comment, self.around = path, place, indent, comment, around
-        self.lines, self.names = [], []
+        self.lines: list[str] = []
+        self.names: list[str] = []
 
-    def text(self):
+    def text(self) -> str:
         return "\n".join(self.lines)
 
-    def parts(self):
+    def parts(self) -> list[Part]:
         """Each definition of the block: its name, its lines without comments, and the cases that it has, if it is a `data`."""
-        parts = []
+        parts: list[Part] = []
         for line in self.lines:
             text, indent = line.strip(), len(line) - len(line.lstrip())
             found = STARTS.match(text) if KEYED.match(text) else None
@@ -41,15 +44,18 @@ class Block:
 class Part:
     """A definition of a block. `has_cases`: it is a `data` or a `record`."""
 
-    def __init__(self, name, indent, has_cases):
-        self.name, self.indent, self.has_cases, self.lines, self.cases = name, indent, has_cases, [], []
+    def __init__(self, name: str, indent: int, has_cases: bool) -> None:
+        self.name, self.indent, self.has_cases = name, indent, has_cases
+        self.lines: list[str] = []
+        self.cases: list[str] = []
 
 
 class Imports:
     """What the names of a file stand for: the module and the name there, or the module alone for one that is named by `as`."""
 
-    def __init__(self, lines):
-        self.names, self.modules = {}, {}
+    def __init__(self, lines: list[str]) -> None:
+        self.names: dict[str, tuple[str, str]] = {}
+        self.modules: dict[str, str] = {}
         for line in lines:
             found = IMPORT.match(line.strip())
             if not found:
@@ -61,7 +67,7 @@ class Imports:
             if listed is None:
                 self.modules[other or module.rsplit(".", 1)[1]] = module
 
-    def find(self, word):
+    def find(self, word: str) -> tuple[str, str] | None:
         """(module, name) of a word as it stands in a text, or None."""
         word = word.strip(".")
         if word in self.names:
@@ -77,17 +83,22 @@ class Imports:
 class File:
     """A file of definitions."""
 
-    def __init__(self, path, lines):
-        self.path, self.blocks, self.fixities, self.head = path, [], [], ""
+    def __init__(self, path: str, lines: list[str]) -> None:
+        self.path, self.head = path, ""
+        self.blocks: list[Block] = []
+        self.fixities: list[str] = []
         self.imports = Imports(lines)
-        self.by_name = {}
+        self.by_name: dict[str, Block] = {}
         self.read(lines)
         for block in self.blocks:
             for name in block.names:
                 self.by_name.setdefault(name, block)
 
-    def read(self, lines):
-        comment, around, block, gap = [], [], None, False
+    def read(self, lines: list[str]) -> None:
+        comment: list[str] = []
+        around: list[tuple[int, str, tuple[str, ...]]] = []
+        block: Block | None = None
+        gap = False
         for place, line in enumerate(lines):
             text, indent = line.strip(), len(line) - len(line.lstrip())
             if block and text and indent > block.indent:
@@ -120,23 +131,27 @@ class File:
             elif block:
                 block.lines.append(line)
             else:
-                raise SystemExit(f"statement: {self.path}:{place + 1}: no definition begins so: {text}")
+                raise SystemExit(f"pages: {self.path}:{place + 1}: no definition begins so: {text}")
         for block in self.blocks:
             block.names = [name for part in block.parts() for name in (part.name, *part.cases)]
 
-    def find(self, word):
+    def find(self, word: str) -> Block | None:
         """The block of this file that brings the word."""
         word = word.strip(".")
         return self.by_name.get(word) or self.by_name.get(f"◌{word}◌")
 
 
+Cited = tuple["set[Block]", "set[str]", "set[tuple[str, str]]"]  # blocks, types that the code declares, words of the library
+
+
 class Definitions:
     """All files of specs/ in the crates of a tree."""
 
-    def __init__(self, crates):
-        self.crates, self.files = crates, {}
+    def __init__(self, crates: str) -> None:
+        self.crates = crates
+        self.files: dict[str, File] = {}
 
-    def file(self, module):
+    def file(self, module: str) -> File | None:
         """The file of a module of the tree, or None where it is no specs/ file of the tree's own."""
         parts = module.split(".")
         if len(parts) < 4 or parts[2] != "specs" or parts[3] == "declared":
@@ -147,11 +162,12 @@ class Definitions:
                 self.files[path] = File(path, file.read().split("\n"))
         return self.files.get(path)
 
-    def cited(self, imports, file, text):
+    def cited(self, imports: Imports, file: File | None, text: str) -> Cited:
         """What a text cites: (blocks, types that the code declares, words of the library), a set each."""
-        blocks, types, words = set(), set(), set()
-        bound = set(re.findall(r"λ ([^.]*)\.", text))
-        bound = {name for many in bound for name in many.split()}
+        blocks: set[Block] = set()
+        types: set[str] = set()
+        words: set[tuple[str, str]] = set()
+        bound = {name for many in re.findall(r"λ ([^.]*)\.", text) for name in many.split()}
         for word in set(WORDS.findall(text)):
             own = file and file.find(word)
             if own:
@@ -165,7 +181,7 @@ class Definitions:
             if there:
                 block = there.find(name)
                 if not block:
-                    raise SystemExit(f"statement: {module} has no definition of {name}")
+                    raise SystemExit(f"pages: {module} has no definition of {name}")
                 blocks.add(block)
             elif ".specs.declared." in module and not module.startswith("Rattle.std."):
                 types.add(module.split(".TheVariants")[0])

@@ -1,4 +1,6 @@
 """Where things are: the repository, its crates and data, the built programs, and the Rattle kit."""
+from __future__ import annotations
+
 import os
 import shutil
 
@@ -14,26 +16,26 @@ PROGRAM = os.environ.get("YAMLCANON") or f"{CRATES}/yaml_tool/out/yaml_tool"
 REVIEW = os.environ.get("YAMLREVIEW") or f"{CRATES}/yaml_review/out/yaml_review"
 
 
-def read(path):
+def read(path: str) -> str:
     """The text of a file."""
     with open(path, encoding="utf-8") as file:
         return file.read()
 
 
-def write(path, text):
+def write(path: str, text: str) -> None:
     """Writes a text into a file."""
     with open(path, "w", encoding="utf-8") as file:
         file.write(text)
 
 
-def want_built(tool, *programs):
+def want_built(tool: str, *programs: str) -> None:
     """Ends a tool, with a message and status 1, if a program is not built."""
     for program in programs:
         if not os.access(program, os.X_OK):
             raise SystemExit(f"{tool}: {program} is not built")
 
 
-def kit_folder():
+def kit_folder() -> str | None:
     """The folder of the Rattle kit, or None if `rt` is not found."""
     found = shutil.which("rt")
     return os.path.dirname(os.path.dirname(os.path.realpath(found))) if found else None

@@ -5,7 +5,7 @@ It is in Python's own means: whole trees, dictionaries, tuples, big integers. Be
 FORM.md. It was first written from the rules in plain words, without a look at the Rattle sources or at the definitions, and
 then put in the order of FORM.md by somebody who had read the definitions; so that the two agree says less than it would of a
 program by a stranger. `tools/conformance companion` compares it with the program on the vectors and on generated streams,
-`tools/compare/files` on files of YAML. It proves nothing.
+`tools/conformance files` on files of YAML. It proves nothing.
 
     yamlcanon events FILE | python3 tools/oracle/oracle.py      the canonical text, or the refusal
 """

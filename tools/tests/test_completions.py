@@ -71,8 +71,8 @@ class Options(unittest.TestCase):
         self.assertEqual(self.grammar["git"], set())
 
     def test_each_shell_and_the_synopsis_have_the_options_of_the_grammar(self):
-        # The words that follow `git` are those of git, with --lines=show before them.
-        wanted = {**self.grammar, "git": {"lines"}}
+        # The words that follow `git` are those of git, with --lines=show or --color before them.
+        wanted = {**self.grammar, "git": {"lines", "color"}}
         for found in of_bash, of_zsh, of_fish, of_manual:
             with self.subTest(found.__name__):
                 self.assertEqual({name: options - {"help"} for name, options in found().items()}, wanted)

@@ -1,11 +1,13 @@
 """How tools/conformance sorts the cases of yaml-test-suite, and what it finds wrong."""
+import collections
 import os
 import tempfile
 import unittest
 from unittest import mock
 
 from scripts import load, run
-from lib.form import suite
+from lib.form import companion, files, suite
+from lib.form.scalars import scalars
 
 CONFORMANCE = load("tools/conformance")
 # A program that reads `a` and rejects everything else at its first byte.
@@ -65,6 +67,39 @@ class Suite(unittest.TestCase):
     def test_no_cases(self):
         os.makedirs(self.place)
         self.assertEqual(self.found({})[0], 1)
+
+
+class Scalars(unittest.TestCase):
+    def test_the_same_for_the_same_seed(self):
+        self.assertEqual(scalars(50, 1), scalars(50, 1))
+        self.assertNotEqual(scalars(50, 1), scalars(50, 2))
+
+    def test_those_that_are_refused_stand_alone(self):
+        found = [("", "1"), ("!!int ", "a"), ("!!float ", "1"), ("", str(2**127))]
+        self.assertEqual(companion.streams_of(found), [b"- 1\n- !!float 1\n", b"- !!int a\n", b"- %d\n" % 2**127])
+
+    def wrong(self, canon):
+        """What is said of a program that reads a list of `1`, and writes this as its text."""
+        events = "+STR\n+DOC\n+SEQ\n=VAL :1\n-SEQ\n-DOC\n-STR\n"
+        with mock.patch.object(companion, "answer", lambda _, command, __: (events if command == "events" else canon, "")):
+            return list(companion.wrong_streams("", [b"- 1\n"], "streams", collections.Counter()))
+
+    def test_another_text_is_told(self):
+        self.assertEqual(self.wrong('--- [!!int "1"]\n'), [])
+        self.assertEqual(len(self.wrong('--- [!!int "2"]\n')), 1)
+
+
+class Files(unittest.TestCase):
+    def wrong(self, canon, again=None):
+        """What is said of a program that reads `a: 1`, and writes these texts of it and of its text."""
+        answers = {"events": "+STR\n+DOC\n=VAL :a\n-DOC\n-STR\n", "canon": canon}
+        with mock.patch.object(files, "answer", lambda _, command, source: (again if again and source != b"a" else answers[command], "")):
+            return list(files.wrong_of("", b"a", collections.Counter()))
+
+    def test_meaning(self):
+        self.assertEqual(self.wrong('--- "a"\n'), [])
+        self.assertEqual(len(self.wrong('--- "b"\n')), 1)
+        self.assertEqual(self.wrong('--- "a"\n', '--- "c"\n'), ["its canonical text is not its own"])
 
 
 class Arguments(unittest.TestCase):

@@ -1,9 +1,10 @@
-"""Tests of tools/contracts: which functions it takes from a source, and what it shows of them."""
+"""Tests of the page of contracts: which functions it takes from a source, and what it shows of them."""
 import os
 import tempfile
 import unittest
+from unittest import mock
 
-from scripts import TOP
+from scripts import TOP, load, run
 from lib.statement.calls import calls_of, libraries_of, summary_of
 
 ROOT = """\
@@ -98,6 +99,24 @@ class OfASource(unittest.TestCase):
 
     def test_a_function_without_clauses_is_known(self):
         self.assertEqual([name for name, it in self.calls.items() if not it.has_clauses()], ["bare"])
+
+
+class Pages(unittest.TestCase):
+    pages = load("tools/pages")
+
+    def ended(self, stored, *words):
+        with mock.patch.object(self.pages, "PAGES", {"a.md": lambda: "made", "b.md": lambda: "made too"}):
+            with mock.patch.object(self.pages, "read", lambda path: stored[os.path.basename(path)]):
+                return run(self.pages.main, *words)
+
+    def test_a_page_that_is_not_current_is_told(self):
+        stored = {"a.md": "made", "b.md": "changed"}
+        self.assertEqual(self.ended(stored, "--check"), (1, "pages: b.md is not current: run tools/pages --write\n"))
+        self.assertEqual(self.ended(stored, "--check", "a.md"), (0, ""))
+
+    def test_arguments_that_are_wrong(self):
+        for words in ([], ["--check", "c.md"], ["--check", "--write"]):
+            self.assertEqual(self.ended({}, *words)[0], 2, words)
 
 
 class OfTheTree(unittest.TestCase):

@@ -1,15 +1,15 @@
 """What tools/mutants reads, which mutants it chooses, and its verdicts."""
 import os
+import subprocess
 import tempfile
 import unittest
 import unittest.mock
 
 from scripts import TOP, load, run
 from lib.crates import crates_of
-from lib.mutants import counted, judging
+from lib.mutants import judging
 from lib.mutants.mutant import Mutant, faults_of, mutants_of, texts_of
-from lib.mutants.recorded import line_of, told_by
-from lib.mutants.run import known_mutants
+from lib.mutants.run import changed_crates, known_mutants, landed, one_of_each_function
 from lib.mutants.said import Refusal, Said
 
 MUTANTS = load("tools/mutants")
@@ -92,7 +92,7 @@ class OfTheRepository(unittest.TestCase):
 
     def test_known_ones_are_there(self):
         labels = {f"{it.crate}/{it.name}" for crate in crates_of(TOP) for it in mutants_of(TOP, crate)}
-        self.assertLessEqual(known_mutants(TOP, labels), labels)
+        self.assertLessEqual(known_mutants(TOP), labels)
 
 
 class OfACrate(unittest.TestCase):
@@ -130,15 +130,13 @@ class OfACrate(unittest.TestCase):
         names = ["kind::Kind::four", "low::Room::five", "deep::more::KindSteps::six", "deep::more::Own::seven"]
         self.assertEqual([it.name for it in found], [f"x::{name}" for name in names])
         self.assertEqual([it.folders for it in found], [[f"proofs/{name.replace('::', '/')}/"] for name in names])
-        with unittest.mock.patch.object(counted, "TOP", self.top):
-            self.assertEqual([*counted.functions_with_contracts("x")], ["x::kind::Kind::four", "x::low::Room::five", "x::one"])
 
     def test_answers_of_a_method_are_its_own(self):
         self.put("src/more.rt", OF_ANOTHER_MODULE)
         four = Mutant("x", "four", "file: src/more.rt\nold: plus(4, 0)\nnew: plus(4, 1)\n", self.crate)
         said = Said("fn x::kind::Kind::four: no proof\nproofs/kind/Kind/four/Answers.antt:3:1: error: `returns`: expected type\n").of(four)
         self.assertEqual((said.goals, said.is_proved), (["returns"], False))
-        judging.conclude(four, said, None)
+        judging.conclude(judging.Trial(four, four.changes(), {}), said, [])
         self.assertEqual(four.verdict, judging.OWN)
 
     def test_must_fail_is_read_too(self):
@@ -166,15 +164,10 @@ class OfACrate(unittest.TestCase):
         with self.assertRaises(SystemExit):
             list(texts_of("file: src/lib.rt\nold: a\nnew: b\n"))
 
-    def test_one_for_each_public_function_and_file(self):
-        more = [Mutant("x", f"m{n}", f"file: src/lib.rt\nold: plus(n, {n})\nnew: plus(n, 9)\n", self.crate) for n in (1, 2, 3, 1)]
-        self.assertEqual([it.functions() for it in judging.of_the_gate(more)], [{"x::one"}, {"x::three"}])
-        self.assertEqual([it.functions() for it in judging.of_the_gate(more[1:2])], [{"x::two"}])
-
     def test_rounds_have_a_function_once(self):
         one, two = self.mutants()
         again = Mutant("x", "again", one.text, self.crate)
-        laid = judging.rounds([judging.Trial(it, it.changes(), {}) for it in (one, two, again)], alone=False)
+        laid = judging.rounds([judging.Trial(it, it.changes(), {}) for it in (one, two, again)])
         self.assertEqual([[it.mutant.name for it in now] for now in laid], [["one_is_two"], ["two_is_one"], ["again"]])
 
 
@@ -184,10 +177,14 @@ class Verdicts(unittest.TestCase):
 
     put = OfACrate.put
 
-    def verdict(self, at, told, control=None):
+    def trial(self, at, aside=()):
         mutant = mutants_of(self.top, "x")[at]
-        judging.conclude(mutant, told, control)
-        return mutant.verdict
+        return judging.Trial(mutant, mutant.changes(), dict(aside))
+
+    def verdict(self, at, told, control=(), aside=()):
+        trial = self.trial(at, aside)
+        judging.conclude(trial, told, control)
+        return trial.mutant.verdict
 
     def test_wrong_body_that_is_proved(self):
         self.assertEqual(self.verdict(0, refusal(is_proved=True)), judging.THROUGH)
@@ -225,14 +222,103 @@ class Verdicts(unittest.TestCase):
         one, two = mutants_of(self.top, "x")
         self.assertEqual((said.of(one).goals, said.of(one).is_proved, said.of(two).is_proved), (["returns"], False, True))
 
-    def test_record_is_taken_for_the_same_text_alone(self):
-        one = mutants_of(self.top, "x")[0]
-        judging.conclude(one, refusal(goals=["returns"]), None)
-        line = line_of(one, False)
-        self.assertEqual(told_by(line, one, False), (judging.OWN, ["returns"], "same shape"))
-        self.assertIsNone(told_by(line, Mutant("x", one.name, one.text.replace("2)", "3)"), self.crate), False))
-        self.assertIsNone(told_by(line, one, True))
-        self.assertIsNone(told_by(line.replace("returns", "-"), one, False))
+    def test_answers_that_are_set_aside_want_the_unchanged_text(self):
+        told, aside = refusal(goals=["returns"]), {"proofs/one/Answers.antt": {"step"}}
+        self.assertTrue(judging.wants_control(self.trial(0, aside), told))
+        self.assertFalse(judging.wants_control(self.trial(0), told))
+        self.assertEqual(self.verdict(0, told, [refusal(is_proved=True)], aside), judging.OWN)
+        self.assertEqual(self.verdict(0, told, [refusal(goals=["returns"])], aside), judging.NONE)
+
+
+class FakeRoom:
+    """Says of each check what a function makes of its changes, and keeps what was asked."""
+
+    seconds, checks = 0.0, 0
+
+    def __init__(self, says):
+        self.says, self.asked = says, []
+
+    def check(self, changes, aside, only):
+        self.asked.append(only)
+        return Said(self.says([new for _, _, new in changes], aside))
+
+    def close(self):
+        pass
+
+
+class Tried(unittest.TestCase):
+    def setUp(self):
+        OfACrate.setUp(self)
+
+    put = OfACrate.put
+
+    def tried(self, says):
+        mutants, room = mutants_of(self.top, "x"), FakeRoom(says)
+        with unittest.mock.patch.object(judging, "Room", lambda *_: room):
+            judging.try_crate(self.top, "x", mutants)
+        return [it.verdict for it in mutants], room.asked
+
+    def test_each_is_told_and_then_the_twin(self):
+        def says(new, _):
+            is_one, is_two = any("plus(n, 2)" == it.strip() for it in new), any("plus(n, 1)" in it for it in new)
+            return f"fn x::one: {'`search` did not prove `a`' if is_one else 'proved'}\nfn x::two: " + (
+                "`search` did not prove `b`\n" if is_two else "proved\n"
+            )
+
+        self.assertEqual(self.tried(says), ([judging.OWN, judging.OWN], [["one", "two"], ["one"], ["two"], ["two"]]))
+
+    def test_mutants_that_are_proved_are_let_through(self):
+        said = "fn x::one: proved\nfn x::two: proved\n"
+        self.assertEqual(self.tried(lambda new, aside: said)[0], [judging.THROUGH, judging.THROUGH])
+
+    def test_unchanged_functions_have_to_be_proved(self):
+        with self.assertRaises(SystemExit):
+            self.tried(lambda new, aside: "fn x::one: `search` did not prove `a`\nfn x::two: proved\n")
+
+
+class Changed(unittest.TestCase):
+    def setUp(self):
+        OfACrate.setUp(self)
+        self.put("../../crates.txt", "# crates\nx:\ny: x\n")
+        self.put("../y/src/lib.rt", SOURCE)
+        self.git("init", "-q")
+        self.commit()
+
+    put = OfACrate.put
+
+    def git(self, *words):
+        told = ("-c", "user.name=a", "-c", "user.email=a@b")
+        subprocess.run(["git", "-C", self.top, *told, *words], check=True, capture_output=True)
+
+    def commit(self):
+        self.git("add", "-A")
+        self.git("commit", "-qm", "a", "--allow-empty")
+
+    def test_crates_that_differ_from_a_commit(self):
+        self.assertEqual(changed_crates(self.top, "HEAD"), set())
+        self.put("src/new.rt", "")
+        self.assertEqual(changed_crates(self.top, "HEAD"), {"x"})
+        self.commit()
+        self.put("../../crates.txt", "# crates\nx:\ny:\n")
+        self.assertEqual(changed_crates(self.top, "HEAD"), {"y"})
+        self.assertEqual(changed_crates(self.top, landed(self.top)), {"x", "y"})
+
+    def test_commit_that_git_does_not_know(self):
+        self.assertIsNone(changed_crates(self.top, "no_such_commit"))
+        self.assertEqual(landed(self.top), "")
+        self.assertIsNone(changed_crates(self.top, ""))
+
+
+class OneOfEachFunction(unittest.TestCase):
+    @staticmethod
+    def mutant(name, functions, why=""):
+        found = unittest.mock.Mock(why=why, functions=lambda: functions)
+        found.name = name
+        return found
+
+    def test_one_of_each_function_and_what_cannot_be_tried(self):
+        given = [self.mutant("a", {"f"}), self.mutant("b", {"f"}), self.mutant("c", {"f", "g"}), self.mutant("d", set(), "no text")]
+        self.assertEqual([it.name for it in one_of_each_function(given)], ["a", "c", "d"])
 
 
 class Arguments(unittest.TestCase):
@@ -242,6 +328,7 @@ class Arguments(unittest.TestCase):
             ["run", "--only", "nothing at all"],
             ["check", "yaml_nothing"],
             ["gate", "yaml_text"],
+            ["record"],
             ["try"],
             [],
         ):

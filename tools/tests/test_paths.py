@@ -10,31 +10,7 @@ from scripts import load  # noqa: F401  (puts tools on the path)
 from lib.paths import REVIEW
 
 # Strings that differ everywhere, below keys with characters that have a meaning in a path.
-KEYS = [
-    "a",
-    "a b",
-    "a-b",
-    "a/b",
-    "~",
-    "~1",
-    "a~0b",
-    '"',
-    "\\",
-    '\\"(1)',
-    "\\(1)",
-    "",
-    "0",
-    "-",
-    "é",
-    "𝄞",
-    ".",
-    "[0]",
-    "and",
-    "_1",
-    "1a",
-    "$x",
-    "#",
-]
+KEYS = 'a a-b a/b ~ ~1 a~0b " \\ \\"(1) \\(1) 0 - é 𝄞 . [0] and _1 1a $x #'.split() + ["", "a b"]
 LEFT = {"list": [{"name": "one", "v": "l1"}, {"name": "two", "v": "l2"}], "keys": {key: f"l{n}" for n, key in enumerate(KEYS)}}
 RIGHT = {"list": [{"name": "two", "v": "r2"}, {"name": "one", "v": "r1"}], "keys": {key: f"r{n}" for n, key in enumerate(KEYS)}}
 

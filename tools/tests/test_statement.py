@@ -1,5 +1,5 @@
 #!/usr/bin/env python3
-"""Tests of tools/statement. What a page prints and what it cites is found here from the page and from the `use` lines alone,
+"""Tests of tools/pages --statement. What a page prints and what it cites is found here from the page and from the `use` lines alone,
 by other means than the tool's own."""
 import functools
 import glob

@@ -8,7 +8,7 @@ import os
 import subprocess
 
 from lib.packing.machines import JUDGED, MACHINES, lacking, lacking_to_run
-from lib.paths import TOP
+from lib.paths import TOP, write
 from .base import build, run, say, wrong
 
 # Up to how many bytes an input is tried under bounds of memory.
@@ -21,8 +21,7 @@ def runnable(machine, made):
     """The path of a script that runs a program of the machine."""
     if not machine.runs:
         return made
-    with open(made + ".sh", "w", encoding="utf-8") as file:
-        file.write('#!/bin/sh\nexec %s %s "$@"\n' % (" ".join(machine.runs), made))
+    write(made + ".sh", '#!/bin/sh\nexec %s %s "$@"\n' % (" ".join(machine.runs), made))
     os.chmod(made + ".sh", 0o755)
     return made + ".sh"
 

@@ -4,7 +4,7 @@ import re
 import sys
 
 from lib.packing.store import put_go, put_rust
-from lib.paths import TOP
+from lib.paths import TOP, write
 from .base import WRONG, is_there, run, say, wrong
 from .go import GO, environment
 
@@ -14,8 +14,7 @@ EXAMPLE = re.compile(r"^```(c|python|rust|go)\n(.*?)^```\n+```text\n(.*?)^```$",
 
 def put(path, text):
     os.makedirs(os.path.dirname(path), exist_ok=True)
-    with open(path, "w", encoding="utf-8") as file:
-        file.write(text)
+    write(path, text)
     return path
 
 

@@ -1,67 +1,51 @@
-"""built.py: the rows of `crates/rows_streams` whose inputs are made by a function: at the limits, and long.
+"""built.py: the streams of tools/data/cases/streams whose inputs are made of a piece: at the limits, and long.
 
-Those at the limits (limits.rt) are given whole. The long ones (many.rt) are given as pieces, a list in which a string stands for
-itself, and `[piece, between, count]` for the piece so many times, with `between` between two of them, where in the piece the
-numbers from 100000 on stand in the place of `@`.
+Those at the limits, of which no events are given, are whole. The long ones are pieces, a list in which a string stands for itself,
+and `[piece, between, count]` for the piece so many times, with `between` between two of them, where in the piece the numbers from
+100000 on are in the place of `@`.
 """
 import collections
 import functools
-import os
 import re
 
+from lib.cases import texts
 from lib.failing import rows
-from lib.paths import TOP
 
-FOLDER = os.path.join(TOP, "crates/rows_streams/src")
 FIRST_NUMBER, COUNT = 100000, 100000
 
-# a row at the limits: what its table says of reading it (a fault's line, or nothing), and of its text (None: nothing)
+# a stream at the limits: what its case says of reading it (a fault's line, or nothing), and of its text (None: nothing)
 Limit = collections.namedtuple("Limit", "place input reading canon")
-# a long row: its input, its events and its text in pieces
+# a long stream: its input, its events and its text in pieces
 Long = collections.namedtuple("Long", "place input events canon")
-
-STRING = r'"((?:[^"\\]|\\.)*)"'
-LIMIT = re.compile(r"start: %s,\s*piece: %s,\s*times: ([\d_]+),\s*middle: %s,\s*closing: %s,\s*end: %s,\s*message: %s" % ((STRING,) * 6))
-MANY = r"(\w+|\(\s*%s,\s*%s,\s*%s,\s*%s,?\s*\))" % ((STRING,) * 4)
-LONG = re.compile(r"^static (\w+): Row = Row \{\s*head: %s,\s*rest: %s,\s*events: %s,\s*canonical: %s,\s*\};" % ((MANY,) * 4), re.M)
-NAMED = re.compile(r"^const (\w+): Many = %s;" % MANY, re.M)
+NUMBER = re.compile(r"\$number|\$\{number\}")
 
 
-def source_of(name):
-    with open(os.path.join(FOLDER, name), encoding="utf-8") as file:
-        return file.read()
+def made():
+    return [(place, block) for _, place, block in rows.streams() if rows.is_made(block)]
 
 
 def limit_rows():
-    """The rows of limits.rt; each table has to give as many as it says."""
-    for name, kind, count, body in rows.TABLE.findall(source_of("limits.rt")):
-        found = LIMIT.findall(body)
-        assert kind == "Built" and len(found) == int(count), (name, count)
-        for start, piece, times, middle, closing, end, message in found:
-            times = int(times.replace("_", ""))
-            text = "".join([start, piece * times, middle, closing * times, end])
-            source = rows.unescaped(text)
-            shows = "%d times %s" % (times, rows.unescaped(piece).decode())
-            is_read = name == "HEIGHTS" or not message
-            canon = message.encode() if message else None
-            yield Limit("limits.rt, %s: %s" % (name, shows), source, b"" if is_read else canon, canon)
+    for place, block in made():
+        if "events" not in block:
+            canon, reading = rows.said_of(block)
+            yield Limit(place, texts.whole(block["input"]), reading or b"", canon)
 
 
-def pieces(text):
-    """A row's part as pieces, from the text of its four strings."""
-    start, piece, between, end = (rows.unescaped(part).decode() for part in re.findall(STRING, text))
-    found = [[piece, between, COUNT]] if piece else []
-    return ([start] if start else []) + found + ([end] if end else [])
+def pieces_of(value):
+    """A text of a case as pieces."""
+    if isinstance(value, str):
+        return [value]
+    if isinstance(value, list):
+        return [piece for each in value for piece in pieces_of(each)]
+    assert value["times"] == COUNT and value.get("first", FIRST_NUMBER) == FIRST_NUMBER, value
+    piece = [NUMBER.sub("@", value["piece"]), value.get("between", ""), COUNT]
+    return [part for part in (value.get("front"), piece, value.get("end")) if part]
 
 
 def long_rows():
-    source = source_of("many.rt")
-    named = {found[0]: found[1] for found in NAMED.findall(source)}
-    found = [match.group(1, 2, 7, 12, 17) for match in LONG.finditer(source)]
-    assert len(found) == len(re.findall(r"^static ", source, re.M)), len(found)
-    for name, head, rest, events, canonical in found:
-        head, rest, events, canonical = (pieces(named.get(part, part)) for part in (head, rest, events, canonical))
-        yield Long("many.rt, " + name, head + rest, events, canonical)
+    for place, block in made():
+        if "events" in block:
+            yield Long(place, *(pieces_of(block[name]) for name in ("input", "events", "canonical")))
 
 
 def many_times(piece, between, count):

@@ -8,6 +8,7 @@ import sys
 from lib.form.lines import refusal_of, vectors
 from lib.form.made import stream
 from lib.form.page import answer, page
+from lib.form.scalars import scalars
 from oracle import oracle
 
 
@@ -37,30 +38,40 @@ def wrong_vectors(counts):
             yield "%s: %.200r, and not %.200r" % (vector.name, got, vector.canon)
 
 
-def asked(program, seed):
-    """(stream, its events or None, its text or refusal) of a seed, by the program"""
-    source = stream(seed)
+def asked(program, source):
+    """(stream, why it is not read, its events, its text or refusal), by the program"""
     events, unread = answer(program, "events", source)
     text, refusal = answer(program, "canon", source)
     return source, unread, events, refusal.rstrip("\n") or text
 
 
-def wrong_made(program, seeds, counts):
+def wrong_streams(program, sources, what, counts):
     with concurrent.futures.ThreadPoolExecutor(os.cpu_count()) as pool:
-        for source, unread, events, canon in pool.map(lambda seed: asked(program, seed), seeds):
+        for source, unread, events, canon in pool.map(lambda source: asked(program, source), sources):
             refusal = refusal_of(canon)
-            counts["made streams"] += 1
-            counts["of these %s" % ("refused with %d" % refusal["number"] if refusal else "accepted")] += 1
+            counts[what] += 1
+            counts["%s %s" % (what, "refused with %d" % refusal["number"] if refusal else "accepted")] += 1
             got = unread.rstrip("\n") if unread else companion(events)
             if got != canon:
-                yield "%r: %.200r, and not %.200r" % (source, got, canon)
+                yield "%.200r: %.200r, and not %.200r" % (source, got, canon)
 
 
-def check(program, made, seed):
+def streams_of(found):
+    """Streams of scalars: a list of those that the companion accepts, and each other one alone."""
+    accepted, alone = [], []
+    for tag, text in found:
+        full = "<tag:yaml.org,2002:%s> " % tag.strip(" !") if tag else ""
+        refused = refusal_of(companion("+STR\n+DOC\n=VAL %s:%s\n-DOC\n-STR\n" % (full, text)))
+        (alone if refused else accepted).append("- %s%s\n" % (tag, text))
+    return [it.encode() for it in ["".join(accepted), *alone] if it]
+
+
+def check(program, made, scalar_count, seed):
     """Prints the counts if all is well, else a line for each difference; the status."""
-    counts, first = collections.Counter(), seed * 1000000
+    counts, first = collections.Counter({"scalars": scalar_count}), seed * 1000000
     wrong = list(wrong_names()) + list(wrong_vectors(counts))
-    wrong += list(wrong_made(program, range(first, first + made), counts))
+    wrong += wrong_streams(program, map(stream, range(first, first + made)), "made streams", counts)
+    wrong += wrong_streams(program, streams_of(scalars(scalar_count, seed)), "streams of scalars", counts)
     for line in wrong:
         print("companion: " + line, file=sys.stderr)
     if not wrong:

@@ -1,5 +1,8 @@
 """made.py: made streams, the same for the same seed: small trees whose parts come again, each time spelled in another way."""
+from __future__ import annotations
+
 import random
+from typing import Any
 
 # spellings of one value each
 VALUES = [
@@ -60,44 +63,45 @@ NUMBERS = "0123456789012345678901.eE+-xo_"
 
 
 class Scalar:
-    def __init__(self, spellings):
+    def __init__(self, spellings: list[str]) -> None:
         self.spellings = spellings
 
 
 class Collection:
     """`parts` are nodes, or pairs of nodes"""
 
-    def __init__(self, is_map, tag, parts):
+    def __init__(self, is_map: bool, tag: str, parts: list[Any]) -> None:
         self.is_map, self.tag, self.parts = is_map, tag, parts
 
 
 class Maker:
     """One stream. `pool` has the trees that were made, `bound` what stands at each name in this document, once it is whole."""
 
-    def __init__(self, seed):
+    def __init__(self, seed: int) -> None:
         self.random = random.Random(seed)
-        self.pool, self.bound = [], {}
+        self.pool: list[Scalar | Collection] = []
+        self.bound: dict[str, Any] = {}
 
-    def often(self, part):
+    def often(self, part: float) -> bool:
         return self.random.random() < part
 
-    def scalar(self):
+    def scalar(self) -> Scalar:
         if self.often(0.12):
             text = "".join(self.random.choice(NUMBERS) for _ in range(self.random.randint(1, 7)))
             return Scalar([self.random.choice("0123456789") + text])
         return Scalar(self.random.choice(VALUES))
 
-    def tree(self, depth):
+    def tree(self, depth: int) -> Scalar | Collection:
         if self.pool and depth < DEPTH and self.often(0.35):
             return self.random.choice(self.pool)
         if depth == 0 or self.often(0.1 if depth == DEPTH else 0.3):
-            made = self.scalar()
+            made: Scalar | Collection = self.scalar()
         else:
             made = self.collection(depth)
         self.pool.append(made)
         return made
 
-    def collection(self, depth):
+    def collection(self, depth: int) -> Collection:
         count = self.random.choice([0, 1, 1, 2, 2, 3, 3, 4, 5])
         tag = self.random.choice(EMPTY_TAGS if count == 0 else EMPTY_TAGS[:5])
         if self.often(0.5):
@@ -107,7 +111,7 @@ class Maker:
             keys = list({id(getattr(key, "spellings", key)): key for key in keys}.values())
         return Collection(True, tag, [(key, self.tree(depth - 1)) for key in keys])
 
-    def spell(self, tree):
+    def spell(self, tree: Scalar | Collection) -> str:
         """A tree's text in flow style, on one line."""
         names = [name for name, one in self.bound.items() if one is tree]
         if names and self.often(0.5):
@@ -123,33 +127,32 @@ class Maker:
             self.bound[name] = tree
         return text
 
-    def body(self, tree):
+    def body(self, tree: Scalar | Collection) -> str:
         if isinstance(tree, Scalar):
             return self.random.choice(tree.spellings)
         if not tree.is_map:
             return tree.tag + "[" + ", ".join([self.spell(part) for part in tree.parts]) + "]"
         return tree.tag + "{" + ", ".join(self.entries(tree)) + "}"
 
-    def entries(self, tree):
+    def entries(self, tree: Collection) -> list[str]:
         """The entries in some order, each `key : value`."""
         pairs = self.random.sample(tree.parts, len(tree.parts))
         return ["%s : %s" % (self.spell(key), self.spell(value)) for key, value in pairs]
 
-    def document(self):
+    def document(self) -> str:
         self.bound = {}
         tree = self.tree(DEPTH)
-        is_block = isinstance(tree, Collection) and tree.parts and tree.tag == "" and self.often(0.4)
-        if not is_block:
+        if not (isinstance(tree, Collection) and tree.parts and tree.tag == "" and self.often(0.4)):
             return self.spell(tree) + "\n"
         if tree.is_map:
             return "".join(entry + "\n" for entry in self.entries(tree))
         return "".join("- %s\n" % self.spell(part) for part in tree.parts)
 
-    def stream(self):
+    def stream(self) -> bytes:
         texts = [self.document() for _ in range(self.random.choice([1, 1, 1, 2, 3]))]
         return "".join("---\n" + text for text in texts).encode()
 
 
-def stream(seed):
+def stream(seed: int) -> bytes:
     """The stream of a seed, in bytes."""
     return Maker(seed).stream()

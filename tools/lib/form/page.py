@@ -1,27 +1,33 @@
 """page.py: the examples of docs/format/FORM.md, and how a program is asked."""
-import collections
 import os
 import re
 import subprocess
+from collections.abc import Iterator
+from typing import NamedTuple
 
 from lib.paths import TOP
 
 
-# the rule under which an example stands; an input, its text and its refusal's line, which is empty where there is none
-Example = collections.namedtuple("Example", "rule input text refusal")
+class Example(NamedTuple):
+    """The rule under which an example stands; an input, its text and its refusal's line, which is empty where there is none."""
+
+    rule: str
+    input: str
+    text: str
+    refusal: str
 
 
-def page():
+def page() -> str:
     with open(os.path.join(TOP, "docs/format/FORM.md"), encoding="utf-8") as file:
         return file.read()
 
 
-def after(sign, lines):
+def after(sign: str, lines: list[str]) -> str:
     """What stands after a sign, line by line, each with its LF."""
     return "".join(line[2:] + "\n" for line in lines if line.startswith(sign))
 
 
-def examples(text):
+def examples(text: str) -> Iterator[Example]:
     """The examples of a page, in order. A rule is a name in bold with which a line begins, or else a title."""
     rule = ""
     for found in re.finditer(r"^\*\*`(?P<rule>[^`\n]+)`\.|^#+ (?P<title>[^\n]+)|^```\n(?P<block>.*?)^```$", text, re.M | re.S):
@@ -35,7 +41,7 @@ def examples(text):
             yield Example(rule, *(after(sign, lines) for sign in "<>!"))
 
 
-def answer(program, command, source):
+def answer(program: str, command: str, source: bytes) -> tuple[str, str]:
     """What the program prints for bytes: (standard output, standard error), without the `yaml: ` of a refusal."""
     if not os.access(program, os.X_OK):
         raise SystemExit("%s is not built" % program)

@@ -1,9 +1,12 @@
 """The cases of yaml-test-suite, each sorted by what the program does with it, and tools/data/suite.cases, which says where each belongs."""
+from __future__ import annotations
+
 import concurrent.futures
 import os
 import re
 import subprocess
 import tarfile
+from typing import Any
 
 from lib.paths import DATA
 
@@ -22,9 +25,9 @@ PROFILE = {
 RULES = {"unended_line": rb"\n +\Z"}  # a block scalar's last line of spaces that no break ends gives no break
 
 
-def cases_of(place):
+def cases_of(place: str) -> Any:
     """{name: {file: bytes}} of a folder or an archive."""
-    found = {}
+    found: dict[str, dict[str, bytes]] = {}
     if os.path.isdir(place):
         for folder, _, files in os.walk(place):
             for name in files:
@@ -36,14 +39,15 @@ def cases_of(place):
     with tarfile.open(place) as archive:
         for member in archive:
             case = CASE.search(member.name)
-            if case and member.isfile():
-                found.setdefault(case[1], {})[case[2]] = archive.extractfile(member).read()
+            content = archive.extractfile(member) if case and member.isfile() else None
+            if case and content:
+                found.setdefault(case[1], {})[case[2]] = content.read()
     return found
 
 
-def expected_cases():
+def expected_cases() -> dict[str, str]:
     """The name under which each case belongs."""
-    expected = {}
+    expected: dict[str, str] = {}
     with open(f"{DATA}/suite.cases", encoding="utf-8") as file:
         for line in file.read().split("\n"):
             kind, colon, names = line.partition(": ")
@@ -52,7 +56,7 @@ def expected_cases():
     return expected
 
 
-def out_of_profile(text, refusal):
+def out_of_profile(text: bytes, refusal: Any) -> Any:
     """The name of what the profile leaves out and the refusal is of, or None."""
     _, fault, at = refusal.groups()
     if at is None:
@@ -64,7 +68,7 @@ def out_of_profile(text, refusal):
     return None
 
 
-def own_rule(text, wanted, got):
+def own_rule(text: bytes, wanted: bytes, got: Any) -> Any:
     """The name of the rule by which the events differ, or None."""
     for name, ends in RULES.items():
         lines = [(line, other) for line, other in zip(wanted.split(b"\n"), got.split(b"\n")) if line != other]
@@ -73,7 +77,7 @@ def own_rule(text, wanted, got):
     return None
 
 
-def sorted_case(program, files):
+def sorted_case(program: str, files: dict[str, bytes]) -> tuple[str, str]:
     """(where a case belongs by what the program does, what it did)."""
     done = subprocess.run([program, "events"], input=files["in.yaml"], capture_output=True, check=False)
     invalid = "error" in files
@@ -90,7 +94,7 @@ def sorted_case(program, files):
     return "refused" if invalid else out_of_profile(files["in.yaml"], refusal) or "?", said.strip()
 
 
-def counts_of(kinds):
+def counts_of(kinds: Any) -> Any:
     return {
         "read with the suite's events": sum(kind == "read" for kind in kinds),
         "refused as the suite does": sum(kind == "refused" for kind in kinds),
@@ -99,7 +103,7 @@ def counts_of(kinds):
     }
 
 
-def check(program, place):
+def check(program: str, place: str) -> int:
     """Sorts each case of a folder or an archive, and prints those that are not where they belong, and the counts; the status."""
     found, expected = cases_of(place), expected_cases()
     with concurrent.futures.ThreadPoolExecutor(os.cpu_count()) as pool:

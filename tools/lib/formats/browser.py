@@ -1,10 +1,14 @@
 """A page in headless Chromium: whether it runs, asks for nothing, and is as wide as the window."""
+from __future__ import annotations
+
 import json
 import os
 import re
 import shutil
 import subprocess
 import tempfile
+
+from lib.paths import read, write
 
 NAMES = ("chromium", "chromium-browser", "google-chrome")
 PROBE = """<script>
@@ -19,21 +23,20 @@ addEventListener('load', () => {
 </script>"""
 
 
-def browser():
+def browser() -> str | None:
     """The program, or None if it is not installed."""
     return next(filter(None, map(shutil.which, NAMES)), None)
 
 
-def started(program, room, *words):
+def started(program: str, room: str, *words: str) -> subprocess.CompletedProcess[str]:
     command = [program, "--headless=new", "--no-sandbox", "--disable-gpu", "--disable-dev-shm-usage", f"--user-data-dir={room}/profile"]
     command += ["--no-first-run", "--disable-background-networking", "--disable-component-update", "--disable-sync", *words]
     return subprocess.run(command, capture_output=True, text=True, timeout=180, check=False)
 
 
-def requests(log):
+def requests(log: str) -> list[str]:
     """The addresses that a page asked for, of a log of the network; the browser's own are not its."""
-    with open(log, encoding="utf-8") as file:
-        text = file.read()
+    text = read(log)
     try:
         events = json.loads(text)["events"]
     except json.JSONDecodeError:
@@ -42,13 +45,13 @@ def requests(log):
     return sorted(one for one in found if one.startswith(("http:", "https:", "ws:", "wss:", "ftp:")))
 
 
-def browser_faults(program, text, width=360):
+def browser_faults(program: str, text: str, width: int = 360) -> list[str]:
     """What is wrong with a page in a window of this width."""
     with tempfile.TemporaryDirectory() as room:
-        with open(f"{room}/page.html", "w", encoding="utf-8") as file:
-            file.write(text)
-        with open(f"{room}/probe.html", "w", encoding="utf-8") as file:
-            file.write(f'<!DOCTYPE html><iframe src="page.html" style="width:{width}px;height:800px;border:0"></iframe>{PROBE}')
+        write(f"{room}/page.html", text)
+        write(
+            f"{room}/probe.html", f'<!DOCTYPE html><iframe src="page.html" style="width:{width}px;height:800px;border:0"></iframe>{PROBE}'
+        )
         ran = started(
             program, room, "--allow-file-access-from-files", "--virtual-time-budget=3000", "--dump-dom", f"file://{room}/probe.html"
         )
@@ -69,7 +72,7 @@ def browser_faults(program, text, width=360):
     return faults
 
 
-def seen_faults(dom, width):
+def seen_faults(dom: str, width: int) -> list[str]:
     """What the probe saw."""
     found = re.search(r"<title>(.*?)</title>", dom)
     if found is None:

@@ -1,7 +1,11 @@
 """What is wrong with a log of SARIF 2.1.0, with GitHub's commands and with a table in Markdown."""
+from __future__ import annotations
+
 import json
 import re
 import urllib.parse
+from collections.abc import Collection, Iterable
+from typing import Any
 
 LEVELS = {"error", "warning", "note"}
 COMMAND = re.compile(r"::(error|warning|notice) file=([^,:\r\n]+)(?:,line=([1-9][0-9]*),col=([1-9][0-9]*))?,title=[^,:\r\n]+::([^\r\n]*)")
@@ -14,19 +18,19 @@ MARKUP = re.compile(
 )
 
 
-def want(faults, is_so, said):
+def want(faults: list[str], is_so: bool, said: str) -> None:
     if not is_so:
         faults.append(said)
 
 
-def region_faults(region):
+def region_faults(region: dict[str, Any]) -> list[str]:
     names = ("startLine", "startColumn")
     return [f"a region without {name}" for name in names if not isinstance(region.get(name), int) or region[name] < 1]
 
 
-def result_faults(result, rules, files):
+def result_faults(result: dict[str, Any], rules: list[str], files: Collection[str]) -> list[str]:
     """What is wrong with a result. Its file is one of these."""
-    faults = []
+    faults: list[str] = []
     want(faults, result.get("ruleId") in rules, "a result of no rule")
     want(faults, result.get("level") in LEVELS, "a result of no level")
     want(faults, bool(result.get("message", {}).get("text")), "a result without a text")
@@ -41,10 +45,10 @@ def result_faults(result, rules, files):
     return faults
 
 
-def sarif_faults(text, count, files):
+def sarif_faults(text: str, count: int, files: Collection[str]) -> list[str]:
     """What is wrong with a log, which has so many results, at these files."""
     log = json.loads(text)
-    faults = []
+    faults: list[str] = []
     want(faults, log.get("version") == "2.1.0" and log.get("$schema", "").endswith("sarif-2.1.0.json"), "another version")
     want(faults, len(log.get("runs", [])) == 1, "no run, or several")
     for run in log.get("runs", []):
@@ -58,16 +62,17 @@ def sarif_faults(text, count, files):
     return faults
 
 
-def decoded(text):
+def decoded(text: str) -> str:
     """A property or a message as GitHub reads it."""
     for escape, one in (("%0D", "\r"), ("%0A", "\n"), ("%3A", ":"), ("%2C", ","), ("%25", "%")):
         text = text.replace(escape, one)
     return text
 
 
-def github_faults(text, count, files):
+def github_faults(text: str, count: int, files: Collection[str]) -> list[str]:
     """What is wrong with commands, of which there are so many, at these files."""
-    faults, lines = [], text.split("\n")
+    faults: list[str] = []
+    lines = text.split("\n")
     want(faults, lines[-1] == "", "the last line has no end")
     want(faults, len(lines) - 1 == count, f"{len(lines) - 1} lines, not {count}")
     for line in lines[:-1]:
@@ -79,15 +84,16 @@ def github_faults(text, count, files):
     return faults
 
 
-def markdown_faults(text, count, contents=()):
+def markdown_faults(text: str, count: int, contents: Iterable[str] = ()) -> list[str]:
     """What is wrong with tables of so many rows in all; and which of these texts they do not show."""
-    lines, head, rows, faults = text.split("\n"), None, 0, []
+    faults: list[str] = []
+    lines, head, rows = text.split("\n"), "", 0
     for line, below in zip(lines, lines[1:]):
         if below.startswith("|-"):
             head = line
         elif line.startswith("| "):
             rows += 1
-            want(faults, head and line.count("|") == head.count("|"), f"{line!r} has other cells than the head")
+            want(faults, line.count("|") == head.count("|"), f"{line!r} has other cells than the head")
     want(faults, rows == count, f"{rows} rows, not {count}")
     left = MARKUP.sub("", REFERENCE.sub("", text))
     bad = re.search(r"[^A-Za-z0-9 \n\x80-\U0010ffff]", left)

@@ -1,5 +1,8 @@
 """What is wrong with the values in the lines of `diff --format=json`, beside those that PyYAML reads of the same text."""
+from __future__ import annotations
+
 import json
+from typing import Any
 
 # What both readers take for the same: YAML 1.1 and 1.2 differ in other texts.
 VALUES = r"""
@@ -40,12 +43,12 @@ NO_VALUES = {
 LIMITS = {"long_enough": '"' + "x" * 65_534 + '"', "deep_enough": "[" * 100 + "]" * 100}
 
 
-def stream():
+def stream() -> str:
     """A stream with an entry for each of these."""
     return VALUES + "".join(f"{key}: {text}\n" for key, text in {**NO_VALUES, **LIMITS}.items())
 
 
-def is_same(told, read):
+def is_same(told: Any, read: Any) -> bool:
     """Whether two values are the same, with their kinds: a float is no integer, and `true` is no number."""
     if type(told) is not type(read):
         return False
@@ -53,10 +56,10 @@ def is_same(told, read):
         return len(told) == len(read) and all(map(is_same, told, read))
     if isinstance(read, dict):
         return list(told) == sorted(read) and all(is_same(told[key], read[key]) for key in read)
-    return told == read
+    return bool(told == read)
 
 
-def value_faults(yaml, text):
+def value_faults(yaml: Any, text: str) -> list[str]:
     """What is wrong with lines that compare the stream with `{}`: each of its entries is on the left alone."""
     read = {**yaml.safe_load(VALUES), **{key: json.loads(limit) for key, limit in LIMITS.items()}}
     told, faults = {}, []

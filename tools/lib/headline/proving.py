@@ -1,4 +1,6 @@
 """A run of `rt ci` over a copy of some crates, and what it said of each."""
+from __future__ import annotations
+
 import os
 import re
 import shutil
@@ -13,7 +15,7 @@ PROVED = re.compile(r"rt: (\S+) (proved|NOT PROVED)")
 VERDICT = re.compile(r"logic=\S+ .*")
 
 
-def copied(root, room, names):
+def copied(root: str, room: str, names: list[str]) -> None:
     """Puts the sources of these crates into a folder of their own."""
     for name in names:
         for part in PARTS:
@@ -27,14 +29,17 @@ def copied(root, room, names):
 class Proving:
     """The run: `verdicts` has rt's last line of each crate, `minutes` how long each took, `refused` those that are not proved, with why."""
 
-    def __init__(self, room, crate, names, uses, log):
+    def __init__(self, room: str, crate: str, names: list[str], uses: dict[str, list[str]], log: str) -> None:
         self.room, self.crate, self.names, self.uses, self.log = room, crate, names, uses, log
-        self.verdicts, self.ends, self.refused, self.processor = {}, {}, {}, 0.0
+        self.verdicts: dict[str, str] = {}
+        self.ends: dict[str, float] = {}
+        self.refused: dict[str, list[str]] = {}
+        self.processor = 0.0
         self.began = time.monotonic()
 
-    def run(self):
+    def run(self) -> int:
         """Runs it to its end; rt's status."""
-        said = []
+        said: list[str] = []
         with open(self.log, "w", encoding="utf-8") as log, subprocess.Popen(
             [RT, "ci", "--anew", self.crate],
             cwd=self.room,
@@ -45,7 +50,7 @@ class Proving:
             errors="replace",
             env={**os.environ, "PYTHONUNBUFFERED": "1"},
         ) as ran:
-            for line in ran.stdout:
+            for line in ran.stdout or ():
                 log.write(line)
                 log.flush()
                 said = [] if line.startswith("== ") else [*said, line.rstrip("\n")]
@@ -57,7 +62,7 @@ class Proving:
             self.processor = used.ru_utime + used.ru_stime
         return os.waitstatus_to_exitcode(ran.returncode)
 
-    def ended(self, name, is_proved, said):
+    def ended(self, name: str, is_proved: bool, said: list[str]) -> None:
         """Notes the end of a crate and tells it."""
         self.ends[name] = time.monotonic()
         self.verdicts[name] = next((line for line in reversed(said) if VERDICT.fullmatch(line)), "")
@@ -70,7 +75,7 @@ class Proving:
         self.refused[name] = why or said[-12:]
         print("\n".join([*self.refused[name][:12], f"{name} NOT PROVED, {minutes:.0f} minutes"]), flush=True)
 
-    def minutes(self, name):
+    def minutes(self, name: str) -> float:
         """From when all below it was proved to its own end."""
         begins = [self.ends.get(it, self.began) for it in self.uses[name]]
         return (self.ends[name] - max(begins, default=self.began)) / 60

@@ -1,23 +1,27 @@
 """What is known of each crate behind a run."""
+from __future__ import annotations
+
 import re
 import time
+
+from lib.headline.proving import Proving
 
 # What a verdict may rest on, as rt's last line of a crate has it. A word that is not listed here is printed as it stands.
 COUNTS = ("functions", "axioms", "holes")
 
 
-def words_of(verdict):
+def words_of(verdict: str) -> dict[str, str]:
     return dict(re.findall(r"(\S+?)=(\S+)", verdict))
 
 
-def trusted(words):
+def trusted(words: dict[str, str]) -> str:
     """What the verdict takes on trust: each word of it that is no count of what was proved."""
     told = {word: value for word, value in words.items() if word not in (*COUNTS, "logic", "sum")}
     built = [word for word, value in told.items() if value == "trusted"]
     return ", ".join([f"{word}={value}" for word, value in told.items() if value != "trusted"] + built) or "nothing"
 
 
-def row_of(proving, name):
+def row_of(proving: Proving, name: str) -> list[str]:
     verdict = proving.verdicts.get(name, "")
     if name not in proving.ends:
         return [name, "", "", "", "not tried", ""]
@@ -28,7 +32,7 @@ def row_of(proving, name):
     return [name, *counts, trusted(words), f"{proving.minutes(name):.1f}"]
 
 
-def table_of(proving):
+def table_of(proving: Proving) -> str:
     """The table, and what all of it rests on."""
     rows = [
         ["crate", "functions", "axioms", "holes", "trusted", "minutes"],
@@ -48,7 +52,7 @@ def table_of(proving):
     return "\n".join([*lines, said])
 
 
-def faults_of(proving):
+def faults_of(proving: Proving) -> list[str]:
     """Why the run shows less than it should."""
     faults = [f"{name} is not proved" for name in proving.refused]
     faults += [f"{name} was not proved, since what it stands on is not" for name in proving.names if name not in proving.ends]

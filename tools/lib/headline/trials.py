@@ -4,13 +4,16 @@ The crates are law_length and yaml_definitions, below it, in a copy of the tree:
 definition changed, with the proof of a lemma left out as a hole, and with the lemma taken as an axiom (the language has no other
 word for what is assumed). Five runs of a minute or two each.
 """
+from __future__ import annotations
+
 import os
 import re
 import shutil
 import subprocess
 import tempfile
+from typing import Any
 
-from lib.paths import TOP
+from lib.paths import TOP, read, write
 
 CRATES = ("yaml_definitions", "law_length")
 LEMMA = "two : (a b n : ℕ) → a < 128 → b < 128 → 1 ≤ n → bytes (a ∷ b ∷ []) ≤ 4 * n\n"
@@ -32,7 +35,7 @@ TRIALS = {
 }
 
 
-def planted(room, trial):
+def planted(room: str, trial: Any) -> None:
     """A copy of the tree with the change."""
     os.makedirs(f"{room}/crates")
     shutil.copytree(f"{TOP}/tools", f"{room}/tools")
@@ -42,14 +45,12 @@ def planted(room, trial):
         shutil.copytree(f"{TOP}/crates/{name}", f"{room}/crates/{name}", ignore=shutil.ignore_patterns("out", "mutants.txt", "must-fail"))
     if trial:
         path, right, wrong, _ = trial
-        with open(f"{room}/crates/{path}", encoding="utf-8") as file:
-            text = file.read()
+        text = read(f"{room}/crates/{path}")
         assert text.count(right) == 1, (path, right)
-        with open(f"{room}/crates/{path}", "w", encoding="utf-8") as file:
-            file.write(text.replace(right, wrong))
+        write(f"{room}/crates/{path}", text.replace(right, wrong))
 
 
-def passes(name, trial):
+def passes(name: str, trial: Any) -> bool:
     """Whether check-headline says of it what it should."""
     with tempfile.TemporaryDirectory(prefix="trial-") as room:
         planted(f"{room}/tree", trial)
@@ -63,7 +64,7 @@ def passes(name, trial):
     return done.returncode == 1 and any(it.startswith(f"{trial[3]} ") for it in said)
 
 
-def try_all():
+def try_all() -> int:
     """Runs all, and prints how each ended; the status."""
     good = [passes(name, trial) for name, trial in TRIALS.items()]
     print(f"{sum(good)} of {len(good)}")

@@ -1,4 +1,6 @@
 """The gate, `rt ci`, while the mutants of what it has proved are tried beside it."""
+from __future__ import annotations
+
 import os
 import re
 import subprocess
@@ -11,7 +13,7 @@ from lib.room import free_memory
 MEMORY_OF_A_PROOF = 5 * 2**30
 
 
-def lanes():
+def lanes() -> int:
     """How many proofs run side by side, a job each: as many as there are processors and memory for."""
     return max(1, min(len(os.sched_getaffinity(0)), free_memory() // MEMORY_OF_A_PROOF))
 
@@ -22,8 +24,9 @@ class Gate:
     Each proof has one job (RT_JOBS): a second one loads anew what stands below the crate, which is a third of what the upper crates
     cost, and so gains next to no time there."""
 
-    def __init__(self, root):
-        self.proved, self.status = set(), None
+    def __init__(self, root: str) -> None:
+        self.proved: set[str] = set()
+        self.status: int | None = None
         self.changed = threading.Condition()
         self.process = subprocess.Popen(
             [RT, "ci"],
@@ -37,9 +40,9 @@ class Gate:
         )
         threading.Thread(target=self.read, daemon=True).start()
 
-    def read(self):
+    def read(self) -> None:
         """Passes its lines on until it ends."""
-        for line in self.process.stdout:
+        for line in self.process.stdout or ():
             print(line, end="", flush=True)
             found = re.match(r"rt: (\S+) (?:proved$|is kept:)", line)
             if found:
@@ -50,14 +53,14 @@ class Gate:
             self.status = self.process.wait()
             self.changed.notify_all()
 
-    def wait_for(self, crates):
+    def wait_for(self, crates: list[str]) -> bool:
         """Waits until these crates are proved, or until nothing more is; whether they are."""
         with self.changed:
             self.changed.wait_for(lambda: self.proved.issuperset(crates) or self.status is not None)
             return self.proved.issuperset(crates)
 
-    def wait(self):
+    def wait(self) -> int:
         """Waits for its end; its status."""
         with self.changed:
             self.changed.wait_for(lambda: self.status is not None)
-            return self.status
+            return self.status or 0

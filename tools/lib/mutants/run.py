@@ -1,19 +1,20 @@
-"""A run of mutants: which are tried, how many crates at a time, what is taken from earlier runs, and what is printed."""
+"""A run of mutants: which are tried, how many crates at a time, and what is printed."""
+from __future__ import annotations
+
 import glob
 import os
+import subprocess
 import threading
 from concurrent.futures import ThreadPoolExecutor, as_completed
 
-
-from lib.paths import read
-from lib.mutants.mutant import mutants_of
+from lib.crates import crates_below, crates_of, lines_of
 from lib.mutants.gate import Gate
-from lib.mutants.judging import OWN, of_the_gate, passes, try_crate
-from lib.mutants.kept import keep, key_of, take
-from lib.mutants.recorded import Record
-from lib.crates import crates_below, crates_of
+from lib.mutants.judging import OWN, passes, try_crate
+from lib.mutants.mutant import Mutant, mutants_of
+from lib.paths import read
 from lib.room import free_memory
 
+Asked = dict[str, "list[Mutant]"]  # mutants by their crate
 MEMORY_OF_A_CHECK = 3 * 2**30
 BESIDE_GATE = 10  # the niceness of checks beside a gate
 KNOWN_AT_MOST = 10
@@ -23,15 +24,9 @@ class NoSuch(Exception):
     """What was asked for and is not there."""
 
 
-def every_mutant(root):
-    """The mutants of each crate that has any."""
-    found = {crate: mutants_of(root, crate) for crate in sorted(crates_of(root))}
-    return {crate: mutants for crate, mutants in found.items() if mutants}
-
-
-def mutants_asked(root, crates, words):
+def mutants_asked(root: str, crates: list[str], words: list[str] | None) -> Asked:
     """The mutants of these crates, or of all, whose name has one of these words, if there are any."""
-    every = every_mutant(root)
+    every = {crate: found for crate in sorted(crates_of(root)) if (found := mutants_of(root, crate))}
     unknown = [crate for crate in crates if crate not in every]
     if unknown:
         raise NoSuch(f"no crate with mutants has the name {unknown[0]}")
@@ -42,57 +37,83 @@ def mutants_asked(root, crates, words):
     return asked
 
 
-def known_mutants(root, labels):
-    """The mutants that may pass without a goal of their own, `crate/mutant: reason` a line. Each has to be there, and they are few."""
+def known_mutants(root: str) -> set[str]:
+    """The mutants that may pass without a goal of their own, `crate/mutant: reason` a line. They are few."""
     path = f"{root}/tools/data/mutants.known"
     found = {line.partition(":")[0] for line in read(path).split("\n") if ": " in line and not line.startswith("#")}
-    if labels and not found <= labels:
-        raise SystemExit(f"mutants: {path} names what is no mutant: {' '.join(sorted(found - labels))}")
     if len(found) > KNOWN_AT_MOST:
         raise SystemExit(f"mutants: {path} has more than {KNOWN_AT_MOST} lines")
     return found
 
 
-def weight(root, crate, mutants):
+def git(root: str, *words: str) -> str | None:
+    """What git prints, or None where it knows no such thing."""
+    done = subprocess.run(["git", "-C", root, *words], capture_output=True, text=True, check=False)
+    return None if done.returncode else done.stdout
+
+
+def landed(root: str) -> str:
+    """The last commit that landed: where the branch left `origin/main`, or the commit before this one if it is there already."""
+    here = git(root, "rev-parse", "HEAD")
+    base = git(root, "merge-base", "HEAD", "origin/main")
+    return (base if base and base != here else git(root, "rev-parse", "HEAD^") or "").strip()
+
+
+def changed_crates(root: str, since: str | None) -> set[str] | None:
+    """The crates with a file or a line of crates.txt that is not as it was in a commit, or None where git does not know the commit."""
+    files = git(root, "diff", "--name-only", "--relative", since, "--") if since else None
+    was = git(root, "show", f"{since}:./crates.txt") if since else None
+    if files is None or was is None:
+        return None
+    new = git(root, "ls-files", "--others", "--exclude-standard") or ""
+    of_files = {path.split("/")[1] for path in (files + new).splitlines() if path.startswith("crates/")}
+    of_lines = {name for name, line in lines_of(root) if line not in was.split("\n")}
+    return (of_files | of_lines) & set(crates_of(root))
+
+
+def one_of_each_function(mutants: list[Mutant]) -> list[Mutant]:
+    """The mutants that change a function which none before them changes, and those that cannot be tried, so that they are reported."""
+    chosen: list[Mutant] = []
+    functions: set[str] = set()
+    for mutant in mutants:
+        if mutant.why or not mutant.functions() <= functions:
+            chosen.append(mutant)
+            functions |= mutant.functions()
+    return chosen
+
+
+def of_the_gate(root: str, since: str | None) -> Asked:
+    """The mutants that a gate tries: one of each function, in the crates that changed since a commit, or in all where git does not know it."""
+    changed = changed_crates(root, since)
+    if changed is None:
+        print("mutants: git knows no commit to compare with, so those of all crates are tried", flush=True)
+    every = mutants_asked(root, [], None)
+    return {crate: one_of_each_function(mutants) for crate, mutants in every.items() if changed is None or crate in changed}
+
+
+def weight(root: str, crate: str, mutants: list[Mutant]) -> int:
     """What a crate's mutants may cost: its text, once more for each few of them."""
     size = sum(os.path.getsize(path) for path in glob.glob(f"{root}/crates/{crate}/src/**/*.rt", recursive=True))
     return size * (4 + len(mutants))
 
 
-HOW = {
-    "taken": "recorded: tools/data/mutants.found has them over the same files",
-    "kept": "kept: an earlier run on this machine tried the same over the same files",
-}
-
-
-def tell(crate, mutants, seconds, checks, how):
-    """Prints a crate's verdicts."""
-    for mutant in mutants:
-        where = ", ".join("::".join(place.name.split("::")[1:]) for place in mutant.places) or "(no function)"
-        goals = " ".join(mutant.goals[:4]) + (" .." if len(mutant.goals) > 4 else "")
-        print(f"{crate}/{mutant.name} | {where} | {mutant.verdict} | {goals} | {mutant.control}")
-    spent = HOW.get(how, f"{checks} checks, {seconds:.0f} s of processor")
-    print(f"{crate}: {len(mutants)} mutants, {spent}", flush=True)
-
-
 class Lanes:
     """How many crates are tried at a time: so many as there are processors and memory for, beside a gate one less."""
 
-    def __init__(self, options, gate):
+    def __init__(self, lanes: int | None, gate: Gate | None) -> None:
         self.gate, self.processors = gate, len(os.sched_getaffinity(0))
-        self.most = options.lanes or max(1, min(self.processors, free_memory() // MEMORY_OF_A_CHECK))
-        self.taken, self.waiting, self.changed = 0, [], threading.Condition()
+        self.most = lanes or max(1, min(self.processors, free_memory() // MEMORY_OF_A_CHECK))
+        self.taken, self.changed = 0, threading.Condition()
+        self.waiting: list[int] = []
 
-    def may_begin(self):
-        if self.taken == 0 and not self.is_beside_gate():
+    def may_begin(self) -> bool:
+        is_beside_gate = self.gate is not None and self.gate.status is None
+        if self.taken == 0 and not is_beside_gate:
             return True
-        most = max(1, self.processors - 1) if self.is_beside_gate() else self.most
+        most = max(1, self.processors - 1) if is_beside_gate else self.most
         return self.taken < most and free_memory() > MEMORY_OF_A_CHECK
 
-    def is_beside_gate(self):
-        return self.gate is not None and self.gate.status is None
-
-    def begin(self, size):
+    def begin(self, size: int) -> None:
         """Waits for a lane. The largest of those that wait has the next one."""
         with self.changed:
             self.waiting.append(size)
@@ -102,89 +123,73 @@ class Lanes:
             self.taken += 1
             self.changed.notify_all()
 
-    def end(self):
+    def end(self) -> None:
         with self.changed:
             self.taken -= 1
             self.changed.notify_all()
 
 
-def try_when_proved(root, crate, mutants, once, says, options, lanes, record):
-    """Tries the mutants of a crate, or takes what is known of them, beside a gate once that has proved what they stand on:
-    (seconds, checks, whether "tried", "taken" or "kept"), or None where it does not."""
+def try_when_proved(root: str, crate: str, mutants: list[Mutant], lanes: Lanes) -> tuple[float, int] | None:
+    """Tries the mutants of a crate, beside a gate once that has proved what they stand on: (seconds, checks), or None where it does not."""
     if lanes.gate and not lanes.gate.wait_for([crate, *crates_below(crates_of(root), crate)]):
         return None
-    if record.take(crate, mutants):
-        return 0.0, 0, "taken"
-    record.begin(crate)
-    key = None if options.anew or options.alone or options.only or says else key_of(root, crate, mutants, once)
-    if key and crate not in record.sample and take(key, mutants):
-        return 0.0, 0, "kept"
     lanes.begin(weight(root, crate, mutants))
     try:
-        spent = try_crate(root, crate, mutants, once, says, options)
+        return try_crate(root, crate, mutants)
     finally:
         lanes.end()
-    if key and all(passes(it.verdict, it.name in once) for it in mutants):
-        keep(key, mutants)
-    return *spent, "tried"
 
 
-def try_all(root, found, tried_once, says, options, lanes, record):
-    """Tries the mutants of all crates, and tells them as they are found; the seconds of processor."""
-    spent = 0.0
-    with ThreadPoolExecutor(max(1, len(found))) as pool:
-        running = {}
-        for name in sorted(found, key=lambda name: -weight(root, name, found[name])):
-            once = {it.name for it in found[name] if f"{name}/{it.name}" in tried_once}
-            running[pool.submit(try_when_proved, root, name, found[name], once, says, options, lanes, record)] = name
-        for done in as_completed(running):
-            name = running[done]
-            if done.result() is None:
-                print(f"{name}: its mutants were not tried, since the gate did not prove what they stand on", flush=True)
-                continue
-            seconds, checks, how = done.result()
-            spent += seconds
-            tell(name, found[name], seconds, checks, how)
-            record.end(name, found[name], how)
-    return spent
-
-
-def run(root, options):
-    """Tries the mutants that the options ask for; the status."""
-    says = options.says and os.path.abspath(options.says)
-    every = mutants_asked(root, options.crates, options.only)
-    is_whole = not options.crates and not options.only
-    known = known_mutants(root, {f"{it.crate}/{it.name}" for mutants in every.values() for it in mutants} if is_whole else set())
-    found = {name: of_the_gate(mutants) for name, mutants in every.items()} if options.fewer else every
-    record = Record(root, every, found, known, options)
-    gate = Gate(root) if options.with_gate else None
-    if gate:
-        os.nice(BESIDE_GATE)
-    spent = try_all(root, found, set() if options.listed else known, says, options, Lanes(options, gate), record)
-    tried = [it for mutants in found.values() for it in mutants]
-    left = sum(map(len, every.values())) - len(tried)
-    if left:
-        print(f"{left} mutants more are left to `tools/mutants run`")
-    status = conclude_all(tried, known, spent, record.conclude())
-    return gate.wait() or status if gate else status
-
-
-def conclude_all(mutants, known, spent, of_record):
-    """Prints what failed and the sums; the status."""
-    failed = []
+def tell(crate: str, mutants: list[Mutant], seconds: float, checks: int) -> None:
+    """Prints a crate's verdicts."""
     for mutant in mutants:
-        label = f"{mutant.crate}/{mutant.name}"
-        if not passes(mutant.verdict, label in known):
-            failed.append(f"{label}: {mutant.verdict}; {mutant.control or ' '.join(mutant.goals[:3])}")
+        where = ", ".join("::".join(place.name.split("::")[1:]) for place in mutant.places) or "(no function)"
+        goals = " ".join(mutant.goals[:4]) + (" .." if len(mutant.goals) > 4 else "")
+        print(f"{crate}/{mutant.name} | {where} | {mutant.verdict} | {goals} | {mutant.control}")
+    print(f"{crate}: {len(mutants)} mutants, {checks} checks, {seconds:.0f} s of processor", flush=True)
+
+
+def try_all(root: str, asked: Asked, lanes: Lanes) -> None:
+    """Tries the mutants of all crates, and tells them as they are found."""
+    with ThreadPoolExecutor(max(1, len(asked))) as pool:
+        running = {
+            pool.submit(try_when_proved, root, name, asked[name], lanes): name
+            for name in sorted(asked, key=lambda name: -weight(root, name, asked[name]))
+        }
+        for done in as_completed(running):
+            name, spent = running[done], done.result()
+            if spent is None:
+                print(f"{name}: its mutants were not tried, since the gate did not prove what they stand on", flush=True)
+            else:
+                tell(name, asked[name], *spent)
+
+
+def conclude_all(asked: Asked, known: set[str]) -> int:
+    """Prints what failed and the sums; the status."""
+    tried = [it for mutants in asked.values() for it in mutants]
+    failed = [it for it in tried if not passes(it.verdict, f"{it.crate}/{it.name}" in known)]
     if failed:
-        print("\nrefused by no goal of their own:\n  " + "\n  ".join(failed))
-    functions = {place.name for mutant in mutants for place in mutant.places}
-    told = sum(mutant.verdict == OWN for mutant in mutants)
-    print(
-        f"\n{len(functions)} functions with a mutant; {told} mutants of {len(mutants)} are refused by a goal of their own, "
-        f"{len(known)} are known; {spent:.0f} s of processor"
-    )
-    if of_record:
-        print(of_record)
-    print(f"{len(mutants) - len(failed)} passed, {len(failed)} failed")
+        print("\nrefused by no goal of their own:")
+    for it in failed:
+        print(f"  {it.crate}/{it.name}: {it.verdict or 'not tried'}; {it.control or ' '.join(it.goals[:3])}")
+    functions = {place.name for it in tried for place in it.places}
+    told = sum(it.verdict == OWN for it in tried)
+    print(f"\n{len(functions)} functions with a mutant; {told} mutants of {len(tried)} are refused by a goal of their own")
+    print(f"{len(tried) - len(failed)} passed, {len(failed)} failed")
     return 1 if failed else 0
+
+
+def run(root: str, asked: Asked, lanes: int | None) -> int:
+    """Tries mutants of crates that are proved; the status."""
+    known = known_mutants(root)
+    try_all(root, asked, Lanes(lanes, None))
+    return conclude_all(asked, known)
+
+
+def run_gate(root: str, asked: Asked, lanes: int | None) -> int:
+    """Runs `rt ci`, and tries mutants beside it; the status."""
+    known, gate = known_mutants(root), Gate(root)
+    os.nice(BESIDE_GATE)
+    try_all(root, asked, Lanes(lanes, gate))
+    status = conclude_all(asked, known)
+    return gate.wait() or status

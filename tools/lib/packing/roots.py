@@ -5,6 +5,8 @@ import re
 import shutil
 import subprocess
 
+from lib.paths import write
+
 INFO = "/var/lib/dpkg/info"
 CHROOT = "/usr/sbin/chroot"
 MERGED = ("bin", "sbin", "lib", "lib64")
@@ -94,8 +96,7 @@ def make_root(root, names):
         os.symlink("usr/" + name, "%s/%s" % (root, name))
     for name in sorted(chosen):
         put_files(root, name)
-    with open(root + "/var/lib/dpkg/status", "w", encoding="utf-8") as file:
-        file.write("\n\n".join(text.strip("\n") for text in chosen.values()) + "\n\n")
+    write(root + "/var/lib/dpkg/status", "\n\n".join(text.strip("\n") for text in chosen.values()) + "\n\n")
     for path, target in LINKS.items():
         if not os.path.lexists(root + path) and os.path.exists("%s/usr/bin/%s" % (root, target)):
             os.symlink(target, root + path)
@@ -103,8 +104,7 @@ def make_root(root, names):
         os.mknod("%s/dev/%s" % (root, name), 0o20666, os.makedev(1, minor))
         os.chmod("%s/dev/%s" % (root, name), 0o666)
     for name in ("passwd", "group"):
-        with open("%s/etc/%s" % (root, name), "w", encoding="utf-8") as file:
-            file.write("root:x:0:0:root:/root:/bin/sh\n" if name == "passwd" else "root:x:0:\n")
+        write("%s/etc/%s" % (root, name), "root:x:0:0:root:/root:/bin/sh\n" if name == "passwd" else "root:x:0:\n")
     return True
 
 

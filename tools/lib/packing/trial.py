@@ -8,7 +8,7 @@ import sys
 import tempfile
 
 
-from lib.paths import TOP, read
+from lib.paths import TOP, read, write
 from lib.packing import stores
 from lib.packing.others import try_others
 from lib.packing.roots import inside, make_root, may_make
@@ -228,14 +228,12 @@ def try_uninstall(root, script):
     folder = root + "/opt/kept"
     os.makedirs(folder + "/lib")
     for name in ("lib/mine", "victim"):
-        with open("%s/%s" % (folder, name), "w", encoding="utf-8") as file:
-            file.write("mine\n")
+        write("%s/%s" % (folder, name), "mine\n")
     os.symlink("../victim", folder + "/lib/libyamlcanon.a")
     hold("install.sh", inside(root, script, "/opt/kept"), 0, "/opt/kept/lib/libyamlcanon.a\n")
     with open(folder + "/share/doc/yamlcanon/installed", "a", encoding="utf-8") as file:
         file.write("lib/old\n")
-    with open(folder + "/lib/old", "w", encoding="utf-8") as file:
-        file.write("of an older version\n")
+    write(folder + "/lib/old", "of an older version\n")
     hold("install.sh again", inside(root, script, "/opt/kept"))
     if os.path.exists(folder + "/lib/old") or read(folder + "/victim") != "mine\n":
         wrong("install.sh leaves a file of an older version, or writes through a link")
@@ -252,8 +250,7 @@ def try_uninstall(root, script):
 def try_old(root, script):
     """What a machine is told that is too old."""
     os.makedirs(root + "/usr/local/bin", exist_ok=True)
-    with open(root + "/usr/local/bin/getconf", "w", encoding="utf-8") as file:
-        file.write("#!/bin/sh\necho glibc 2.31\n")
+    write(root + "/usr/local/bin/getconf", "#!/bin/sh\necho glibc 2.31\n")
     os.chmod(root + "/usr/local/bin/getconf", 0o755)
     hold("an old glibc", inside(root, script, "/opt/other"), 1, "install.sh: glibc 2.31 is here, and the programs need 2.34")
     os.remove(root + "/usr/local/bin/getconf")
@@ -339,10 +336,8 @@ def try_crate(root, folder):
     )
     subprocess.run(["tar", "-xzf", crates[0], "-C", root + "/tmp"], check=True)
     os.makedirs(root + "/tmp/app/src")
-    with open(root + "/tmp/app/Cargo.toml", "w", encoding="utf-8") as file:
-        file.write(CARGO % release())
-    with open(root + "/tmp/app/src/main.rs", "w", encoding="utf-8") as file:
-        file.write(RUST)
+    write(root + "/tmp/app/Cargo.toml", CARGO % release())
+    write(root + "/tmp/app/src/main.rs", RUST)
     env = {"PATH": "/opt/rust/bin:/usr/sbin:/usr/bin:/bin", "YAMLCANON_LIB_DIR": "/opt/own/lib"}
     done = inside(root, "sh", "-c", "cd /tmp/app && cargo run -q --offline", env=env, has_proc=True)
     if hold("a program in Rust", done, 0, '--- {"a" : [!!null "null"], "b" : !!int "1"}\n'):

@@ -5,7 +5,7 @@ import shutil
 import stat
 import subprocess
 
-from lib.paths import PROGRAM, REVIEW, TOP
+from lib.paths import PROGRAM, REVIEW, TOP, write
 
 PROGRAMS = {"yamlcanon": PROGRAM, "yamlreview": REVIEW}
 SIGN, VERIFY = "yamlreview-sign", "yamlreview-verify"
@@ -87,8 +87,7 @@ class Room:
         """Puts a program of the shell in place of one on the path."""
         if os.path.lexists(f"{self.bin}/{name}"):
             os.remove(f"{self.bin}/{name}")
-        with open(f"{self.bin}/{name}", "w", encoding="utf-8") as file:
-            file.write(f"#!{shutil.which('dash') or '/bin/sh'}\n{text}\n")
+        write(f"{self.bin}/{name}", f"#!{shutil.which('dash') or '/bin/sh'}\n{text}\n")
         os.chmod(f"{self.bin}/{name}", 0o755)
 
     def without(self, *names):
@@ -114,8 +113,7 @@ class Room:
         if os.path.lexists(self.out):
             os.remove(self.out)
         os.mkdir(folder)
-        with open(f"{folder}/mine", "w", encoding="utf-8") as file:
-            file.write("mine\n")
+        write(f"{folder}/mine", "mine\n")
         if kind == "folder":
             os.rename(folder, self.out)
         else:

@@ -1,7 +1,10 @@
 """The public functions of the crates, each with its comment, its head and its clauses as they are in the source."""
+from __future__ import annotations
+
 import glob
 import os
 import re
+from collections.abc import Iterator
 
 from lib.crates import lines_of
 from lib.paths import read
@@ -17,36 +20,36 @@ SENTENCE = re.compile(r"(.*?[.!?])(?= +[A-Z`(]|$)", re.S)
 class Call:
     """A public function: its crate and file, the line that opens its type or trait, its comment, its lines up to its body."""
 
-    def __init__(self, crate, path, opening, name, comment, lines):
+    def __init__(self, crate: str, path: str, opening: str | None, name: str, comment: list[str], lines: list[str]) -> None:
         self.crate, self.path, self.opening, self.name = crate, path, opening, name
         self.comment, self.lines = comment, lines
 
-    def owner(self):
+    def owner(self) -> str:
         """The type or the trait that it belongs to, without parameters, or nothing."""
         found = OWNER.match(self.opening or "")
         return re.split(r"\W", found[2].split(" for ")[-1].strip())[0] if found else ""
 
-    def title(self):
+    def title(self) -> str:
         return f"{self.owner()}::{self.name}" if self.opening else self.name
 
-    def has_clauses(self):
+    def has_clauses(self) -> bool:
         return any(CLAUSE.match(line) for line in self.lines)
 
-    def sentence(self):
+    def sentence(self) -> str:
         """The first sentence of its comment."""
         return first_sentence(" ".join(self.comment))
 
 
-def first_sentence(text):
+def first_sentence(text: str) -> str:
     found = SENTENCE.match(text)
     return found[1] if found else text
 
 
-def module_files(crates, crate):
+def module_files(crates: str, crate: str) -> list[tuple[str, bool]]:
     """(the file, whether other crates see it) of each module of a crate, in the order in which the modules are declared."""
-    found = []
+    found: list[tuple[str, bool]] = []
 
-    def visit(path, folder, is_public):
+    def visit(path: str, folder: str, is_public: bool) -> None:
         found.append((path, is_public))
         for at in MODULE.finditer(read(path)):
             below = f"{folder}/{at[2]}.rt"
@@ -57,15 +60,15 @@ def module_files(crates, crate):
     return found
 
 
-def reexported(text):
+def reexported(text: str) -> set[str]:
     """The names that a crate's root file passes on."""
-    names = set()
+    names: set[str] = set()
     for at in REEXPORT.finditer(text):
         names |= set(re.split(r",\s*", at[2].strip(", \n"))) if at[2] else {at[1].rsplit("::", 1)[-1]}
     return names
 
 
-def comment_above(lines, at):
+def comment_above(lines: list[str], at: int) -> list[str]:
     """The comment above a line, up to its first empty line."""
     first = at
     while first and re.match(r" *(///|#\[)", lines[first - 1]):
@@ -74,7 +77,7 @@ def comment_above(lines, at):
     return said[: said.index("")] if "" in said else said
 
 
-def head_of(lines, at):
+def head_of(lines: list[str], at: int) -> list[str]:
     """The lines of a function up to its body, or with the `;` of a trait's function that has none."""
     last = at
     while True:
@@ -88,7 +91,7 @@ def head_of(lines, at):
         last += 1
 
 
-def calls_in(crates, crate, path):
+def calls_in(crates: str, crate: str, path: str) -> Iterator[Call]:
     """The functions of a file that are public in it, with those of its public traits."""
     lines, opening, is_trait = read(path).split("\n"), None, False
     for at, line in enumerate(lines):
@@ -101,7 +104,7 @@ def calls_in(crates, crate, path):
             yield Call(crate, os.path.relpath(path, crates), opening, found[3], comment_above(lines, at), head_of(lines, at))
 
 
-def calls_of(crates, crate):
+def calls_of(crates: str, crate: str) -> Iterator[Call]:
     """The public functions of a crate, in the order of its modules."""
     passed_on = reexported(read(f"{crates}/{crate}/src/lib.rt"))
     for path, is_public in module_files(crates, crate):
@@ -110,13 +113,16 @@ def calls_of(crates, crate):
                 yield call
 
 
-def summary_of(crates, crate):
+def summary_of(crates: str, crate: str) -> str:
     """What the crate's root file says of it in its first sentence."""
-    said = re.match(r"((?://!.*\n)*)", read(f"{crates}/{crate}/src/lib.rt"))[1]
+    path = next(path for name in ("lib", "main") if os.path.isfile(path := f"{crates}/{crate}/src/{name}.rt"))
+    said = re.findall(r"\A((?://!.*\n)*)", read(path))[0]
+    if not said:
+        raise SystemExit(f"pages: {path} does not begin with a //! comment")
     return first_sentence(" ".join(line.removeprefix("//!").strip() for line in said.splitlines()))
 
 
-def libraries_of(top):
+def libraries_of(top: str) -> list[str]:
     """The crates of crates.txt in their order, but for programs and crates of tests."""
     names = [name for name, _ in lines_of(top)]
     is_test = re.compile(r"rows_|yaml_vectors$")

@@ -1,7 +1,10 @@
 """Of the code only what a contract shows: the head of a function with its clauses, and types as they are declared."""
+from __future__ import annotations
+
 import glob
 import os
 import re
+from collections.abc import Iterator
 
 from lib.paths import read
 from lib.antt import Imports
@@ -10,13 +13,13 @@ from lib.antt import Imports
 class Contract:
     """The docstring, the head and the clauses of a public function."""
 
-    def __init__(self, crates, call):
-        found = []
+    def __init__(self, crates: str, call: str) -> None:
+        found: list[tuple[str, list[str], int]] = []
         for path in sorted(glob.glob(f"{crates}/*/src/**/*.rt", recursive=True)):
             lines = read(path).split("\n")
             found += [(path, lines, at) for at, line in enumerate(lines) if re.match(rf"pub fn {re.escape(call)}\b", line)]
         if len(found) != 1:
-            raise SystemExit(f"statement: {len(found)} public functions have the name {call}")
+            raise SystemExit(f"pages: {len(found)} public functions have the name {call}")
         path, lines, at = found[0]
         self.path, first, last = os.path.relpath(path, crates), at, at
         while re.match(r"///|#\[", lines[first - 1]):
@@ -29,7 +32,7 @@ class Contract:
         self.uses = re.findall(r"^use ((?:yaml|law)_\w+|crate)::([\w:]+)::\{?([\w, ]+)\}?;", "\n".join(lines), re.M)
         self.crate = self.path.split("/")[0]
 
-    def types(self, text):
+    def types(self, text: str) -> Iterator[str]:
         """The types of the tree's own crates that a text names."""
         for crate, below, names in self.uses:
             crate = self.crate if crate == "crate" else crate
@@ -41,7 +44,7 @@ class Contract:
 class Declared:
     """An enum or a struct of the code, without its comments and derives."""
 
-    def __init__(self, crates, module):
+    def __init__(self, crates: str, module: str) -> None:
         parts = module.split(".")
         below, name = parts[4:-1], parts[-1]
         self.module, self.name, self.path = module, name, f"{parts[1]}/src/{'/'.join(below)}.rt"
@@ -50,23 +53,23 @@ class Declared:
             rf"((?:^///[^\n]*\n)*)((?:^#\[[^\n]*\n)*)^(pub (?:enum|struct) {name}\b(?:[^\n{{]*;$|.*?^}}$))", text, re.M | re.S
         )
         if not found:
-            raise SystemExit(f"statement: {self.path} declares no {name}")
+            raise SystemExit(f"pages: {self.path} declares no {name}")
         self.comment = [line.replace("///", "--", 1) for line in found[1].splitlines()]
         self.lines = [line for line in found[3].split("\n") if not re.match(r"\s*(///|#\[)", line)]
         self.imports = Imports(text.split("\n"))
         uses = dict(re.findall(r"^use crate::([\w:]+)::\{?([^}\n]*)\}?;", text, re.M))
-        self.others = {}
+        self.others: dict[str, str] = {}
         for path, names in uses.items():
             for it in (it for it in re.split(r",\s*", names) if it[:1].isupper()):
                 self.others[it] = f"Rattle.{parts[1]}.specs.declared.{path.replace('::', '.')}.{it}"
         for it in re.findall(r"^pub (?:enum|struct) (\w+)", text, re.M):
             self.others.setdefault(it, ".".join([*parts[:-1], it]))
 
-    def types(self):
+    def types(self) -> set[str]:
         """The types of its own crate that it is made of."""
         text = "\n".join(self.lines)
         return {module for name, module in self.others.items() if name != self.name and re.search(rf"\b{name}\b", text)}
 
-    def ghosts(self):
+    def ghosts(self) -> str:
         """What its ghost fields say."""
         return "\n".join(re.findall(r"ghost \w+: \{(.*?)\}", "\n".join(self.lines)))

@@ -1,37 +1,42 @@
 """A statement's page as it is printed."""
+from __future__ import annotations
+
 import re
 
+from lib.antt import Block
 from lib.paths import read
-from .page import fixities, printed
+from .page import Statement, fixities, printed
 
 INTRODUCTION = """\
-`tools/statement` writes this page: the contract of `{call}`, and each definition that it rests on, once, before its use.
+`tools/pages` writes this page: the contract of `{call}`, and each definition that it rests on, once, before its use.
 If you have read it, you have read the whole promise. `tools/check-headline` checks the proof that the promise is kept.
 Names between ◌ are operators: `R ◆ S` uses `◌◆◌`. A `Type 0` is a statement; `⊎` is or, `×` is and, `⊥` is false.
 A clause holds of each call that returns. The signs are explained in [PROVED.md](PROVED.md#the-notation).
 """
 
 
-def untied(path):
+def untied(path: str) -> set[str]:
     """The definitions that no theorem constrains, and the files of which that is said whole, as docs/proof/DEFINITIONS.md lists them."""
     found = re.search(r"^##+ Definitions that no theorem constrains\n(.*?)^##+ ", read(path), re.M | re.S)
     rows = [line.split("|")[1] for line in found[1].split("\n") if line.startswith("| ")] if found else []
     return {name for row in rows for name in re.findall(r"`([^`]+)`", row)}
 
 
-def is_untied(it, names):
-    return it.path.rsplit("/", 1)[-1].removesuffix(".antt") in names or any(name in names for name in getattr(it, "names", []))
+def is_untied(it: Block, names: set[str]) -> bool:
+    return it.path.rsplit("/", 1)[-1].removesuffix(".antt") in names or any(name in names for name in it.names)
 
 
-def page_of(statement, definitions):
+def page_of(statement: Statement, definitions: str) -> str:
     """The whole page."""
-    call = re.search(r"pub fn (\w+)", "\n".join(statement.contract.lines))[1]
-    parts, total, comments, defined = [], 0, 0, []
+    call = re.findall(r"pub fn (\w+)", "\n".join(statement.contract.lines))[0]
+    parts: list[str] = []
+    defined: list[Block] = []
+    total = comments = 0
     for number, files in statement.order():
-        lines = []
+        lines: list[str] = []
         for path, within in files:
             lines += [f"-- {path}", *fixities(statement, path, within), *printed(within)]
-            defined += [it for it in within if hasattr(it, "place")]
+            defined += [it for it in within if isinstance(it, Block)]
         comments += sum(line.strip().startswith("--") for line in lines)
         total += len(lines)
         parts += [f"## {statement.chapters.titles[number]}", "```", *lines, "```"]
@@ -56,7 +61,7 @@ def page_of(statement, definitions):
     return "\n".join([*head, *parts, *words_of(statement)]) + "\n"
 
 
-def count_of(blocks):
+def count_of(blocks: list[Block]) -> int:
     """How many definitions stand in blocks: those that need each other are counted one by one."""
     return sum(
         max(1, len(re.findall(r"^\s*(?:abbrev |unfoldable )?(?:pub )?(?:data |record )?\S+ [^\n]*:(?: |$)", it.text(), re.M)))
@@ -66,9 +71,9 @@ def count_of(blocks):
     )
 
 
-def words_of(statement):
+def words_of(statement: Statement) -> list[str]:
     """The names from the kit's library, by module."""
-    modules = {}
+    modules: dict[str, set[str]] = {}
     for module, name in statement.words:
         # a type of the library and its variants stand together
         modules.setdefault(module.removeprefix("Rattle.").removesuffix(".TheVariants"), set()).add(name)
@@ -81,7 +86,7 @@ def words_of(statement):
     return lines
 
 
-def first_difference(stored, made):
+def first_difference(stored: str, made: str) -> str:
     """The file under whose name two pages differ first, or nothing."""
     path = "the head of the page"
     lines, others = stored.split("\n"), made.split("\n")

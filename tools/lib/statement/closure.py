@@ -1,23 +1,18 @@
-#!/usr/bin/env python3
-"""Lists what has to be believed for a claim: the definitions that it rests on, found by following names.
-
-A claim is FILE:NAME. FILE is a file of definitions below `crates` (`yaml_canon/specs/Claims.antt:IsCanonicalText`) or a source, whose
-function's clauses are followed (`yaml_canon/src/run.rt:run_canonical`). Prints for each file how many of its definitions the claims rest
-on, and in how many lines. Std's definitions and the types of the code are not followed.
-
---check compares the table of claims in docs/proof/DEFINITIONS.md, and the number of definitions in docs/proof/TRUST.md (and in README.md,
-if it gives one), with what is found; --write brings them up to date.
+"""What has to be believed for a claim: the definitions that it rests on, found by following names.
 
 Names are followed by text, not by the checker: a variable that has a definition's name counts as that definition, so that the list may
-hold more than it has to, but no less. Lines of comments and empty lines are not counted.
+hold more than it has to, but no less. Lines of comments and empty lines are not counted. Std's definitions and the types of the code are
+not followed.
 """
+from __future__ import annotations
+
 import os
 import re
 import sys
+from collections.abc import Iterable
 
-from lib.antt import File, Imports
-from lib.arguments import parser
-from lib.paths import CRATES, TOP, read, write
+from lib.antt import Block, File, Imports
+from lib.paths import CRATES, TOP, read
 
 PAGE = "docs/proof/DEFINITIONS.md"
 TRUST = "docs/proof/TRUST.md"
@@ -29,25 +24,25 @@ SAID = re.compile(r"([\d,]+) definitions in ([\d,]+) lines")
 class Names:
     """What a file imports, and its definitions with their lines. A case belongs to its type."""
 
-    def __init__(self, imports, blocks=()):
+    def __init__(self, imports: Imports, blocks: Iterable[Block] = ()) -> None:
         self.imports = imports
         parts = [part for block in blocks for part in block.parts()]
         self.definitions = {part.name: part.lines for part in parts}
         self.owner = {case: part.name for part in parts for case in part.cases}
 
-    def home(self, name):
+    def home(self, name: str) -> str | None:
         """The definition that gives this name: its own, or the type that it is a case of."""
         return name if name in self.definitions else self.owner.get(name)
 
 
-def words(text):
+def words(text: str) -> tuple[set[str], list[tuple[str, str]]]:
     """The names in a text that may be definitions, and the pairs of a module's name and a name in it."""
     text = re.sub(r'"[^"]*"', " ", text)
     found = set(re.findall(r"[^\s(){}\[\].,;]+", text))
     return found, re.findall(r"(?<![\w.])(\w+)\.([^\s(){}\[\].,;]+)", text)
 
 
-def is_in(name, found):
+def is_in(name: str, found: set[str]) -> bool:
     """Whether a name is used: an operator is, if each of its parts is."""
     parts = [part for part in name.split("◌") if part]
     return all(part in found for part in parts) if "◌" in name else name in found
@@ -56,23 +51,25 @@ def is_in(name, found):
 class Closure:
     """The definitions that claims rest on, by file."""
 
-    def __init__(self, crates):
-        self.crates, self.files, self.seen = crates, {}, {}
+    def __init__(self, crates: str) -> None:
+        self.crates = crates
+        self.files: dict[str, Names] = {}
+        self.seen: dict[str, set[str]] = {}
 
-    def file(self, path):
+    def file(self, path: str) -> Names:
         if path not in self.files:
             file = File(path, read(f"{self.crates}/{path}").split("\n"))
             self.files[path] = Names(file.imports, file.blocks)
         return self.files[path]
 
-    def follow(self, module, name):
+    def follow(self, module: str, name: str) -> None:
         """Takes in a name of a module of definitions, unless it is the kit's, a type of the code or of proofs."""
         crate, _, rest = module.removeprefix("Rattle.").partition(".specs.")
         path = f"{crate}/specs/{rest.replace('.', '/')}.antt"
         if rest and not rest.startswith("declared") and os.path.exists(f"{self.crates}/{path}"):
             self.take(path, name)
 
-    def take(self, path, name):
+    def take(self, path: str, name: str) -> None:
         file = self.file(path)
         home = file.home(name)
         if home is None:
@@ -84,7 +81,7 @@ class Closure:
         self.seen[path].add(home)
         self.take_words(file, "\n".join(file.definitions[home]), path)
 
-    def take_words(self, file, text, path):
+    def take_words(self, file: Names, text: str, path: str) -> None:
         found, dotted = words(text)
         for name, (module, given) in file.imports.names.items():
             if is_in(name, found):
@@ -99,88 +96,66 @@ class Closure:
             if module in file.imports.modules:
                 self.follow(file.imports.modules[module], name)
 
-    def take_clauses(self, path, name):
+    def take_clauses(self, path: str, name: str) -> None:
         """Takes in what the clauses of a function of a source cite."""
         text = read(f"{self.crates}/{path}")
         at = re.search(rf'^ *(?:pub(?:\(crate\))? )?(?:extern "C" )?fn {re.escape(name)}\b.*?^ *\{{', text, re.M | re.S)
         if at is None:
-            sys.exit(f"tools/closure: {path} has no function {name}")
+            sys.exit(f"pages: {path} has no function {name}")
         clauses = " ".join(re.findall(r"^ *(?:requires|ensures)\b(.*)", at[0], re.M))
         self.take_words(Names(Imports(text.split("\n"))), clauses, "")
 
-    def claim(self, claim):
+    def claim(self, claim: str) -> Closure:
         path, _, name = claim.partition(":")
         if not path.endswith((".antt", ".rt")):
             path += ".antt"
         if not os.path.exists(f"{self.crates}/{path}"):
-            sys.exit(f"tools/closure: there is no {path}")
+            sys.exit(f"pages: there is no {path}")
         if path.endswith(".rt"):
             self.take_clauses(path, name)
         elif self.file(path).home(name) is None:
-            sys.exit(f"tools/closure: {path} has no {name}")
+            sys.exit(f"pages: {path} has no {name}")
         else:
             self.take(path, name)
         return self
 
-    def lines(self, path):
+    def lines(self, path: str) -> int:
         return sum(len(self.file(path).definitions[name]) for name in self.seen[path])
 
-    def counts(self):
+    def counts(self) -> tuple[int, int]:
         return sum(map(len, self.seen.values())), sum(map(self.lines, self.seen))
 
 
-def table(crates, text):
+def table(crates: str, text: str) -> str:
     """The page's table with the numbers that are found."""
 
-    def put(at):
+    def put(at: re.Match[str]) -> str:
         definitions, lines = Closure(crates).claim(at[2]).counts()
         return f"| {at[1]} | `{at[2]}` | {definitions:,} | {lines:,} |"
 
     return ROW.sub(put, text)
 
 
-def hold(crates, writes):
-    """Compares the numbers in the pages with those that are found, or writes these into the pages."""
+def pages() -> dict[str, str]:
+    """The pages with numbers of definitions, as they should be: the table of claims, and the number of the first claim."""
     texts = {name: read(f"{TOP}/{name}") for name in (PAGE, TRUST, README)}
-    found = {PAGE: table(crates, texts[PAGE])}
+    found = {PAGE: table(CRATES, texts[PAGE])}
     first = ROW.search(found[PAGE])
     if first is None or not SAID.search(texts[TRUST]):
-        sys.exit(f"tools/closure: {PAGE} has no table of claims, or {TRUST} gives no number of definitions")
+        sys.exit(f"pages: {PAGE} has no table of claims, or {TRUST} gives no number of definitions")
     for name in TRUST, README:
         found[name] = SAID.sub(f"{first[3]} definitions in {first[4]} lines", texts[name], count=1)
-    for name, text in found.items() if writes else ():
-        write(f"{TOP}/{name}", text)
-    if not writes and found != texts:
-        wrong = ", ".join(name for name in texts if found[name] != texts[name])
-        print(f"tools/closure: a number of definitions is not current in {wrong}: run tools/closure --write")
-        return 1
-    print(f"what has to be believed: for the first of {len(ROW.findall(found[PAGE]))} claims {first[3]} definitions in {first[4]} lines")
-    return 0
+    return found
 
 
-def main(words_given=None):
-    given = parser("tools/closure", __doc__)
-    given.add_argument("--check", action="store_true", help="compare the numbers in the pages with what is found")
-    given.add_argument("--write", action="store_true", help="write the numbers into the pages")
-    given.add_argument("--list", action="store_true", help="print the names of the definitions too")
-    given.add_argument("--crates", default=CRATES, metavar="FOLDER", help="another folder of crates")
-    given.add_argument("claims", nargs="*", metavar="FILE:NAME")
-    asked = given.parse_args(words_given)
-    if asked.check + asked.write + bool(asked.claims) != 1:
-        given.error("claims are wanted, or one of --check and --write")
-    if asked.check or asked.write:
-        return hold(asked.crates, asked.write)
-    found = Closure(asked.crates)
-    for claim in asked.claims:
+def tell(claims: list[str], lists: bool) -> None:
+    """Prints what some claims rest on."""
+    found = Closure(CRATES)
+    for claim in claims:
         found.claim(claim)
     for path in sorted(found.seen):
         print(f"{path:56} {len(found.seen[path]):4} definitions {found.lines(path):5} lines")
-        if asked.list:
+        if lists:
             print("    " + " ".join(sorted(found.seen[path])))
     definitions, lines = found.counts()
     print(f"{len(found.seen)} files, {definitions} definitions, {lines} lines")
-    return 0
-
-
-if __name__ == "__main__":
-    sys.exit(main())
