@@ -2,7 +2,10 @@
 use Rattle.std.proofs.Common.{◌≡◌, inl, inr, ℕ, true, List}
 use Rattle.yaml_text.specs.declared.fault.Fault.{Fault}
 use Rattle.yaml_text.specs.declared.fault.Fault.TheVariants as faults
-use Rattle.yaml_shown.specs.Refused.{ShowRefuses, LinesRefuse}
+use Rattle.yaml_definitions.specs.model.Tree.{Tree}
+use Rattle.yaml_show.specs.Layout.{shown_text}
+use Rattle.yaml_shown.specs.Refused.{RefusesBy, ShowRefuses, lines_text}
+use Rattle.yaml_shown.specs.Shows.{readable}
 use Rattle.yaml_shown.specs.declared.unshown.Unshown.{Unshown}
 use Rattle.yaml_shown.specs.declared.unshown.Unshown.TheVariants as why
 use Rattle.review_args.specs.declared.words.Format.{Format}
@@ -14,44 +17,33 @@ use Rattle.review_show.specs.Files.{HasNone}
 use Rattle.review_show.specs.Unshown.{CannotTellNone}
 
 -- bytes whose fault names an event have a reading
-named_shown : (bytes : List ℕ) (fault : Fault) → names_event fault ≡ true → ShowRefuses bytes fault → HasNoEvents bytes → ⊥
-named_shown bytes (faults.UndefinedAlias e) n h none = named_events bytes (faults.UndefinedAlias e) h n none
-named_shown bytes (faults.CyclicAlias e) n h none = named_events bytes (faults.CyclicAlias e) h n none
-named_shown bytes (faults.WrongKind e) n h none = named_events bytes (faults.WrongKind e) h n none
-named_shown bytes (faults.BadContent e) n h none = named_events bytes (faults.BadContent e) h n none
-named_shown bytes (faults.IntRange e) n h none = named_events bytes (faults.IntRange e) h n none
-named_shown bytes (faults.FloatRange e) n h none = named_events bytes (faults.FloatRange e) h n none
-named_shown bytes (faults.TooHigh d) n h none = named_events bytes (faults.TooHigh d) h n none
-named_shown bytes (faults.EqualKeys node first second) n h none = named_events bytes (faults.EqualKeys node first second) h n none
-named_shown bytes _ n h none = absurd (cc)
+named_shown : (write : List Tree → List ℕ) (bytes : List ℕ) (fault : Fault) → names_event fault ≡ true → RefusesBy write bytes fault → HasNoEvents bytes → ⊥
+named_shown write bytes (faults.UndefinedAlias e) n h none = named_events bytes (faults.UndefinedAlias e) h n none
+named_shown write bytes (faults.CyclicAlias e) n h none = named_events bytes (faults.CyclicAlias e) h n none
+named_shown write bytes (faults.WrongKind e) n h none = named_events bytes (faults.WrongKind e) h n none
+named_shown write bytes (faults.BadContent e) n h none = named_events bytes (faults.BadContent e) h n none
+named_shown write bytes (faults.IntRange e) n h none = named_events bytes (faults.IntRange e) h n none
+named_shown write bytes (faults.FloatRange e) n h none = named_events bytes (faults.FloatRange e) h n none
+named_shown write bytes (faults.TooHigh d) n h none = named_events bytes (faults.TooHigh d) h n none
+named_shown write bytes (faults.EqualKeys node first second) n h none = named_events bytes (faults.EqualKeys node first second) h n none
+named_shown write bytes _ n h none = absurd (cc)
 
-named_lines : (bytes : List ℕ) (fault : Fault) → names_event fault ≡ true → LinesRefuse bytes fault → HasNoEvents bytes → ⊥
-named_lines bytes (faults.UndefinedAlias e) n h none = named_events bytes (faults.UndefinedAlias e) h n none
-named_lines bytes (faults.CyclicAlias e) n h none = named_events bytes (faults.CyclicAlias e) h n none
-named_lines bytes (faults.WrongKind e) n h none = named_events bytes (faults.WrongKind e) h n none
-named_lines bytes (faults.BadContent e) n h none = named_events bytes (faults.BadContent e) h n none
-named_lines bytes (faults.IntRange e) n h none = named_events bytes (faults.IntRange e) h n none
-named_lines bytes (faults.FloatRange e) n h none = named_events bytes (faults.FloatRange e) h n none
-named_lines bytes (faults.TooHigh d) n h none = named_events bytes (faults.TooHigh d) h n none
-named_lines bytes (faults.EqualKeys node first second) n h none = named_events bytes (faults.EqualKeys node first second) h n none
-named_lines bytes _ n h none = absurd (cc)
+refusal_memory : (write : List Tree → List ℕ) (bytes : List ℕ) (fault error : Fault) → RefusesBy write bytes fault → CannotTell bytes fault error → error ≡ faults.OutOfMemory
+refusal_memory write bytes fault error s (inl e) = e
+refusal_memory write bytes fault error s (inr (n, h)) = absurd (named_shown write bytes fault n s h)
 
--- text
 pub shown_memory : (bytes : List ℕ) (fault error : Fault) → ShowRefuses bytes fault → CannotTell bytes fault error → error ≡ faults.OutOfMemory
-shown_memory bytes fault error s (inl e) = e
-shown_memory bytes fault error s (inr (n, h)) = absurd (named_shown bytes fault n s h)
+shown_memory = refusal_memory readable
 
--- lines of JSON
-lines_memory : (bytes : List ℕ) (fault error : Fault) → LinesRefuse bytes fault → CannotTell bytes fault error → error ≡ faults.OutOfMemory
-lines_memory bytes fault error s (inl e) = e
-lines_memory bytes fault error s (inr (n, h)) = absurd (named_lines bytes fault n s h)
-
--- either
+-- in each format
 pub none_memory : (f : Format) (bytes : List ℕ) (none : Unshown) (error : Fault) → HasNone f bytes none → CannotTellNone bytes none error → error ≡ faults.OutOfMemory
 none_memory format.Yaml bytes (why.Rejected fault) error h t = shown_memory bytes fault error h t
 none_memory format.Yaml bytes why.NoJson error h t = absurd h
 none_memory format.Yaml bytes why.Unlike error h t = absurd h
-none_memory format.Json bytes (why.Rejected fault) error h t = lines_memory bytes fault error h t
+none_memory format.AsRead bytes (why.Rejected fault) error h t = refusal_memory shown_text bytes fault error h t
+none_memory format.AsRead bytes why.NoJson error h t = absurd h
+none_memory format.AsRead bytes why.Unlike error h t = absurd h
+none_memory format.Json bytes (why.Rejected fault) error h t = refusal_memory lines_text bytes fault error h t
 none_memory format.Json bytes why.NoJson error h (inl e) = e
 none_memory format.Json bytes why.NoJson error h (inr n) = absurd (n h.1.events h.1.reads)
 none_memory format.Json bytes why.Unlike error h t = t

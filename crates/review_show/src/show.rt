@@ -21,7 +21,7 @@ use std::alloc::Global;
 use std::io::{Read, Write};
 use yaml_command::shelf::Shelf;
 use yaml_command::streams::write_out;
-use yaml_shown::{Unshown, show, show_json};
+use yaml_shown::{Unshown, show, show_as_read, show_json};
 use yaml_text::counted::Counted;
 use yaml_text::fault::Fault;
 
@@ -43,6 +43,10 @@ fn text_of(alloc: Global, bytes: &[u8], format: Format) -> Result<String, Unshow
 {
     match format {
         Format::Yaml => match show(alloc, bytes) {
+            Ok(text) => Ok(text),
+            Err(fault) => Err(Unshown::Rejected(fault)),
+        },
+        Format::AsRead => match show_as_read(alloc, bytes) {
             Ok(text) => Ok(text),
             Err(fault) => Err(Unshown::Rejected(fault)),
         },

@@ -1,4 +1,5 @@
 pub mod FlowLaws
 pub mod JsonLaws
 pub mod LayoutLaws
+pub mod SourceLaws
 pub mod StopLaws

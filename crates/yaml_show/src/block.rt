@@ -14,6 +14,7 @@ use crate::keys::{all_fit, put_key};
 use crate::lines::{goes_on, put_before, put_empty, put_head, put_line, put_scalar_node};
 use crate::nodes::Nodes;
 use crate::place::Place;
+use crate::source::SourceGraph;
 use std::alloc::Global;
 use yaml_show_scalar::{Out, Stop};
 use yaml_spell::ranked::RankedNodes;
@@ -173,6 +174,25 @@ pub fn block_text(alloc: Global, nodes: &Nodes<'_>) -> Result<String, Stop>
     ensures err { IfErr result (Stops text_limit (shown_text (map arranged (forest nodes.now.graph)))) }
 {
     let view = RankedGraph {
+        graph: &nodes.graph,
+        ranks: &nodes.ranks,
+    };
+    let mut out = Out::new(alloc, text_limit());
+    put_documents(alloc, &view, nodes.graph.roots(), &mut out)?;
+    Ok(out.text)
+}
+
+/// The documents in block style, with the entries in the order of the source. Documents that mean the same may have them in different
+/// orders.
+///
+/// # Errors
+/// Those of `block_text`.
+pub fn source_text(alloc: Global, nodes: &Nodes<'_>) -> Result<String, Stop>
+    requires { RanksAre nodes.now.graph nodes.now.ranks }
+    ensures ok { IfOk result (λ text. string_bytes text ≡ shown_text (forest nodes.now.graph)) }
+    ensures err { IfErr result (Stops text_limit (shown_text (forest nodes.now.graph))) }
+{
+    let view = SourceGraph {
         graph: &nodes.graph,
         ranks: &nodes.ranks,
     };

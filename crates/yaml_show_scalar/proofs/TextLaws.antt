@@ -1,10 +1,10 @@
 -- What texts begin and end with, and lines.
-use Rattle.std.proofs.Common.{◌≡◌, ◌≢◌, ◌==◌, ◌&&◌, ◌||◌, ◌↔◌, ℕ, zero, suc, ◌+◌, ◌-◌, ◌<◌, ◌≤◌, Bool, true, false, cond, List, [], ◌∷◌, ◌++◌, length, take, drop, get_or, refl, sym, ◌∙◌, ap, add-one, arith}
+use Rattle.std.proofs.Common.{◌≡◌, ◌≢◌, ◌==◌, ◌&&◌, ◌||◌, ◌↔◌, ℕ, zero, suc, ◌+◌, ◌-◌, ◌<◌, ◌≤◌, Bool, true, false, not, nat_le, cond, List, [], ◌∷◌, ◌++◌, length, take, drop, get_or, refl, sym, ◌∙◌, ap, add-one, arith}
 use Rattle.std.specs.Prelude.{flat_map, Option, Some, None, MatchOption}
 use Rattle.std.specs.Borrow.{Bor}
 use Rattle.std.specs.Option.{option_map}
 use Rattle.std.specs.Str.Pattern.{FindsTextPrefix, StripsPrefix}
-use Rattle.std.specs.List.{All, slice_split, before_first, after_first, position_or_len}
+use Rattle.std.specs.List.{All, count_by, list_any, slice_split, before_first, after_first, position_or_len}
 use Rattle.std.specs.Str.{IsUtf8}
 use Rattle.std.specs.Str.Iter.{HasSubslice}
 use Rattle.std.proofs.Math.Seq.{drop-cons}
@@ -13,10 +13,11 @@ use Rattle.std.proofs.lemmas.Bool.{cond_both, false≢true}
 use Rattle.std.proofs.lemmas.Bool.Decides.{nat_tests}
 use Rattle.std.proofs.lemmas.List.{append_assoc, append-nil, take_all}
 use Rattle.std.proofs.lemmas.List.Elements.{All-from_get_or, All-weaker}
+use Rattle.std.proofs.lemmas.List.Sums.{sum_by-cons}
 use Rattle.std.proofs.lemmas.List.Splits.{slice_split_none, slice_split_at, length-slice_split}
 use Rattle.yaml_definitions.specs.model.Core.{is_empty}
 use Rattle.yaml_show_scalar.specs.Texts.{times, ends_in, begins_with, has_pair, behind}
-use Rattle.yaml_show_scalar.specs.Scalars.{is_feed, body, literal_line, broken_line, broken_lines, leads_blank}
+use Rattle.yaml_show_scalar.specs.Scalars.{is_feed, is_full, body, literal_line, joined, leads_blank}
 
 same_bool : (r s : Bool) → (r ≡ true → s ≡ true) → (s ≡ true → r ≡ true) → r ≡ s
 same_bool true s h k = sym (h refl)
@@ -136,9 +137,9 @@ no_feed x h = All-weaker (λ b. b ≢ 10) (λ b. is_feed b ≡ false) feeds x (A
 split_line : (rest line after : List ℕ) → rest ≡ line ++ (10 ∷ after) → All (λ b. is_feed b ≡ false) line → slice_split is_feed rest ≡ line ∷ slice_split is_feed after
 split_line rest line after e h = ap (slice_split is_feed) e ∙ slice_split_at is_feed line 10 after h refl
 
-broken_more : (n : ℕ) (line : List ℕ) (ls : List (List ℕ)) → 0 < length ls → broken_lines n (line ∷ ls) ≡ broken_line n line ++ ((92 ∷ 110 ∷ 92 ∷ 10 ∷ []) ++ broken_lines n ls)
-broken_more n line [] l = absurd (omega (arith, l))
-broken_more n line (m ∷ ls) l = refl
+joined_more : (f : List ℕ → List ℕ) (between line : List ℕ) (ls : List (List ℕ)) → 0 < length ls → joined f between (line ∷ ls) ≡ f line ++ (between ++ joined f between ls)
+joined_more f between line [] l = absurd (omega (arith, l))
+joined_more f between line (m ∷ ls) l = refl
 
 some_lines : (x : List ℕ) → 0 < length (slice_split is_feed x)
 some_lines x = omega (arith, length-slice_split is_feed x)
@@ -164,38 +165,101 @@ pub literal_last : (n : ℕ) (x rest old out new : List ℕ) → IsLiteral n x r
 literal_last n x rest old out new h a w =
     w ∙ ap (λ z. out ++ z) (sym (append-nil (literal_line n rest)) ∙ ap (flat_map (literal_line n)) (sym (slice_split_none is_feed rest a))) ∙ h.is
 
-pub record IsBroken (n : ℕ) (x rest old out : List ℕ) : Type 0 where
+-- The same of lines with a text between each two.
+pub record IsJoined (f : List ℕ → List ℕ) (between x rest old out : List ℕ) : Type 0 where
   pub utf8 : IsUtf8 rest
-  pub is : out ++ broken_lines n (slice_split is_feed rest) ≡ old ++ broken_lines n (slice_split is_feed x)
+  pub is : out ++ joined f between (slice_split is_feed rest) ≡ old ++ joined f between (slice_split is_feed x)
 
 regroup : (out a b c : List ℕ) → ((out ++ a) ++ b) ++ c ≡ out ++ (a ++ (b ++ c))
 regroup out a b c = simp append_assoc
 
-pub broken_next : (n : ℕ) (x rest line after old out pushed new : List ℕ) → IsBroken n x rest old out → rest ≡ line ++ (10 ∷ after) → All (λ b. is_feed b ≡ false) line → IsUtf8 after
-    → pushed ≡ out ++ broken_line n line → new ≡ pushed ++ (92 ∷ 110 ∷ 92 ∷ 10 ∷ []) → IsBroken n x after old new
-broken_next n x rest line after old out pushed new h e a u p w =
+pub joined_next : (f : List ℕ → List ℕ) (between x rest line after old out pushed new : List ℕ) → IsJoined f between x rest old out → rest ≡ line ++ (10 ∷ after) → All (λ b. is_feed b ≡ false) line → IsUtf8 after
+    → pushed ≡ out ++ f line → new ≡ pushed ++ between → IsJoined f between x after old new
+joined_next f between x rest line after old out pushed new h e a u p w =
     let s = slice_split is_feed after in
     record {
       utf8 = u;
-      is = ap (λ z. z ++ broken_lines n s) (w ∙ ap (λ z. z ++ (92 ∷ 110 ∷ 92 ∷ 10 ∷ [])) p) ∙ regroup out (broken_line n line) (92 ∷ 110 ∷ 92 ∷ 10 ∷ []) (broken_lines n s)
-          ∙ ap (λ z. out ++ z) (sym (broken_more n line s (some_lines after)) ∙ ap (broken_lines n) (sym (split_line rest line after e a))) ∙ h.is;
+      is = ap (λ z. z ++ joined f between s) (w ∙ ap (λ z. z ++ between) p) ∙ regroup out (f line) between (joined f between s)
+          ∙ ap (λ z. out ++ z) (sym (joined_more f between line s (some_lines after)) ∙ ap (joined f between) (sym (split_line rest line after e a))) ∙ h.is;
     }
 
-pub broken_within : (n : ℕ) (x rest line after old out : List ℕ) → IsBroken n x rest old out → rest ≡ line ++ (10 ∷ after) → All (λ b. is_feed b ≡ false) line
-    → old ++ broken_lines n (slice_split is_feed x) ≡ (out ++ broken_line n line) ++ ((92 ∷ 110 ∷ 92 ∷ 10 ∷ []) ++ broken_lines n (slice_split is_feed after))
-broken_within n x rest line after old out h e a =
+pub joined_within : (f : List ℕ → List ℕ) (between x rest line after old out : List ℕ) → IsJoined f between x rest old out → rest ≡ line ++ (10 ∷ after) → All (λ b. is_feed b ≡ false) line
+    → old ++ joined f between (slice_split is_feed x) ≡ (out ++ f line) ++ (between ++ joined f between (slice_split is_feed after))
+joined_within f between x rest line after old out h e a =
     let s = slice_split is_feed after in
-    sym h.is ∙ ap (λ z. out ++ z) (ap (broken_lines n) (split_line rest line after e a) ∙ broken_more n line s (some_lines after))
-    ∙ sym (append_assoc out (broken_line n line) ((92 ∷ 110 ∷ 92 ∷ 10 ∷ []) ++ broken_lines n s))
+    sym h.is ∙ ap (λ z. out ++ z) (ap (joined f between) (split_line rest line after e a) ∙ joined_more f between line s (some_lines after))
+    ∙ sym (append_assoc out (f line) (between ++ joined f between s))
 
-pub break_within : (n : ℕ) (x rest line after old out pushed : List ℕ) → IsBroken n x rest old out → rest ≡ line ++ (10 ∷ after) → All (λ b. is_feed b ≡ false) line → pushed ≡ out ++ broken_line n line
-    → old ++ broken_lines n (slice_split is_feed x) ≡ (pushed ++ (92 ∷ 110 ∷ 92 ∷ 10 ∷ [])) ++ broken_lines n (slice_split is_feed after)
-break_within n x rest line after old out pushed h e a p =
-    let s = broken_lines n (slice_split is_feed after) in
-    broken_within n x rest line after old out h e a ∙ ap (λ z. z ++ ((92 ∷ 110 ∷ 92 ∷ 10 ∷ []) ++ s)) (sym p) ∙ sym (append_assoc pushed (92 ∷ 110 ∷ 92 ∷ 10 ∷ []) s)
+pub between_within : (f : List ℕ → List ℕ) (between x rest line after old out pushed : List ℕ) → IsJoined f between x rest old out → rest ≡ line ++ (10 ∷ after) → All (λ b. is_feed b ≡ false) line → pushed ≡ out ++ f line
+    → old ++ joined f between (slice_split is_feed x) ≡ (pushed ++ between) ++ joined f between (slice_split is_feed after)
+between_within f between x rest line after old out pushed h e a p =
+    let s = joined f between (slice_split is_feed after) in
+    joined_within f between x rest line after old out h e a ∙ ap (λ z. z ++ (between ++ s)) (sym p) ∙ sym (append_assoc pushed between s)
 
-pub broken_last : (n : ℕ) (x rest old out new : List ℕ) → IsBroken n x rest old out → All (λ b. is_feed b ≡ false) rest → new ≡ out ++ broken_line n rest → new ≡ old ++ broken_lines n (slice_split is_feed x)
-broken_last n x rest old out new h a w = w ∙ ap (λ z. out ++ broken_lines n z) (sym (slice_split_none is_feed rest a)) ∙ h.is
+pub joined_last : (f : List ℕ → List ℕ) (between x rest old out new : List ℕ) → IsJoined f between x rest old out → All (λ b. is_feed b ≡ false) rest → new ≡ out ++ f rest → new ≡ old ++ joined f between (slice_split is_feed x)
+joined_last f between x rest old out new h a w = w ∙ ap (λ z. out ++ joined f between z) (sym (slice_split_none is_feed rest a)) ∙ h.is
+
+-- ---- a line that passes a test
+
+-- None of the lines before these ones passes it.
+pub record IsSought (p : List ℕ → Bool) (x rest : List ℕ) : Type 0 where
+  pub utf8 : IsUtf8 rest
+  pub is : list_any p (slice_split is_feed rest) ≡ list_any p (slice_split is_feed x)
+
+pub sought_next : (p : List ℕ → Bool) (x rest line after : List ℕ) → IsSought p x rest → rest ≡ line ++ (10 ∷ after) → All (λ b. is_feed b ≡ false) line → IsUtf8 after → p line ≡ false → IsSought p x after
+sought_next p x rest line after h e a u k = record {
+  utf8 = u;
+  is = ap (λ z. z || list_any p (slice_split is_feed after)) (sym k) ∙ ap (list_any p) (sym (split_line rest line after e a)) ∙ h.is;
+}
+
+pub sought_here : (p : List ℕ → Bool) (x rest line after : List ℕ) → IsSought p x rest → rest ≡ line ++ (10 ∷ after) → All (λ b. is_feed b ≡ false) line → p line ≡ true → true ≡ list_any p (slice_split is_feed x)
+sought_here p x rest line after h e a k = ap (λ z. z || list_any p (slice_split is_feed after)) (sym k) ∙ ap (list_any p) (sym (split_line rest line after e a)) ∙ h.is
+
+or_false : (a : Bool) → (a || false) ≡ a
+or_false true = refl
+or_false false = refl
+
+pub sought_last : (p : List ℕ → Bool) (x rest : List ℕ) → IsSought p x rest → All (λ b. is_feed b ≡ false) rest → p rest ≡ list_any p (slice_split is_feed x)
+sought_last p x rest h a = sym (or_false (p rest)) ∙ ap (list_any p) (sym (slice_split_none is_feed rest a)) ∙ h.is
+
+-- ---- lines that are not empty
+
+-- Of the lines so many may be full, and of those that are left so many.
+pub record IsCounted (x rest : List ℕ) (most left : ℕ) : Type 0 where
+  pub utf8 : IsUtf8 rest
+  pub is : nat_le (count_by is_full (slice_split is_feed rest)) left ≡ nat_le (count_by is_full (slice_split is_feed x)) most
+
+full_more : (l : List ℕ) (ls : List (List ℕ)) → cond (is_full l) 1 0 + count_by is_full ls ≡ count_by is_full (l ∷ ls)
+full_more l ls = sym (sum_by-cons (λ x. cond (is_full x) 1 0) l ls)
+
+one_less : (b : Bool) (n left : ℕ) → (b && (left == 0)) ≡ false → nat_le n (cond b (left - 1) left) ≡ nat_le (cond b 1 0 + n) left
+one_less true n left h = grind (arith, nat_tests)
+one_less false n left h = let e : n ≡ 0 + n = omega arith in ap (λ z. nat_le z left) e
+
+none_left : (b : Bool) (n left : ℕ) → (b && (left == 0)) ≡ true → false ≡ nat_le (cond b 1 0 + n) left
+none_left true n left h = grind (arith, nat_tests)
+none_left false n left h = absurd (false≢true h)
+
+last_left : (b : Bool) (left : ℕ) → not (b && (left == 0)) ≡ nat_le (cond b 1 0 + 0) left
+last_left true left = grind (arith, nat_tests)
+last_left false left = grind (arith, nat_tests)
+
+pub counted_next : (x rest line after : List ℕ) (most left next : ℕ) → IsCounted x rest most left → rest ≡ line ++ (10 ∷ after) → All (λ b. is_feed b ≡ false) line → IsUtf8 after
+    → (is_full line && (left == 0)) ≡ false → next ≡ cond (is_full line) (left - 1) left → IsCounted x after most next
+counted_next x rest line after most left next h e a u k w =
+    let n = count_by is_full (slice_split is_feed after) in
+    record {
+      utf8 = u;
+      is = ap (nat_le n) w ∙ one_less (is_full line) n left k ∙ ap (λ z. nat_le z left) (full_more line (slice_split is_feed after)) ∙ ap (λ z. nat_le (count_by is_full z) left) (sym (split_line rest line after e a)) ∙ h.is;
+    }
+
+pub counted_over : (x rest line after : List ℕ) (most left : ℕ) → IsCounted x rest most left → rest ≡ line ++ (10 ∷ after) → All (λ b. is_feed b ≡ false) line
+    → (is_full line && (left == 0)) ≡ true → false ≡ nat_le (count_by is_full (slice_split is_feed x)) most
+counted_over x rest line after most left h e a k =
+    none_left (is_full line) (count_by is_full (slice_split is_feed after)) left k ∙ ap (λ z. nat_le z left) (full_more line (slice_split is_feed after)) ∙ ap (λ z. nat_le (count_by is_full z) left) (sym (split_line rest line after e a)) ∙ h.is
+
+pub counted_last : (x rest : List ℕ) (most left : ℕ) → IsCounted x rest most left → All (λ b. is_feed b ≡ false) rest → not (is_full rest && (left == 0)) ≡ nat_le (count_by is_full (slice_split is_feed x)) most
+counted_last x rest most left h a = last_left (is_full rest) left ∙ ap (λ z. nat_le z left) (full_more rest []) ∙ ap (λ z. nat_le (count_by is_full z) left) (sym (slice_split_none is_feed rest a)) ∙ h.is
 
 -- ---- the first line that is not empty
 

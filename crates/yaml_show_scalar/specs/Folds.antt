@@ -1,4 +1,4 @@
--- Long strings of one line on several lines: folded scalars (YAML 1.2.2, 8.1.3). A line ends where its own words say so, so a changed word changes few lines.
+-- A long line of a string on several lines, as in folded scalars (YAML 1.2.2, 8.1.3). A line ends where its own words say so, so a changed word changes few lines.
 use Rattle.std.specs.Prelude.{ℕ, Bool, not, ◌||◌, ◌&&◌, ◌+◌, ◌==◌, cond, nat_le, nat_lt, List, [], ◌∷◌, ◌++◌, length, slice_index}
 use Rattle.std.specs.List.{list_any, list_all, slice_split}
 use Rattle.std.specs.Str.{chars}

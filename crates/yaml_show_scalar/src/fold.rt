@@ -1,12 +1,10 @@
-//! Long strings of one line on several lines. A line ends where its own words say so, so a changed word changes few lines.
+//! A long line of a string on several lines. A line ends where its own words say so, so a changed word changes few lines.
 ghost use Rattle.std.specs.Prelude.{◌≡◌, ◌+◌, ◌++◌, nat_le, OnOk, IfErr};
 ghost use Rattle.std.specs.List.{list_any, slice_split};
 ghost use Rattle.yaml_show_scalar.specs.Folds.{is_space, width, column_after, ends_phrase, column_behind, ends_line, next_column, next_word, further_words, folded_words, folded_line, is_foldable};
-ghost use Rattle.yaml_show_scalar.specs.Scalars.{folded_text, is_folded};
 ghost use Rattle.yaml_show_scalar.specs.Stops.{limit_of, Stops};
 ghost use Rattle.yaml_show_scalar.specs.Texts.{written};
 
-use crate::lines::body_of;
 use crate::output::Out;
 use crate::plain::is_all_seen;
 use crate::stop::Stop;
@@ -16,7 +14,7 @@ use crate::texts::{byte_at, ends_in};
 const COLUMNS: usize = 80;
 
 /// How many columns a text takes.
-fn width(text: &str) -> usize
+pub(crate) fn width(text: &str) -> usize
     ensures { result ≡ width text.now }
 {
     text.chars().count()
@@ -131,7 +129,7 @@ fn put_words(out: &mut Out, line: &str, level: usize) -> Result<(), Stop>
 }
 
 /// Writes a line of words at this level.
-fn put_folded_line(out: &mut Out, line: &str, level: usize) -> Result<(), Stop>
+pub(crate) fn put_folded_line(out: &mut Out, line: &str, level: usize) -> Result<(), Stop>
     ensures ok { OnOk result (written out.new ≡ written out.old ++ folded_line level line.now) }
     ensures limit { limit_of out.new ≡ limit_of out.old }
     ensures err { IfErr result (Stops (limit_of out.old) (written out.old ++ folded_line level line.now)) }
@@ -139,21 +137,6 @@ fn put_folded_line(out: &mut Out, line: &str, level: usize) -> Result<(), Stop>
     out.put_times(level, "  ")?;
     put_words(out, line, level)?;
     out.put("\n")
-}
-
-/// Writes a folded scalar (YAML 1.2.2, 8.1.3). Its lines are at this level.
-#[tactic(auto, unfolding(crate::specs::Scalars::folded_text))]
-pub(crate) fn put_folded(out: &mut Out, content: &str, level: usize) -> Result<(), Stop>
-    ensures ok { OnOk result (written out.new ≡ written out.old ++ folded_text level content.now) }
-    ensures limit { limit_of out.new ≡ limit_of out.old }
-    ensures err { IfErr result (Stops (limit_of out.old) (written out.old ++ folded_text level content.now)) }
-{
-    out.put(if ends_in(content, '\n') {
-        ">\n"
-    } else {
-        ">-\n"
-    })?;
-    put_folded_line(out, body_of(content), level)
 }
 
 /// Whether a text has a space.
@@ -165,7 +148,7 @@ fn has_space(text: &str) -> bool
 
 /// Whether a line is written on several lines.
 #[tactic(auto, unfolding(crate::specs::Folds::is_foldable))]
-fn is_foldable(line: &str) -> bool
+pub(crate) fn is_foldable(line: &str) -> bool
     ensures { result ≡ is_foldable line.now }
 {
     width(line) > 100
@@ -173,11 +156,4 @@ fn is_foldable(line: &str) -> bool
         && byte_at(line, 0) != b' '
         && !ends_in(line, ' ')
         && is_all_seen(line)
-}
-
-/// Whether a string is folded: it is one long line, with or without its line feed.
-pub(crate) fn is_folded(content: &str) -> bool
-    ensures { result ≡ is_folded content.now }
-{
-    is_foldable(body_of(content))
 }

@@ -8,6 +8,7 @@ mod fold;
 mod lines;
 pub mod number;
 pub mod output;
+mod paragraphs;
 pub mod plain;
 pub mod scalar;
 pub mod stop;

@@ -1,7 +1,7 @@
 //! Strings on several lines.
 ghost use Rattle.std.specs.Prelude.{◌≡◌, ◌++◌, OnOk, IfErr, flat_map};
 ghost use Rattle.std.specs.List.{slice_split};
-ghost use Rattle.yaml_show_scalar.specs.Scalars.{is_feed, body, literal_header, literal_line, literal_text, broken_line, broken_lines, broken_text};
+ghost use Rattle.yaml_show_scalar.specs.Scalars.{is_feed, body, chomping, literal_header, literal_line, literal_text, broken_line, broken_feed, joined, broken_text};
 ghost use Rattle.yaml_show_scalar.specs.Stops.{limit_of, Stops};
 ghost use Rattle.yaml_show_scalar.specs.Texts.{written};
 
@@ -21,14 +21,13 @@ pub(crate) fn body_of(content: &str) -> &str
     }
 }
 
-/// Writes the line on which a literal scalar begins.
-#[tactic(auto, unfolding(crate::specs::Scalars::literal_header))]
-fn put_header(out: &mut Out, content: &str) -> Result<(), Stop>
-    ensures ok { OnOk result (written out.new ≡ written out.old ++ literal_header content.now) }
+/// Writes the chomping indicator and the end of its line.
+#[tactic(auto, unfolding(crate::specs::Scalars::chomping))]
+pub(crate) fn put_chomping(out: &mut Out, content: &str) -> Result<(), Stop>
+    ensures ok { OnOk result (written out.new ≡ written out.old ++ chomping content.now) }
     ensures limit { limit_of out.new ≡ limit_of out.old }
-    ensures err { IfErr result (Stops (limit_of out.old) (written out.old ++ literal_header content.now)) }
+    ensures err { IfErr result (Stops (limit_of out.old) (written out.old ++ chomping content.now)) }
 {
-    out.put(if leads_blank(content) { "|2" } else { "|" })?;
     if !ends_in(content, '\n') {
         return out.put("-\n");
     }
@@ -37,6 +36,16 @@ fn put_header(out: &mut Out, content: &str) -> Result<(), Stop>
     } else {
         "\n"
     })
+}
+
+/// Writes the line on which a literal scalar begins.
+fn put_header(out: &mut Out, content: &str) -> Result<(), Stop>
+    ensures ok { OnOk result (written out.new ≡ written out.old ++ literal_header content.now) }
+    ensures limit { limit_of out.new ≡ limit_of out.old }
+    ensures err { IfErr result (Stops (limit_of out.old) (written out.old ++ literal_header content.now)) }
+{
+    out.put(if leads_blank(content) { "|2" } else { "|" })?;
+    put_chomping(out, content)
 }
 
 /// Writes a line of a literal scalar.
@@ -95,9 +104,9 @@ fn put_broken_line(out: &mut Out, line: &str, level: usize) -> Result<(), Stop>
 
 /// Writes lines between double quotes. Each break between them is escaped.
 fn put_broken_lines(out: &mut Out, body: &str, level: usize) -> Result<(), Stop>
-    ensures ok { OnOk result (written out.new ≡ written out.old ++ broken_lines level (slice_split is_feed body.now)) }
+    ensures ok { OnOk result (written out.new ≡ written out.old ++ joined (broken_line level) broken_feed (slice_split is_feed body.now)) }
     ensures limit { limit_of out.new ≡ limit_of out.old }
-    ensures err { IfErr result (Stops (limit_of out.old) (written out.old ++ broken_lines level (slice_split is_feed body.now))) }
+    ensures err { IfErr result (Stops (limit_of out.old) (written out.old ++ joined (broken_line level) broken_feed (slice_split is_feed body.now))) }
 {
     let mut rest = body;
     'lines: loop {

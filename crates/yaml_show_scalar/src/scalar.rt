@@ -10,10 +10,10 @@ ghost use Rattle.yaml_show_scalar.specs.Texts.{written};
 
 use crate::chars::is_unseen;
 use crate::escapes::put_quoted;
-use crate::fold::{is_folded, put_folded};
 use crate::lines::{body_of, put_broken, put_literal};
 use crate::number::put_float;
 use crate::output::Out;
+use crate::paragraphs::{is_folded, put_folded};
 use crate::plain::is_plain;
 use crate::stop::Stop;
 use crate::tag::{is_resolved, put_tag_before};

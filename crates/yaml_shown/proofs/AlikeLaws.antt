@@ -23,7 +23,7 @@ use Rattle.yaml_show.specs.Layout.{shown_text}
 use Rattle.yaml_canon.specs.Claims.{AllOf, MeansAlone, IsCanonicalText}
 use Rattle.yaml_shown.specs.Alike.{MeanAlike}
 use Rattle.yaml_shown.specs.Lines.{joined, all_have_json, AreTheirs, SameIsJsonAlike}
-use Rattle.yaml_shown.specs.Shows.{readable, ReadsBack, IsShownText, Shows, SameIsShownAlike}
+use Rattle.yaml_shown.specs.Shows.{readable, ReadsBack, IsShownText, ShowsBy, SameIsShownAlike}
 
 -- ---- documents that are alike
 
@@ -111,29 +111,29 @@ pub theirs : (f : List Tree) (lines : List (List ℕ)) → (lines ≡ map json_t
 theirs f lines h = record { written = h.0; has = h.1 }
 
 -- the text of such documents
-pub readable_is : (bytes text : List ℕ) (f lefts rights all : List Tree) → Means bytes lefts → Means [] rights → all ≡ lefts ++ rights → text ≡ shown_text (map arranged all) → Means bytes f → text ≡ readable f
-readable_is bytes text f lefts rights all m n e h k = h ∙ ap readable (all_meant bytes f lefts rights all m n e k)
+pub written_is : (write : List Tree → List ℕ) (bytes text : List ℕ) (f lefts rights all : List Tree) → Means bytes lefts → Means [] rights → all ≡ lefts ++ rights → text ≡ write all → Means bytes f → text ≡ write f
+written_is write bytes text f lefts rights all m n e h k = h ∙ ap write (all_meant bytes f lefts rights all m n e k)
 
-pub shows_readable : (bytes text : List ℕ) → MeanAlike bytes text → ((f : List Tree) → Means bytes f → text ≡ readable f) → Shows bytes text
-shows_readable bytes text m r =
+pub shows_written : (write : List Tree → List ℕ) (bytes text : List ℕ) → MeanAlike bytes text → ((f : List Tree) → Means bytes f → text ≡ write f) → ShowsBy write bytes text
+shows_written write bytes text m r =
     let e = r m.meant m.bytes_mean.means in
     record { forest = m.meant; means = m.bytes_mean; shown = inl ((m.shown, subst (λ z. MeansAlone z m.shown) e m.text_means, m.alike), e) }
 
-pub shows_canonical : (bytes text : List ℕ) → IsCanonicalText bytes text → ((f g : List Tree) → Admitted f → Admitted g → Means bytes f → Means (readable f) g → Alike f g → ⊥) → Shows bytes text
-shows_canonical bytes text c never =
+pub shows_canonical : (write : List Tree → List ℕ) (bytes text : List ℕ) → IsCanonicalText bytes text → ((f g : List Tree) → Admitted f → Admitted g → Means bytes f → Means (write f) g → Alike f g → ⊥) → ShowsBy write bytes text
+shows_canonical write bytes text c never =
     record {
       forest = c.forest;
       means = c.accepted;
-      shown = inr ((λ r. never c.forest r.0 c.admitted (admitted_alike (readable c.forest) c.forest r.0 c.admitted c.accepted.keyed r.1 r.2) c.accepted.means r.1.means r.2), c.spelled);
+      shown = inr ((λ r. never c.forest r.0 c.admitted (admitted_alike (write c.forest) c.forest r.0 c.admitted c.accepted.keyed r.1 r.2) c.accepted.means r.1.means r.2), c.spelled);
     }
 
 -- ---- the law
 
 module _ (f g : List Tree) (a : AllOf Keyed f) (b : AllOf Keyed g) (e : map arranged f ≡ map arranged g) where
-  reads_back : ReadsBack f → ReadsBack g
+  reads_back : ReadsBack readable f → ReadsBack readable g
   reads_back (h, m, l) = (h, subst (λ z. MeansAlone z h) (ap shown_text e) m, arranged_alike g h (sym e ∙ alike_arranged f h a m.keyed l))
 
-shown_alike : (f g : List Tree) → AllOf Keyed f → AllOf Keyed g → map arranged f ≡ map arranged g → (s t : List ℕ) → IsShownText f s → IsShownText g t → s ≡ t
+shown_alike : (f g : List Tree) → AllOf Keyed f → AllOf Keyed g → map arranged f ≡ map arranged g → (s t : List ℕ) → IsShownText readable f s → IsShownText readable g t → s ≡ t
 shown_alike f g a b e s t (inl (p, h)) (inl (q, k)) = h ∙ ap shown_text e ∙ sym k
 shown_alike f g a b e s t (inl (p, h)) (inr (q, k)) = absurd (q (reads_back f g a b e p))
 shown_alike f g a b e s t (inr (p, h)) (inl (q, k)) = absurd (p (reads_back g f b a (sym e) q))

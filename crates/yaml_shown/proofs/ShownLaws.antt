@@ -15,8 +15,7 @@ use Rattle.yaml_show_scalar.specs.Stops.{Stops}
 use Rattle.yaml_show_scalar.specs.declared.stop.Stop.{Stop}
 use Rattle.yaml_show_scalar.specs.declared.stop.Stop.TheVariants as stops
 use Rattle.yaml_shown.specs.Alike.{MeanAlike}
-use Rattle.yaml_shown.specs.Refused.{ShowRefuses, LinesRefuse, IsLengthOrMemory, lines_text, fault_of}
-use Rattle.yaml_shown.specs.Shows.{readable}
+use Rattle.yaml_shown.specs.Refused.{RefusesBy, LinesRefuse, IsLengthOrMemory, lines_text, fault_of}
 
 all-low : (f : List Tree) → AreAdmitted f → AllOf (λ t. height t ≤ height_limit) f
 all-low [] a = tt
@@ -40,37 +39,35 @@ canonical_alike bytes text c =
     }
 
 -- what `canonical` rejects
-pub refused_shown : (bytes : List ℕ) (fault : Fault) → CanonicalRefuses bytes fault → ShowRefuses bytes fault
-refused_shown bytes faults.TextTooLong h = (h.0, h.1.means, inr h.2)
-refused_shown bytes _ h = h
+pub refused_shown : (write : List Tree → List ℕ) (bytes : List ℕ) (fault : Fault) → CanonicalRefuses bytes fault → RefusesBy write bytes fault
+refused_shown write bytes faults.TextTooLong h = (h.0, h.1.means, inr h.2)
+refused_shown write bytes _ h = h
 
-pub memory_shown : (bytes : List ℕ) (fault : Fault) → IsMemory fault → ShowRefuses bytes fault
-memory_shown bytes fault e = subst (ShowRefuses bytes) (sym e) tt
+pub memory_shown : (write : List Tree → List ℕ) (bytes : List ℕ) (fault : Fault) → IsMemory fault → RefusesBy write bytes fault
+memory_shown write bytes fault e = subst (RefusesBy write bytes) (sym e) tt
 
 -- the same of lines
 pub refused_lines : (bytes : List ℕ) (fault : Fault) → CanonicalRefuses bytes fault → LinesRefuse bytes fault
-refused_lines bytes faults.TextTooLong h = (h.0, h.1.means, inr h.2)
-refused_lines bytes _ h = h
+refused_lines = refused_shown lines_text
 
 pub memory_lines : (bytes : List ℕ) (fault : Fault) → IsMemory fault → LinesRefuse bytes fault
-memory_lines bytes fault e = subst (LinesRefuse bytes) (sym e) tt
+memory_lines = memory_shown lines_text
 
 -- a text that is not finished
-pub stop_shown : (bytes : List ℕ) (f : List Tree) (stop : Stop) → Means bytes f → Stops text_limit (readable f) stop → ShowRefuses bytes (fault_of stop)
-stop_shown bytes f stops.TooLong m h = (f, m, inl h)
-stop_shown bytes f stops.OutOfMemory m h = tt
+pub stop_shown : (write : List Tree → List ℕ) (bytes : List ℕ) (f : List Tree) (stop : Stop) → Means bytes f → Stops text_limit (write f) stop → RefusesBy write bytes (fault_of stop)
+stop_shown write bytes f stops.TooLong m h = (f, m, inl h)
+stop_shown write bytes f stops.OutOfMemory m h = tt
 
 pub stop_lines : (bytes : List ℕ) (f : List Tree) (stop : Stop) → Means bytes f → Stops text_limit (lines_text f) stop → LinesRefuse bytes (fault_of stop)
-stop_lines bytes f stops.TooLong m h = (f, m, inl h)
-stop_lines bytes f stops.OutOfMemory m h = tt
+stop_lines = stop_shown lines_text
 
-length-or-refused : (bytes : List ℕ) (fault : Fault) → ShowRefuses bytes fault → (fault ≡ faults.TextTooLong) ⊎ CanonicalRefuses bytes fault
-length-or-refused bytes faults.TextTooLong h = inl refl
-length-or-refused bytes _ h = inr h
+length-or-refused : (write : List Tree → List ℕ) (bytes : List ℕ) (fault : Fault) → RefusesBy write bytes fault → (fault ≡ faults.TextTooLong) ⊎ CanonicalRefuses bytes fault
+length-or-refused write bytes faults.TextTooLong h = inl refl
+length-or-refused write bytes _ h = inr h
 
 -- bytes that mean admitted documents
-pub admitted_shown : MeaningsAreAccepted → (bytes : List ℕ) (f : List Tree) (fault : Fault) → Admitted f → Means bytes f → ShowRefuses bytes fault → IsLengthOrMemory fault
-admitted_shown law bytes f fault a m h = by (length-or-refused bytes fault h)
+pub admitted_shown : MeaningsAreAccepted → (write : List Tree → List ℕ) (bytes : List ℕ) (f : List Tree) (fault : Fault) → Admitted f → Means bytes f → RefusesBy write bytes fault → IsLengthOrMemory fault
+admitted_shown law write bytes f fault a m h = by (length-or-refused write bytes fault h)
   where
     by : (fault ≡ faults.TextTooLong) ⊎ CanonicalRefuses bytes fault → IsLengthOrMemory fault
     by (inl e) = inl e

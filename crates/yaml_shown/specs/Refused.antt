@@ -11,6 +11,7 @@ use Rattle.yaml_canon.specs.Claims.{CanonicalRefuses}
 use Rattle.yaml_show_scalar.specs.declared.stop.Stop.{Stop}
 use Rattle.yaml_show_scalar.specs.declared.stop.Stop.TheVariants as stops
 use Rattle.yaml_show.specs.JsonText.{line_stream}
+use Rattle.yaml_show.specs.Layout.{shown_text}
 use Rattle.yaml_shown.specs.Lines.{all_have_json}
 use Rattle.yaml_shown.specs.Shows.{readable}
 use Rattle.yaml_shown.specs.declared.unshown.Unshown.{Unshown}
@@ -20,10 +21,18 @@ use Rattle.yaml_shown.specs.declared.unshown.Unshown.TheVariants.{Rejected, NoJs
 abbrev pub HasLongText : (List Tree → List ℕ) → List ℕ → Type 0
 HasLongText text bytes = (f : List Tree) × Means bytes f × ((text_limit < length (text f)) ⊎ (text_limit < length (spell_bytes f)))
 
--- What a rejection by `show` says of the bytes: what one by `canonical` says, but for the length of the text: that of the readable text counts too.
+-- What a rejection says of the bytes: what one by `canonical` says, but for the length of the text: that of what is written counts too.
+abbrev pub RefusesBy : (List Tree → List ℕ) → List ℕ → Fault → Type 0
+RefusesBy write bytes TextTooLong = HasLongText write bytes
+RefusesBy write bytes fault = CanonicalRefuses bytes fault
+
+-- by `show`
 abbrev pub ShowRefuses : List ℕ → Fault → Type 0
-ShowRefuses bytes TextTooLong = HasLongText readable bytes
-ShowRefuses bytes fault = CanonicalRefuses bytes fault
+ShowRefuses = RefusesBy readable
+
+-- by `show_as_read`
+abbrev pub AsReadRefuses : List ℕ → Fault → Type 0
+AsReadRefuses = RefusesBy shown_text
 
 -- the length of the text or want of memory is all that is wrong
 abbrev pub IsLengthOrMemory : Fault → Type 0
@@ -35,8 +44,7 @@ lines_text f = line_stream (map arranged f)
 
 -- the same by `show_json`: the lines count, each as a document of a stream
 abbrev pub LinesRefuse : List ℕ → Fault → Type 0
-LinesRefuse bytes TextTooLong = HasLongText lines_text bytes
-LinesRefuse bytes fault = CanonicalRefuses bytes fault
+LinesRefuse = RefusesBy lines_text
 
 -- the fault of a text that is not finished
 abbrev pub fault_of : Stop → Fault

@@ -7,24 +7,40 @@ use Rattle.yaml_definitions.specs.canonical.Spell.{spell_bytes}
 use Rattle.yaml_canon.specs.Claims.{MeansAlone}
 use Rattle.yaml_show.specs.Layout.{shown_text}
 use Rattle.yaml_shown.specs.Alike.{MeanAlike}
+use Rattle.yaml_shown.specs.declared.order.Order.{Order}
+use Rattle.yaml_shown.specs.declared.order.Order.TheVariants.{ByKey, AsRead}
 
 -- the readable text of documents
 abbrev pub readable : List Tree → List ℕ
 readable f = shown_text (map arranged f)
 
--- The readable text is a stream that means the same documents.
-abbrev pub ReadsBack : List Tree → Type 0
-ReadsBack f = (g : List Tree) × MeansAlone (readable f) g × Alike f g
+-- what is written of documents: their readable text; or the same with entries in the order of the source
+abbrev pub written_in : Order → List Tree → List ℕ
+written_in ByKey = readable
+written_in AsRead = shown_text
 
--- the readable text of these documents, where it means the same, else their canonical text
-abbrev pub IsShownText : List Tree → List ℕ → Type 0
-IsShownText f text = (ReadsBack f × (text ≡ readable f)) ⊎ ((¬ (ReadsBack f)) × (text ≡ spell_bytes f))
+module _ (write : List Tree → List ℕ) where
+  -- What is written is a stream that means the same documents.
+  abbrev pub ReadsBack : List Tree → Type 0
+  ReadsBack f = (g : List Tree) × MeansAlone (write f) g × Alike f g
 
--- The bytes mean these documents alone, and the text is what is shown of them.
-pub record Shows (bytes text : List ℕ) : Type 0 where
-  pub forest : List Tree
-  pub means : MeansAlone bytes forest
-  pub shown : IsShownText forest text
+  -- what is written of these documents, where it means the same, else their canonical text
+  abbrev pub IsShownText : List Tree → List ℕ → Type 0
+  IsShownText f text = (ReadsBack f × (text ≡ write f)) ⊎ ((¬ (ReadsBack f)) × (text ≡ spell_bytes f))
+
+  -- The bytes mean these documents alone, and the text is what is shown of them.
+  pub record ShowsBy (bytes text : List ℕ) : Type 0 where
+    pub forest : List Tree
+    pub means : MeansAlone bytes forest
+    pub shown : IsShownText forest text
+
+-- what `show` answers
+abbrev pub Shows : List ℕ → List ℕ → Type 0
+Shows = ShowsBy readable
+
+-- what `show_as_read` answers
+abbrev pub ShowsAsRead : List ℕ → List ℕ → Type 0
+ShowsAsRead = ShowsBy shown_text
 
 -- Streams that mean the same are shown as the same bytes.
 abbrev pub SameIsShownAlike : Type 0

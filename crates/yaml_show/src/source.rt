@@ -1,0 +1,76 @@
+//! A graph whose mappings have their entries in the order of the source.
+use yaml_graph::graph::Graph;
+use yaml_graph::node::{NodeId, NodeKind};
+use yaml_rank::ranks::Ranks;
+use yaml_spell::node::short_len;
+use yaml_spell::ranked::RankedNodes;
+use yaml_spell::ranked_graph::RankedGraph;
+use yaml_spell::shown::{Inside, Shown};
+
+/// A graph whose mappings have their entries in the order of the source. The ranks are those of its nodes.
+#[derive(Clone, Copy)]
+pub(crate) struct SourceGraph<'g, 't> {
+    pub graph: &'g Graph<'t>,
+    pub ranks: &'g Ranks,
+}
+
+impl<'g, 't> RankedNodes<NodeId> for SourceGraph<'g, 't> {
+    ghost use Rattle.std.specs.Prelude.{length};
+    ghost use Rattle.yaml_definitions.specs.model.Order.{arranged};
+    ghost use Rattle.yaml_graph.specs.GraphView.{nodes_of, tree};
+    ghost use Rattle.yaml_rank.specs.RanksView.{RanksAre};
+    ghost use Rattle.yaml_spell.specs.RankView.{rank_in};
+
+    ghost stands = { λ s. RanksAre s.graph.now s.ranks.now };
+
+    ghost count = { λ s. length (nodes_of s.graph.now) };
+
+    ghost number = { λ i. i.0 };
+
+    ghost tree = { λ s i. tree s.graph.now i };
+
+    ghost rank = { λ s t. rank_in s.graph.now s.ranks.now (arranged t) };
+
+    fn len(&self) -> usize {
+        self.graph.len()
+    }
+
+    fn node(&self, id: NodeId) -> Shown<'_, NodeId> {
+        let node = self.graph.node(id);
+        let tag = node.tag.as_str();
+        match &node.kind {
+            NodeKind::Scalar(content) => Shown {
+                tag,
+                inside: Inside::Scalar(content.as_str()),
+            },
+            NodeKind::Sequence(items) => Shown {
+                tag,
+                inside: Inside::Sequence(items),
+            },
+            NodeKind::Mapping(entries) => Shown {
+                tag,
+                inside: Inside::Mapping(entries),
+            },
+        }
+    }
+
+    fn rank(&self, id: NodeId) -> usize {
+        let sorted = RankedGraph {
+            graph: self.graph,
+            ranks: self.ranks,
+        };
+        sorted.rank(id)
+    }
+
+    fn short_len(&self, id: NodeId) -> usize {
+        short_len(&self.node(id))
+    }
+
+    fn tells(&self) {
+        let sorted = RankedGraph {
+            graph: self.graph,
+            ranks: self.ranks,
+        };
+        sorted.tells();
+    }
+}
