@@ -13,6 +13,7 @@ use Rattle.yaml_place.specs.declared.place.Place.{Place}
 use Rattle.review_places.specs.Trails.{frames_after, frames_of}
 use Rattle.review_places.specs.declared.trail.Frame.{Frame}
 use Rattle.review_places.proofs.TrailLaws.{frames_next}
+use Rattle.review_faults.specs.Causes.{cause_rule}
 use Rattle.review_faults.specs.Labels.{Label, whole}
 use Rattle.review_faults.specs.Says.{Says}
 use Rattle.review_faults.specs.Warned.{label_in, Keeps, IsWarning, AreWarnings, ListsFirst}
@@ -75,10 +76,11 @@ told_more events text found ys list new told one is l h w =
     subst (λ z. AreWarnings events text z new) (sym is) (subst (AreWarnings events text (found ++ (told ∷ []))) (sym l) (are_more events text found list told one h w))
 
 -- the same of the warnings of a list, by the number of the next one
-pub told_next : (events : List Event) (text : List ℕ) (found : List (ℕ × Cause)) (i : ℕ) (d : ℕ × Cause) (list new : List Warning) (one : Warning) (label : Label) (at : ℕ) (place : Place) → i < length found → label_in events (get_or found i d) ≡ Some label → string_bytes one.text ≡ whole label → Says events (get_or found i d).1 (whole label) (string_bytes one.words) → one.place ≡ place → at ≤ length text → IsPlace text at place.line place.column → new ≡ list ++ (one ∷ []) → AreWarnings events text (take i found) list → AreWarnings events text (take (i + 1) found) new
-told_next events text found i d list new one label at place l t s y p w h n v =
+pub told_next : (events : List Event) (text : List ℕ) (found : List (ℕ × Cause)) (i : ℕ) (d : ℕ × Cause) (list new : List Warning) (one : Warning) (label : Label) (at : ℕ) (place : Place) → i < length found → one.rule.now ≡ cause_rule (get_or found i d).1 → label_in events (get_or found i d) ≡ Some label → string_bytes one.text ≡ whole label → Says events (get_or found i d).1 (whole label) (string_bytes one.words) → one.place ≡ place → at ≤ length text → IsPlace text at place.line place.column → new ≡ list ++ (one ∷ []) → AreWarnings events text (take i found) list → AreWarnings events text (take (i + 1) found) new
+told_next events text found i d list new one label at place l r t s y p w h n v =
     told_more events text (take i found) (take (i + 1) found) list new (get_or found i d) one (take_more found i d l) n v
     (record {
+      rule = r;
       shows = ap (option_map whole) t ∙ ap (λ z. Some z) (sym s);
       says = subst (λ z. Says events (get_or found i d).1 z (string_bytes one.words)) (sym s) y;
       at = at;

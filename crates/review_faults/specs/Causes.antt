@@ -1,5 +1,5 @@
 -- Why an event is warned of, and what the warning shows of it.
-use Rattle.std.specs.Prelude.{◌≡◌, ◌==◌, ◌&&◌, ◌||◌, ℕ, Bool, false, cond, bytes_eq, List, [], ◌∷◌, Option, Some, None, option_map}
+use Rattle.std.specs.Prelude.{◌≡◌, ◌==◌, ◌&&◌, ◌||◌, ℕ, Bool, false, cond, bytes_eq, List, [], ◌∷◌, Option, Some, None, option_map, codes}
 use Rattle.std.specs.Borrow.{Bor}
 use Rattle.std.specs.List.{list_all}
 use Rattle.yaml_definitions.specs.model.Event.{Event, untagged, full, plain, scalar_event}
@@ -76,6 +76,15 @@ tagged_cause _ = None
 abbrev pub slip_cause : Around → Option (List ℕ) → Option Cause
 slip_cause around None = None
 slip_cause around (Some text) = option_map (λ slip. causes.Slip slip) (slip_in around text)
+
+-- ---- what a warning is called where findings have rules
+
+abbrev pub cause_rule : Cause → List ℕ
+cause_rule causes.Name = codes "anchor-name"
+cause_rule causes.Indicator = codes "flow-indicator"
+cause_rule (causes.Equal reader first) = codes "equal-key"
+cause_rule (causes.Older older) = codes "yaml-1.1"
+cause_rule (causes.Slip slip) = codes "slip"
 
 -- ---- what is shown
 

@@ -1,6 +1,6 @@
 -- What is commonly a slip, although it is read.
 use Rattle.std.specs.Prelude.{◌==◌, ◌&&◌, ◌||◌, ◌-◌, ℕ, Bool, true, false, not, nat_le, nat_lt, cond, if◌then◌else◌, bytes_eq, List, [], ◌∷◌, length, drop, Option, Some, None, codes, slice_get}
-use Rattle.std.specs.List.{list_any, starts_with, ends_with}
+use Rattle.std.specs.List.{list_all, list_any, starts_with, ends_with}
 use Rattle.yaml_definitions.specs.model.Event.{Event, plain, scalar_event, mapping_start}
 use Rattle.review_faults.specs.Labels.{is_name_byte}
 use Rattle.review_faults.specs.declared.slip.Around.{Around}
@@ -49,6 +49,50 @@ has_space (c ∷ x) = begins_space (c ∷ x) || has_space x
 abbrev pub has_colon : List ℕ → Bool
 has_colon x = list_any (λ c. c == 58) x
 
+-- stops and commas alone, and a comma among them: `.` and `..` are names of folders
+abbrev pub is_mark : ℕ → Bool
+is_mark c = c == 44 || c == 46
+
+abbrev pub is_comma : ℕ → Bool
+is_comma c = c == 44
+
+abbrev pub is_marks : List ℕ → Bool
+is_marks x = list_all is_mark x && list_any is_comma x
+
+-- ---- scalars of several lines
+
+-- what is left of a text from where the source has something else: behind the end of its first line, if it has several
+abbrev pub after_same : List ℕ → List ℕ → Option (List ℕ × List ℕ)
+after_same [] x = None
+after_same (d ∷ source) [] = None
+after_same (d ∷ source) (c ∷ x) = cond (d == c) (Some (source, x)) None
+
+abbrev pub apart : List ℕ → List ℕ → List ℕ
+apart [] x = x
+apart (d ∷ source) [] = []
+apart (d ∷ source) (c ∷ x) = cond (d == c) (apart source x) (c ∷ x)
+
+-- without spaces and line feeds at its beginning
+abbrev pub after_break : List ℕ → Option (List ℕ)
+after_break [] = None
+after_break (c ∷ x) = cond (c == 32 || c == 10) (Some x) None
+
+abbrev pub after_breaks : List ℕ → List ℕ
+after_breaks [] = []
+after_breaks (c ∷ x) = cond (c == 32 || c == 10) (after_breaks x) (c ∷ x)
+
+-- one dash, which another one or other text follows
+abbrev pub is_dashed : List ℕ → Bool
+is_dashed x = starts_with ◌==◌ x (codes "-") && not (starts_with ◌==◌ x (codes "--"))
+
+-- a line of a text is commonly an item by a slip: it begins as one, or this line and the text begin with one dash
+abbrev pub is_item : List ℕ → List ℕ → Bool
+is_item x line = starts_with ◌==◌ line (codes "- ") || (is_dashed x && is_dashed line)
+
+-- The second line of a plain scalar is such a line: its text is read from this source.
+abbrev pub is_listed : List ℕ → List ℕ → Bool
+is_listed source x = is_item x (after_breaks (apart source x))
+
 -- ---- what is around a scalar
 
 abbrev pub begins_flow_mapping : Option Event → Bool
@@ -77,8 +121,10 @@ slip_in around x =
     else if around.is_key && (around.is_in_flow && (around.has_no_value && has_colon x)) then Some slips.Key
     else if is_tight x then Some slips.Value
     else if not around.is_key && bytes_eq x (codes "<<") then Some slips.Merge
+    else if around.is_listed then Some slips.Lines
     else if is_quoted x then Some slips.Quotes
     else if has_space x then Some slips.Space
+    else if is_marks x then Some slips.Marks
     else None
 
 abbrev pub slip_words : Slip → List ℕ
@@ -86,5 +132,7 @@ slip_words slips.Template = codes "a key in a key here, as in `{{ x }}`: render 
 slip_words slips.Key = codes "a key without a value here: a space is missing after its colon"
 slip_words slips.Value = codes "one string here: a space is missing after its colon"
 slip_words slips.Merge = codes "a string here, which PyYAML rejects"
+slip_words slips.Lines = codes "one string of several lines here: an item begins with `- `, below a key without a value"
 slip_words slips.Quotes = codes "its quotes are part of the string here: the quotes of YAML are \" and '"
 slip_words slips.Space = codes "a string with a no-break space or a space of no width"
+slip_words slips.Marks = codes "a string here: a comma is an indicator in brackets and braces alone"

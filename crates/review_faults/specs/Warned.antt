@@ -3,7 +3,7 @@ use Rattle.std.specs.Prelude.{◌≡◌, ◌≤◌, ℕ, zero, suc, Bool, false,
 use Rattle.std.specs.Borrow.{Bor}
 use Rattle.std.specs.List.{flat_map}
 use Rattle.std.specs.declared.cmp.Ordering.{Ordering}
-use Rattle.yaml_definitions.specs.model.Event.{Event, sequence_start, mapping_start}
+use Rattle.yaml_definitions.specs.model.Event.{Event, sequence_start, mapping_start, scalar_event}
 use Rattle.yaml_definitions.specs.model.Text.{mark_len}
 use Rattle.yaml_definitions.specs.grammar.Reading.{Reads}
 use Rattle.yaml_place.specs.LineModel.{IsPlace}
@@ -13,14 +13,15 @@ use Rattle.review_args.specs.declared.words.Form.TheVariants as form
 use Rattle.review_text.specs.Objects.{count_data, text_data, object_line}
 use Rattle.review_text.specs.Shown.{front}
 use Rattle.review_text.specs.Terminal.{terminal}
+use Rattle.review_places.specs.declared.trace.Trace.{Trace}
 use Rattle.review_places.specs.Trails.{open_frames, frames_of, is_key}
-use Rattle.review_faults.specs.Causes.{name_cause, indicator_cause, equal_cause, tagged_cause, slip_cause, plain_text, TellsOlder, shown_label, is_allowed}
+use Rattle.review_faults.specs.Causes.{name_cause, indicator_cause, equal_cause, tagged_cause, slip_cause, plain_text, TellsOlder, cause_rule, shown_label, is_allowed}
 use Rattle.review_faults.specs.Heads.{head}
 use Rattle.review_faults.specs.Keys.{begun_at, collection_at, IsEqualKey}
 use Rattle.review_faults.specs.Labels.{Label, whole}
 use Rattle.review_faults.specs.Says.{Says}
 use Rattle.review_faults.specs.Seen.{Holds}
-use Rattle.review_faults.specs.Slips.{is_doubled, has_no_value}
+use Rattle.review_faults.specs.Slips.{is_doubled, has_no_value, is_listed}
 use Rattle.review_faults.specs.declared.cause.Cause.{Cause}
 use Rattle.review_faults.specs.declared.find.Found.{Found}
 use Rattle.review_faults.specs.declared.find.Known.{Known}
@@ -42,19 +43,32 @@ flow_of _ = false
 abbrev pub is_in_flow : List Event → ℕ → Bool
 is_in_flow events n = flow_of (option_and_then (slice_get events) (begun_at (collection_at events n)))
 
--- what is around the event of this number
-abbrev pub around : List Event → ℕ → Around
-around events n = record { is_key = is_key (collection_at events n); is_in_flow = is_in_flow events n; is_doubled = is_doubled events n; has_no_value = has_no_value events n }
+abbrev pub behind : List ℕ → Option ℕ → List ℕ
+behind text None = []
+behind text (Some at) = drop at text
+
+-- the text from the offset that was noted at the event of this number
+abbrev pub source_at : List ℕ → Trace → ℕ → List ℕ
+source_at text trace n = behind text (option_map (λ traced. traced.1) (slice_get trace.events.items n))
+
+-- the text of a scalar
+abbrev pub scalar_text : Event → List ℕ
+scalar_text (scalar_event anchor tag style x) = x
+scalar_text _ = []
+
+-- what is around the event of this number, which begins at this source
+abbrev pub around : (ℕ → List ℕ) → List Event → ℕ → Event → Around
+around source events n e = record { is_key = is_key (collection_at events n); is_in_flow = is_in_flow events n; is_doubled = is_doubled events n; has_no_value = has_no_value events n; is_listed = is_listed (source n) (scalar_text e) }
 
 -- The causes for which the event of this number may be warned of: its name, its first character, the keys that are equal to it in Python and in JavaScript, YAML 1.1, an int with a tag, and a slip. A scalar is judged as a key where it is one.
-pub record AreCauses (events : List Event) (n : ℕ) (e : Event) (causes : List (Option Cause)) : Type 0 where
+pub record AreCauses (source : ℕ → List ℕ) (events : List Event) (n : ℕ) (e : Event) (causes : List (Option Cause)) : Type 0 where
   pub python : Option ℕ
   pub script : Option ℕ
   pub older : Option Cause
   pub equal_in_python : IsEqualKey readers.Python events n python
   pub equal_in_script : IsEqualKey readers.JavaScript events n script
   pub tells : TellsOlder (is_key (collection_at events n)) (plain_text e) older
-  pub are : causes ≡ name_cause e ∷ indicator_cause (is_in_flow events n) e ∷ equal_cause readers.Python python ∷ equal_cause readers.JavaScript script ∷ older ∷ tagged_cause e ∷ slip_cause (around events n) (plain_text e) ∷ []
+  pub are : causes ≡ name_cause e ∷ indicator_cause (is_in_flow events n) e ∷ equal_cause readers.Python python ∷ equal_cause readers.JavaScript script ∷ older ∷ tagged_cause e ∷ slip_cause (around source events n e) (plain_text e) ∷ []
 
 -- the warning of an event for a cause, unless what it shows is one of these words
 abbrev pub noted : List (Bor (List ℕ)) → Event → ℕ → Option Cause → List (ℕ × Cause)
@@ -62,20 +76,20 @@ noted allowed e n None = []
 noted allowed e n (Some cause) = cond (is_allowed allowed cause e) [] ((n, cause) ∷ [])
 
 -- All warnings of the first so many events, in their order: for each the number of its event, and its cause.
-abbrev pub AllWarned : List (Bor (List ℕ)) → List Event → ℕ → List (ℕ × Cause) → Type 0
-AllWarned allowed events zero all = all ≡ []
-AllWarned allowed events (suc n) all =
+abbrev pub AllWarned : (ℕ → List ℕ) → List (Bor (List ℕ)) → List Event → ℕ → List (ℕ × Cause) → Type 0
+AllWarned source allowed events zero all = all ≡ []
+AllWarned source allowed events (suc n) all =
     (before : List (ℕ × Cause)) × (e : Event) × (causes : List (Option Cause))
-    × AllWarned allowed events n before × (slice_get events n ≡ Some e) × AreCauses events n e causes × (all ≡ before ++ flat_map (noted allowed e n) causes)
+    × AllWarned source allowed events n before × (slice_get events n ≡ Some e) × AreCauses source events n e causes × (all ≡ before ++ flat_map (noted allowed e n) causes)
 
 -- the first of these, as many as there is room for, and whether these are all
 pub record Keeps (room : ℕ) (all : List (ℕ × Cause)) (found : Found) : Type 0 where
   pub first : found.list.items ≡ take room all
   pub are_all : found.whole ≡ nat_le (length all) room
 
-pub record FindsWarned (allowed : List (Bor (List ℕ))) (room : ℕ) (events : List Event) (found : Found) : Type 0 where
+pub record FindsWarned (source : ℕ → List ℕ) (allowed : List (Bor (List ℕ))) (room : ℕ) (events : List Event) (found : Found) : Type 0 where
   pub all : List (ℕ × Cause)
-  pub warned : AllWarned allowed events (length events) all
+  pub warned : AllWarned source allowed events (length events) all
   pub keeps : Keeps room all found
 
 -- what is known of the first so many events: the collections that are open, the keys and the anchors
@@ -93,8 +107,9 @@ shown_of cause (Some e) = shown_label cause e
 abbrev pub label_in : List Event → ℕ × Cause → Option Label
 label_in events warning = shown_of warning.1 (slice_get events warning.0)
 
--- a warning has what is shown of its event and what is said of it, at the place of some offset of the text
+-- a warning is called by its cause, and has what is shown of its event and what is said of it, at the place of some offset of the text
 pub record IsWarning (events : List Event) (text : List ℕ) (warning : ℕ × Cause) (one : Warning) : Type 0 where
+  pub rule : one.rule.now ≡ cause_rule warning.1
   pub shows : option_map whole (label_in events warning) ≡ Some (string_bytes one.text)
   pub says : Says events warning.1 (string_bytes one.text) (string_bytes one.words)
   pub at : ℕ
@@ -106,11 +121,12 @@ abbrev pub AreWarnings : List Event → List ℕ → List (ℕ × Cause) → Lis
 AreWarnings events text [] list = list ≡ []
 AreWarnings events text (warning ∷ found) list = (one : Warning) × (rest : List Warning) × IsWarning events text warning one × AreWarnings events text found rest × (list ≡ one ∷ rest)
 
--- The bytes are read as some events, all warnings of these are as said, and the first so many are the list.
+-- The bytes are read as some events, for which some offsets were noted. All warnings of these are as said, and the first so many are the list.
 pub record ListsFirst (bytes : List ℕ) (allowed : List (Bor (List ℕ))) (all : List (ℕ × Cause)) (lines : ℕ) (list : List Warning) : Type 0 where
   pub events : List Event
   pub reads : Reads bytes events
-  pub warned : AllWarned allowed events (length events) all
+  pub trace : Trace
+  pub warned : AllWarned (source_at (drop (mark_len bytes) bytes) trace) allowed events (length events) all
   pub are : AreWarnings events (drop (mark_len bytes) bytes) (take lines all) list
 
 -- as many as there is room for, and whether these are all
@@ -128,7 +144,7 @@ warning_line name w = head name (Some w.place) ++ (codes "warning: " ++ (termina
 -- the same as an object, with all of what is shown
 abbrev pub warning_object : List ℕ → Warning → List ℕ
 warning_object name w =
-    object_line ((codes "file", text_data (Some name)) ∷ (codes "line", count_data w.place.line) ∷ (codes "column", count_data w.place.column) ∷ (codes "text", text_data (Some (string_bytes w.text))) ∷ (codes "words", text_data (Some (string_bytes w.words))) ∷ [])
+    object_line ((codes "file", text_data (Some name)) ∷ (codes "line", count_data w.place.line) ∷ (codes "column", count_data w.place.column) ∷ (codes "rule", text_data (Some w.rule.now)) ∷ (codes "text", text_data (Some (string_bytes w.text))) ∷ (codes "words", text_data (Some (string_bytes w.words))) ∷ [])
 
 abbrev pub warning_text : Form → List ℕ → Warning → List ℕ
 warning_text form.Line name w = warning_line name w

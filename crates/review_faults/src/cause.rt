@@ -207,8 +207,21 @@ impl Cause {
     ghost use Rattle.std.specs.Prelude.{◌≡◌, map, option_map, string_bytes, IfOk, IfErr};
     ghost use Rattle.yaml_text.specs.EventModel.{event_of};
     ghost use Rattle.review_faults.specs.Labels.{label_of};
-    ghost use Rattle.review_faults.specs.Causes.{shown_label, is_allowed};
+    ghost use Rattle.review_faults.specs.Causes.{cause_rule, shown_label, is_allowed};
     ghost use Rattle.review_faults.specs.Says.{Says};
+
+    /// What the warning is called where findings have rules.
+    pub(crate) fn rule(self) -> &'static str
+        ensures { result.now ≡ cause_rule self }
+    {
+        match self {
+            Cause::Name => "anchor-name",
+            Cause::Indicator => "flow-indicator",
+            Cause::Equal(_, _) => "equal-key",
+            Cause::Older(_) => "yaml-1.1",
+            Cause::Slip(_) => "slip",
+        }
+    }
 
     /// What the warning shows of the event.
     pub(crate) fn label<'e>(self, event: &'e Event<'_>) -> Option<Label<'e>>

@@ -1,16 +1,17 @@
 //! The events of a file that are warned of.
-ghost use Rattle.std.specs.Prelude.{◌≡◌, ◌+◌, ◌++◌, ◌∷◌, [], List, Some, find, map, flat_map, option_map, option_and_then, reverse, slice_get, IfOk, IfErr, OnOk};
+ghost use Rattle.std.specs.Prelude.{◌≡◌, ◌+◌, ℕ, ◌++◌, ◌∷◌, [], List, Some, find, map, flat_map, option_map, option_and_then, reverse, slice_get, IfOk, IfErr, OnOk};
 ghost use Rattle.review_places.specs.Trails.{has_part, open_frames};
 ghost use Rattle.yaml_text.specs.EventModel.{event_of};
 ghost use Rattle.review_faults.specs.Keys.{begun_at, mapping_of};
 ghost use Rattle.review_faults.specs.Slips.{begins_flow_mapping, has_no_value, is_doubled, is_unwritten};
-ghost use Rattle.review_faults.specs.Warned.{AreCauses, FindsWarned, Keeps, Knows, flow_of, noted};
+ghost use Rattle.review_faults.specs.Warned.{AreCauses, FindsWarned, Keeps, Knows, flow_of, noted, scalar_text, source_at};
 
 use crate::cause::{
     Cause, equal_cause, indicator_cause, name_cause, older_cause, slip_cause, tagged_cause,
 };
 use crate::keys::{Key, Keys, Reader};
-use crate::slip::Around;
+use crate::slip::{Around, is_listed};
+use review_places::trace::Trace;
 use review_places::trail::Trail;
 use std::alloc::Global;
 use yaml_text::event::{Event, Style};
@@ -154,6 +155,26 @@ fn has_no_value(events: &[Event<'_>], at: usize) -> bool
     }
 }
 
+/// The text from the offset that was noted at the event of this number.
+fn source_at<'s>(text: &'s [u8], trace: &Trace, event: usize) -> &'s [u8]
+    ensures { result.now ≡ source_at text.now trace.now event }
+{
+    match trace.offset(event) {
+        Some(at) => text.get(at..).unwrap_or(&[]),
+        None => &[],
+    }
+}
+
+/// The text of a scalar.
+fn scalar_text<'e>(event: &'e Event<'_>) -> &'e [u8]
+    ensures { result.now ≡ scalar_text (event_of event.now) }
+{
+    match event {
+        Event::Scalar { text, .. } => text.as_str().as_bytes(),
+        _ => &[],
+    }
+}
+
 /// What is known of the events that came.
 #[derive(Drop)]
 pub(crate) struct Known<'e> {
@@ -167,9 +188,10 @@ fn causes_at<'e>(
     events: &'e [Event<'_>],
     at: usize,
     event: &'e Event<'_>,
+    source: &[u8],
     known: &mut Known<'e>,
 ) -> Result<[Option<Cause>; 7], Fault>
-    ensures causes { slice_get events.entry.now at ≡ Some event.entry.now → Knows ⟦<Key as Ord>⟧.cmp (map event_of events.entry.now) at known.old → IfOk result (AreCauses (map event_of events.entry.now) at (event_of event.entry.now)) }
+    ensures causes { slice_get events.entry.now at ≡ Some event.entry.now → Knows ⟦<Key as Ord>⟧.cmp (map event_of events.entry.now) at known.old → (sources : ℕ → List ℕ) → sources at ≡ source.now → IfOk result (AreCauses sources (map event_of events.entry.now) at (event_of event.entry.now)) }
     ensures knows { slice_get events.entry.now at ≡ Some event.entry.now → Knows ⟦<Key as Ord>⟧.cmp (map event_of events.entry.now) at known.old → IfOk result (λ _. Knows ⟦<Key as Ord>⟧.cmp (map event_of events.entry.now) (at + 1) known.new) }
     ensures err { IfErr result (λ fault. fault ≡ Fault.OutOfMemory) }
 {
@@ -182,6 +204,7 @@ fn causes_at<'e>(
         is_in_flow,
         is_doubled: is_doubled(events, at),
         has_no_value: has_no_value(events, at),
+        is_listed: is_listed(source, scalar_text(event)),
     };
     Ok([
         name_cause(event),
@@ -194,14 +217,17 @@ fn causes_at<'e>(
     ])
 }
 
-/// The events of a file that are warned of, but for those of which a word of these would be shown: at most so many.
+/// The events of a file that are warned of, but for those of which a word of these would be shown: at most so many. The text is that
+/// of the file, without a byte order mark.
 pub(crate) fn find_warned(
     alloc: Global,
     events: &[Event<'_>],
+    text: &[u8],
+    trace: &Trace,
     allowed: &[&str],
     room: usize,
 ) -> Result<Found, Fault>
-    ensures ok { IfOk result (FindsWarned allowed.now room (map event_of events.now)) }
+    ensures ok { IfOk result (FindsWarned (source_at text.now trace.now) allowed.now room (map event_of events.now)) }
     ensures err { IfErr result (λ fault. fault ≡ Fault.OutOfMemory) }
 {
     let mut found = Found {
@@ -213,7 +239,8 @@ pub(crate) fn find_warned(
         keys: Keys::new(alloc),
     };
     'events: for (at, event) in events.iter().enumerate() {
-        let causes = causes_at(alloc, events, at, event, &mut known)?;
+        let source = source_at(text, trace, at);
+        let causes = causes_at(alloc, events, at, event, source, &mut known)?;
         note_all(&mut found, at, event, &causes, allowed, room)?;
     }
     Ok(found)

@@ -1,6 +1,7 @@
 //! What is commonly a slip, although it is read.
 ghost use Rattle.std.specs.Prelude.{◌≡◌, option_map};
-ghost use Rattle.review_faults.specs.Slips.{after_name_byte, after_word, is_between, is_tight, is_quote_end, begins_quote, is_quoted, begins_space, has_space, has_colon, slip_in};
+ghost use Rattle.std.specs.List.{list_all, list_any};
+ghost use Rattle.review_faults.specs.Slips.{after_name_byte, after_word, is_between, is_tight, is_quote_end, begins_quote, is_quoted, begins_space, has_space, has_colon, is_mark, is_comma, is_marks, after_same, apart, after_break, after_breaks, is_dashed, is_item, is_listed, slip_in};
 
 use crate::cause::is_name_byte;
 
@@ -13,6 +14,8 @@ pub(crate) struct Around {
     pub(crate) is_doubled: bool,
     /// The next event begins a node that is not written.
     pub(crate) has_no_value: bool,
+    /// It has several lines, and the second one is commonly an item.
+    pub(crate) is_listed: bool,
 }
 
 /// What a plain scalar commonly is by a slip.
@@ -26,10 +29,14 @@ pub enum Slip {
     Value,
     /// It is `<<` and no key.
     Merge,
+    /// It has several lines, and the second one is commonly an item.
+    Lines,
     /// Its first and last characters are quotes as books have them.
     Quotes,
     /// It has a no-break space, or a space of no width.
     Space,
+    /// It has stops and commas alone, and a comma among them.
+    Marks,
 }
 
 impl Slip {
@@ -45,9 +52,12 @@ impl Slip {
             Slip::Key => "a key without a value here: a space is missing after its colon",
             Slip::Value => "one string here: a space is missing after its colon",
             Slip::Merge => "a string here, which PyYAML rejects",
+            Slip::Lines =>
+                "one string of several lines here: an item begins with `- `, below a key without a value",
             Slip::Quotes =>
                 "its quotes are part of the string here: the quotes of YAML are \" and '",
             Slip::Space => "a string with a no-break space or a space of no width",
+            Slip::Marks => "a string here: a comma is an indicator in brackets and braces alone",
         }
     }
 }
@@ -160,6 +170,99 @@ fn has_colon(text: &[u8]) -> bool
     text.iter().any(|byte| *byte == b':')
 }
 
+/// Whether a byte is a stop or a comma.
+fn is_mark(byte: u8) -> bool
+    ensures { result ≡ is_mark byte }
+{
+    byte == b',' || byte == b'.'
+}
+
+/// Whether a text has stops and commas alone.
+fn has_marks_alone(text: &[u8]) -> bool
+    ensures { result ≡ list_all is_mark text.now }
+{
+    text.iter().all(|byte| is_mark(*byte))
+}
+
+/// Whether a text has a comma.
+fn has_comma(text: &[u8]) -> bool
+    ensures { result ≡ list_any is_comma text.now }
+{
+    text.iter().any(|byte| *byte == b',')
+}
+
+/// Whether a text has stops and commas alone, and a comma among them. `.` and `..` are names of folders.
+fn is_marks(text: &[u8]) -> bool
+    ensures { result ≡ is_marks text.now }
+{
+    has_marks_alone(text) && has_comma(text)
+}
+
+/// What is behind the first bytes of a source and of a text, if these are the same.
+fn after_same<'s, 't>(source: &'s [u8], text: &'t [u8]) -> Option<(&'s [u8], &'t [u8])>
+    ensures { option_map (λ rests. (rests.0.now, rests.1.now)) result ≡ after_same source.now text.now }
+{
+    match (source.split_first(), text.split_first()) {
+        (Some((one, source)), Some((other, rest))) if *one == *other => Some((source, rest)),
+        _ => None,
+    }
+}
+
+/// What is left of a text from where the source has something else: behind the end of its first line, if it has several.
+fn apart<'t>(source: &[u8], text: &'t [u8]) -> &'t [u8]
+    ensures { result.now ≡ apart source.now text.now }
+{
+    let mut from = source;
+    let mut rest = text;
+    'bytes: while let Some((source, text)) = after_same(from, rest) {
+        from = source;
+        rest = text;
+    }
+    rest
+}
+
+/// The bytes behind a space or a line feed, if a text begins with one.
+fn after_break(text: &[u8]) -> Option<&[u8]>
+    ensures { option_map (λ rest. rest.now) result ≡ after_break text.now }
+{
+    match text.split_first() {
+        Some((b' ' | b'\n', rest)) => Some(rest),
+        _ => None,
+    }
+}
+
+/// A text without spaces and line feeds at its beginning.
+fn after_breaks(text: &[u8]) -> &[u8]
+    ensures { result.now ≡ after_breaks text.now }
+{
+    let mut rest = text;
+    'bytes: while let Some(more) = after_break(rest) {
+        rest = more;
+    }
+    rest
+}
+
+/// Whether a text begins with one dash.
+fn is_dashed(text: &[u8]) -> bool
+    ensures { result ≡ is_dashed text.now }
+{
+    text.starts_with(b"-") && !text.starts_with(b"--")
+}
+
+/// Whether a line of a text is commonly an item by a slip: it begins as one, or this line and the text begin with one dash.
+fn is_item(text: &[u8], line: &[u8]) -> bool
+    ensures { result ≡ is_item text.now line.now }
+{
+    line.starts_with(b"- ") || (is_dashed(text) && is_dashed(line))
+}
+
+/// Whether the second line of a plain scalar, whose text is read from this source, is such a line.
+pub(crate) fn is_listed(source: &[u8], text: &[u8]) -> bool
+    ensures { result ≡ is_listed source.now text.now }
+{
+    is_item(text, after_breaks(apart(source, text)))
+}
+
 /// What the text of a plain scalar commonly is by a slip.
 pub(crate) fn slip_in(around: Around, text: &str) -> Option<Slip>
     ensures { result ≡ slip_in around text.now }
@@ -173,10 +276,14 @@ pub(crate) fn slip_in(around: Around, text: &str) -> Option<Slip>
         Some(Slip::Value)
     } else if !around.is_key && text == "<<" {
         Some(Slip::Merge)
+    } else if around.is_listed {
+        Some(Slip::Lines)
     } else if is_quoted(bytes) {
         Some(Slip::Quotes)
     } else if has_space(bytes) {
         Some(Slip::Space)
+    } else if is_marks(bytes) {
+        Some(Slip::Marks)
     } else {
         None
     }

@@ -3,6 +3,7 @@ ghost use Rattle.std.specs.Prelude.{◌≡◌, ◌≤◌, ◌++◌, flat_map, le
 ghost use Rattle.yaml_text.specs.EventModel.{event_of};
 ghost use Rattle.yaml_place.specs.LineModel.{IsPlace};
 ghost use Rattle.review_faults.specs.Again.{CannotRead};
+ghost use Rattle.review_faults.specs.Causes.{cause_rule};
 ghost use Rattle.review_faults.specs.Labels.{label_of, whole};
 ghost use Rattle.review_faults.specs.Says.{Says};
 ghost use Rattle.review_faults.specs.Warned.{label_in, AreWarnings, ListsWarnings, warning_line, warning_object, warning_text, warnings_text};
@@ -28,6 +29,8 @@ use yaml_text::fault::Fault;
 #[derive(Drop)]
 pub struct Warning {
     pub place: Place,
+    /// What it is called.
+    pub rule: &'static str,
     pub text: String,
     /// How they read it.
     pub words: String,
@@ -73,12 +76,18 @@ fn warning_of(
 ) -> Result<Warning, Fault>
     ensures text { IfOk result (λ warning. string_bytes warning.text ≡ whole (label_of label.entry)) }
     ensures place { IfOk result (λ warning. warning.place ≡ place) }
+    ensures rule { IfOk result (λ warning. warning.rule.now ≡ cause_rule cause) }
     ensures words { IfOk result (λ warning. Says (map event_of events.now) cause (whole (label_of label.entry)) (string_bytes warning.words)) }
     ensures err { IfErr result (λ fault. fault ≡ Fault.OutOfMemory) }
 {
     let text = label.to_text(alloc)?;
     let words = cause.words(alloc, events, &text)?;
-    Ok(Warning { place, text, words })
+    Ok(Warning {
+        place,
+        rule: cause.rule(),
+        text,
+        words,
+    })
 }
 
 /// The warnings that were found, each at its event's offset in the text. For each there are a text and an offset, so that the
@@ -125,10 +134,11 @@ pub fn list_warnings(
 {
     let source = Chars::read(bytes)?;
     let events = read_events(alloc, &source)?;
-    let found = find_warned(alloc, &events, allowed, room)?;
     let trace = trace_of(alloc, &source)?;
+    let text = unmarked(bytes);
+    let found = find_warned(alloc, &events, text, &trace, allowed, room)?;
     Ok(Warnings {
-        list: told(alloc, &events, &trace, unmarked(bytes), &found.list)?,
+        list: told(alloc, &events, &trace, text, &found.list)?,
         whole: found.whole,
     })
 }
@@ -161,6 +171,7 @@ fn put_json<'t>(
         ("file", Said::Text(Some(name))),
         ("line", Said::Number(Some(warning.place.line))),
         ("column", Said::Number(Some(warning.place.column))),
+        ("rule", Said::Text(Some(warning.rule))),
         ("text", Said::Text(Some(warning.text.as_str()))),
         ("words", Said::Text(Some(warning.words.as_str()))),
     ];

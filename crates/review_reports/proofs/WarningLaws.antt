@@ -27,7 +27,7 @@ is_none bytes allowed all lines list h =
     none_told bytes allowed all r.0 list (subst (λ n. ListsFirst bytes allowed all n list) r.1 h)
 
 none_asked : (bytes : List ℕ) (allowed : List (Bor (List ℕ))) (all : List (ℕ × Cause)) (room lines : ℕ) (list : List Warning) → (lines == 0) ≡ true → ListsFirst bytes allowed all room list → ListsFirst bytes allowed all lines []
-none_asked bytes allowed all room zero list z h = record { events = h.events; reads = h.reads; warned = h.warned; are = refl }
+none_asked bytes allowed all room zero list z h = record { events = h.events; reads = h.reads; trace = h.trace; warned = h.warned; are = refl }
 none_asked bytes allowed all room (suc n) list z h = let q = eqb-true (suc n) 0 z in absurd (omega (arith, q))
 
 room_is : (lines : ℕ) → (lines == 0) ≡ false → room_for lines ≡ lines

@@ -40,10 +40,10 @@ pub record IsFault (name bytes : List ℕ) (fault : Fault) (one : Finding) : Typ
 abbrev pub FindsFault : List ℕ → List ℕ → Fault → List Finding → Type 0
 FindsFault name bytes fault list = (one : Finding) × (list ≡ one ∷ []) × IsFault name bytes fault one
 
--- it is this warning of a file of this name, at its place, with 60 bytes at most of what is shown and what is said of it
+-- it is this warning of a file of this name, with its rule, at its place, with 60 bytes at most of what is shown and what is said of it
 pub record IsFoundWarning (name : List ℕ) (w : Warning) (one : Finding) : Type 0 where
   pub file : string_bytes one.file ≡ name
-  pub rule : one.rule.now ≡ codes "yaml-1.1"
+  pub rule : one.rule.now ≡ w.rule.now
   pub level : one.level ≡ levels.Warning
   pub place : one.place ≡ Some w.place
   pub message : string_bytes one.message ≡ visible (front 60 (string_bytes w.text)) ++ (codes ": " ++ string_bytes w.words)

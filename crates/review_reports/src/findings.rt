@@ -194,7 +194,7 @@ pub(crate) fn warning_found(alloc: Global, name: &str, warning: &Warning) -> Res
     ensures err { IfErr result (λ fault. fault ≡ Fault.OutOfMemory) }
 {
     Ok(Finding {
-        rule: "yaml-1.1",
+        rule: warning.rule,
         level: Level::Warning,
         file: name.to_string(alloc)?,
         place: Some(warning.place),

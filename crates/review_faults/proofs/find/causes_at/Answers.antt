@@ -1,16 +1,17 @@
-use Rattle.std.proofs.Common.{◌≡◌, ◌+◌, [], ◌∷◌, map, take, ◌∙◌, ap, subst}
+use Rattle.std.proofs.Common.{◌≡◌, ◌+◌, [], ◌∷◌, map, take, ◌∙◌, ap, subst, sym}
 use Rattle.std.specs.Prelude.{Some, find, option_and_then, option_map, reverse, slice_get}
 use Rattle.std.proofs.lemmas.Option.{slice_get-map}
 use Rattle.yaml_text.specs.EventModel.{event_of}
 use Rattle.review_places.specs.Trails.{open_frames, frames_of, has_part, is_key}
 use Rattle.review_faults.specs.Causes.{TellsOlder, indicator_cause, plain_text, slip_cause}
 use Rattle.review_faults.specs.Keys.{begun_at, collection_at, mapping_of}
-use Rattle.review_faults.specs.Warned.{flow_of, is_in_flow}
+use Rattle.review_faults.specs.Slips.{is_listed}
+use Rattle.review_faults.specs.Warned.{flow_of, is_in_flow, scalar_text}
 use Rattle.review_faults.proofs.WarnLaws.{frames_known}
 use Rattle.review_faults.proofs.find.causes_at.Goals as goal
 
 pub returns-clause-causes : goal.returns-clause-causes
-returns-clause-causes c = λ at known.
+returns-clause-causes c = λ at known sources here.
     let n = c.args.at in
     let es = map event_of c.args.events.now in
     let event = event_of c.args.event.now in
@@ -21,8 +22,9 @@ returns-clause-causes c = λ at known.
     c.is_flow-is_in_flow.ensures ∙ ap flow_of (c.event_at.ensures ∙ ap (option_and_then (slice_get es)) (c.around.ensures ∙ ap (λ z. begun_at (find has_part (reverse z))) frames)) in
     let indicator = c.indicator_cause.ensures ∙ ap (λ z. indicator_cause z event) flow in
     let key : c.is_at_key-is_key.result ≡ is_key (collection_at es n) = c.is_at_key-is_key.ensures ∙ ap (λ z. is_key (find has_part (reverse z))) frames in
+    let listed : c.is_listed.result ≡ is_listed (sources n) (scalar_text event) = c.is_listed.ensures ∙ ap (λ z. is_listed z c.scalar_text.result.now) (sym here) ∙ ap (is_listed (sources n)) c.scalar_text.ensures in
     let slip = c.slip_cause.ensures ∙ ap (λ z. slip_cause z (plain_text event))
-    (λ i. record { is_key = key i; is_in_flow = flow i; is_doubled = c.is_doubled.ensures i; has_no_value = c.has_no_value.ensures i }) in
+    (λ i. record { is_key = key i; is_in_flow = flow i; is_doubled = c.is_doubled.ensures i; has_no_value = c.has_no_value.ensures i; is_listed = listed i }) in
     record {
       python = c.in_ok-equals.equals.python;
       script = c.in_ok-equals.equals.script;

@@ -5,7 +5,7 @@ use Rattle.std.proofs.lemmas.Bool.{le-leb}
 use Rattle.std.proofs.lemmas.List.{take_all}
 use Rattle.std.proofs.lemmas.Option.{slice_get-get_or, slice_get-map}
 use Rattle.yaml_text.specs.EventModel.{event_of}
-use Rattle.review_faults.specs.Warned.{AllWarned, noted}
+use Rattle.review_faults.specs.Warned.{AllWarned, noted, source_at}
 use Rattle.review_faults.proofs.find.find_warned.Goals as goal
 
 pub events-init : goal.events-init
@@ -26,11 +26,12 @@ events-preserved c =
     let before = c.events.invariant in
     let causes = c.in_ok-causes.causes in
     let all = before.all ++ flat_map (noted c.args.allowed.now (event_of e) n) causes in
-    let warned : AllWarned c.args.allowed.now es (suc n) all =
-    (before.all, event_of e, causes, before.warned, slice_get-map event_of events n ∙ ap (option_map event_of) at, c.in_ok-causes.ensures.causes at before.knows, refl) in
+    let source = source_at c.args.text.now c.args.trace.now in
+    let warned : AllWarned source c.args.allowed.now es (suc n) all =
+    (before.all, event_of e, causes, before.warned, slice_get-map event_of events n ∙ ap (option_map event_of) at, c.in_ok-causes.ensures.causes at before.knows source (sym c.source_at-source.ensures), refl) in
     record {
       all = all;
-      warned = subst (λ z. AllWarned c.args.allowed.now es z all) (suc-eq-add-one n) warned;
+      warned = subst (λ z. AllWarned source c.args.allowed.now es z all) (suc-eq-add-one n) warned;
       keeps = c.in_ok-note_all.ensures.ok before.all before.keeps;
       knows = c.in_ok-causes.ensures.knows at before.knows;
     }

@@ -10,7 +10,7 @@ numbers-preserved c =
     let warning = c.in_ok-warning_of.ensures in
     record {
       told = told_next (map event_of c.args.events.now) c.args.source.now c.args.found.now c.numbers.number-index _ c.numbers.list.items c.push.new.self.items c.in_ok-warning_of.field-0 (label_of c.in-Some-Some.label)
-          c.min-to.result c.go_on-place.result (omega (arith, c.numbers-test.true)) (sym c.label_at-label.ensures ∙ ap (option_map label_of) c.in-Some-Some.is-0) warning.text warning.words warning.place
+          c.min-to.result c.go_on-place.result (omega (arith, c.numbers-test.true)) warning.rule (sym c.label_at-label.ensures ∙ ap (option_map label_of) c.in-Some-Some.is-0) warning.text warning.words warning.place
           (omega (arith, c.min-to.ensures)) c.go_on-place.ensures c.in_ok-push.ensures.items c.numbers.invariant.told;
       here = c.go_on-place.ensures;
       within = omega (arith, c.min-to.ensures);
