@@ -126,11 +126,11 @@ uint32_t yamlcanon_same(const uint8_t *left, size_t left_n, const uint8_t *right
                         yamlcanon_fault *fault);
 
 /* Puts where two streams differ at the start of out, and the length into *len, as yamlreview diff --format=json prints it: a
- * JSON object on a line for each difference and then for each item that moved, at most so many lines, and behind them
+ * JSON object on a line for each difference and then for each item that moved, at most so many lines, and after them
  * how many no line tells, as {"differences":12,"kind":"more","moves":300,"whole":true}, if there are more. whole is
  * false if not all were looked for. With lines 0 there is no text.
  * DONE: they mean the same, and *len is 0. DIFFERENT: they don't, and the text is out[0 .. *len]. With both out is as it was
- * behind the text, and so is *fault. SHORT and REFUSED: as yamlcanon_canonical; a fault is one of yamlcanon_same. */
+ * after the text, and so is *fault. SHORT and REFUSED: as yamlcanon_canonical; a fault is one of yamlcanon_same. */
 uint32_t yamlcanon_diff(const uint8_t *left, size_t left_n, const uint8_t *right, size_t right_n, size_t lines,
                         uint8_t *out, size_t cap, size_t *len, yamlcanon_fault *fault);
 

@@ -50,7 +50,7 @@ look_at_machine() {
     major=${number%%.*} minor=${number#*.}
     minor=${minor%%.*}
     if [ "$major" -lt 2 ] || { [ "$major" -eq 2 ] && [ "$minor" -lt 34 ]; }; then
-        refuse "$glibc is here, and the programs need 2.34 (the library alone: 2.14)"
+        refuse "$glibc is here, and the programs need 2.34 (the library alone: 2.17)"
     fi
 }
 

@@ -1,9 +1,11 @@
 -- What the getters of `clap` answer, by the rows that it found.
-use Rattle.std.proofs.Common.{◌≡◌, ◌∙◌, ◌&&◌, ℕ, ◌^◌, Bool, true, false, List, [], ◌∷◌, ◌++◌, Option, Some, None, is_some, option_map, option_and_then, unwrap_or, refl, sym, ap, Result, Ok, Err, length, subst, zero, suc, ◌<◌, get_or, slice_index_or, arith}
+use Rattle.std.proofs.Common.{◌≡◌, ◌∙◌, ◌&&◌, ℕ, ◌^◌, Bool, true, false, List, [], ◌∷◌, ◌++◌, Option, Some, None, is_some, option_map, option_and_then, unwrap_or, refl, sym, ap, Result, Ok, Err, length, drop, subst, zero, suc, ◌+◌, ◌<◌, ◌≤◌, get_or, slice_index_or, arith, add-one}
 use Rattle.std.specs.Option.{IfSome, IfNone}
 use Rattle.std.specs.Prelude.{nat_lt}
 use Rattle.std.specs.Borrow.{Bor}
 use Rattle.std.specs.List.{list_all, Any}
+use Rattle.std.proofs.Math.Seq.{drop-cons}
+use Rattle.std.proofs.Math.ListN.{drop_of_length-le}
 use Rattle.std.proofs.lemmas.List.{length-map}
 use Rattle.std.specs.Char.{digit_value}
 use Rattle.std.specs.Str.Parse.{AllDigits, ParsesUnsigned, digits_value, without_leading_plus}
@@ -93,6 +95,22 @@ of_some P (Some y) x e h =
 pub of_none : {X : Type 0} (P : Type 0) (o : Option X) → o ≡ None → IfNone o P → P
 of_none P None e h = h
 of_none P (Some x) e h = absurd (cc)
+
+-- a test of all texts, one after another: of those from a place on the answer is that of all
+rest_from : (list : List (Bor Text)) (i : ℕ) (d : Bor Text) → i < length list → drop i list ≡ get_or list i d ∷ drop (i + 1) list
+rest_from list i d l = rw add-one (drop-cons list i d l)
+
+all_from : (p : Text → Bool) (list : List (Bor Text)) (i : ℕ) (d : Bor Text) (b whole : Bool) → i < length list → list_all p (texts (drop i list)) ≡ whole → b ≡ p (get_or list i d).now → (b && list_all p (texts (drop (i + 1) list))) ≡ whole
+all_from p list i d b whole l h e = ap (λ z. z && list_all p (texts (drop (i + 1) list))) e ∙ ap (λ z. list_all p (texts z)) (sym (rest_from list i d l)) ∙ h
+
+pub all_next : (p : Text → Bool) (list : List (Bor Text)) (i : ℕ) (d : Bor Text) (b whole : Bool) → i < length list → list_all p (texts (drop i list)) ≡ whole → b ≡ p (get_or list i d).now → b ≡ true → list_all p (texts (drop (i + 1) list)) ≡ whole
+all_next p list i d b whole l h e t = ap (λ z. z && list_all p (texts (drop (i + 1) list))) (sym t) ∙ all_from p list i d b whole l h e
+
+pub all_stops : (p : Text → Bool) (list : List (Bor Text)) (i : ℕ) (d : Bor Text) (b whole : Bool) → i < length list → list_all p (texts (drop i list)) ≡ whole → b ≡ p (get_or list i d).now → b ≡ false → false ≡ whole
+all_stops p list i d b whole l h e t = ap (λ z. z && list_all p (texts (drop (i + 1) list))) (sym t) ∙ all_from p list i d b whole l h e
+
+pub all_ends : (p : Text → Bool) (list : List (Bor Text)) (i : ℕ) (whole : Bool) → length list ≤ i → list_all p (texts (drop i list)) ≡ whole → true ≡ whole
+all_ends p list i whole l h = ap (λ z. list_all p (texts z)) (sym (drop_of_length-le list l)) ∙ h
 
 -- a text at a place is one of all
 pub any_text : (P : Text → Type 0) (items : List (Bor Text)) (i : ℕ) (d : Bor Text) → i < length items → P (get_or items i d).now → Any P (texts items)

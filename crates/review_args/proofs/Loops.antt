@@ -6,6 +6,10 @@ use Rattle.std.proofs.lemmas.List.{map-append, take_all}
 pub take_next : {X Z : Type 0} (g : X → Z) (xs : List X) (i : ℕ) (d : X) → i < length xs → map g (take (i + 1) xs) ≡ map g (take i xs) ++ g (get_or xs i d) ∷ []
 take_next g xs i d l = ap (λ (n : ℕ). map g (take n xs)) (add-one i) ∙ ap (map g) (take-suc xs i d l) ∙ map-append g (take i xs) (get_or xs i d ∷ [])
 
+-- one more element
+pub map_added : {X Z : Type 0} (f : X → Z) (old new : List X) (x : X) (z : Z) → new ≡ old ++ (x ∷ []) → f x ≡ z → map f new ≡ map f old ++ (z ∷ [])
+map_added f old new x z e is = ap (map f) e ∙ map-append f old (x ∷ []) ∙ ap (λ y. map f old ++ (y ∷ [])) is
+
 pub map_next : {X Y Z : Type 0} (f : Y → Z) (g : X → Z) (xs : List X) (i : ℕ) (d : X) (old new : List Y) (y : Y) → i < length xs → map f old ≡ map g (take i xs)
     → new ≡ old ++ y ∷ [] → f y ≡ g (get_or xs i d) → map f new ≡ map g (take (i + 1) xs)
 map_next {X} {Y} {Z} f g xs i d old new y l h e is =

@@ -12,6 +12,6 @@ abbrev pub are_kubectls : List (List ℕ) → Bool
 are_kubectls (left ∷ right ∷ command ∷ options) = is_absolute left && (is_absolute right && bytes_eq command (codes "diff"))
 are_kubectls _ = false
 
--- The command is first, and the folders are last.
+-- The command is first, and the folders are last, of which all files are compared.
 abbrev pub in_order : List (List ℕ) → List (List ℕ)
-in_order words = cond (are_kubectls words) (drop 2 words ++ take 2 words) words
+in_order words = cond (are_kubectls words) ((drop 2 words ++ (codes "--include=*" ∷ [])) ++ take 2 words) words

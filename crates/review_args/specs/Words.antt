@@ -1,13 +1,15 @@
 -- What words ask for, from what `clap` finds in them: for each argument of a command a row with the values that it has.
-use Rattle.std.specs.Prelude.{◌≡◌, ◌⊎◌, ℕ, ◌^◌, nat_lt, min, ◌&&◌, ◌||◌, not, Bool, true, false, codes, List, [], ◌∷◌, Option, Some, None, is_some, option_map, option_and_then, unwrap_or, if◌then◌else◌}
-use Rattle.std.specs.List.{list_any, Any}
+use Rattle.std.specs.Prelude.{◌≡◌, ◌⊎◌, ℕ, ◌^◌, nat_lt, min, ◌&&◌, ◌||◌, ◌==◌, not, length, Bool, true, false, codes, List, [], ◌∷◌, Option, Some, None, is_some, option_map, option_and_then, unwrap_or, if◌then◌else◌}
+use Rattle.std.specs.List.{list_all, list_any, Any}
 use Rattle.std.specs.Str.{bytes_eq}
 use Rattle.std.specs.Str.Parse.{digits_value, without_leading_plus}
+use Rattle.std.specs.Borrow.{Bor}
 use Rattle.clap.specs.Words.{App, IsAmong, Row, Text, all_of, fault_of, first_of, one_of, subcommand_of}
 use Rattle.clap.specs.Walk.{is_empty, texts}
 use Rattle.clap.specs.ValueTests.{is_numeral}
 use Rattle.clap.specs.declared.error.kind.ErrorKind.{ErrorKind}
 use Rattle.clap.specs.declared.error.kind.ErrorKind.TheVariants as kind
+use Rattle.review_patterns.specs.Globs.{is_glob}
 use Rattle.review_patterns.specs.Patterns.{IsPattern, steps_of}
 use Rattle.review_patterns.specs.declared.pattern.Pattern.{Pattern}
 use Rattle.review_args.specs.Grammar.{IsProgram}
@@ -71,6 +73,21 @@ or_input (file ∷ files) = file ∷ files
 abbrev pub files_in : List Row → List Text
 files_in rows = or_input (texts_in (codes "FILE") rows)
 
+-- the globs of the files of folders, or those of YAML and JSON
+abbrev pub or_both_forms : List Text → List Text
+or_both_forms [] = codes "*.yaml" ∷ codes "*.yml" ∷ codes "*.json" ∷ []
+or_both_forms (glob ∷ globs) = glob ∷ globs
+
+abbrev pub included_in : List Row → List Text
+included_in rows = or_both_forms (texts_in (codes "include") rows)
+
+-- no text of `--by` is empty
+abbrev pub has_bytes : Text → Bool
+has_bytes text = not (length text == 0)
+
+abbrev pub has_keys : List Row → Bool
+has_keys rows = list_all has_bytes (texts_in (codes "by") rows)
+
 -- ---- what it means
 
 -- `--format json`
@@ -86,7 +103,13 @@ page_in rows = if has (codes "format") (codes "html") rows then Some pages.Html
     else None)))
 
 abbrev pub format_in : List Row → Format
-format_in rows = if has (codes "format") (codes "json") rows then formats.Json else formats.Yaml
+format_in rows = if has (codes "format") (codes "json") rows then formats.Json
+    else (if is_on (codes "keep-order") rows then formats.AsRead
+    else formats.Yaml)
+
+-- the order of the source is asked for, and JSON
+abbrev pub keeps_json : List Row → Bool
+keeps_json rows = is_on (codes "keep-order") rows && has (codes "format") (codes "json") rows
 
 -- `--paths`, which is for lines of text
 abbrev pub paths_in : List Row → Paths
@@ -137,6 +160,10 @@ ArePatterns _ _ = ⊥
 abbrev pub AsksIgnored : List Row → List Pattern → Type 0
 AsksIgnored rows patterns = ArePatterns (texts_in (codes "ignore") rows) patterns
 
+-- the globs of files, each of which is one
+abbrev pub AsksIncluded : List Row → List (Bor Text) → Type 0
+AsksIncluded rows globs = (texts globs ≡ included_in rows) × (list_all is_glob (texts globs) ≡ true)
+
 pub record AsksReport (rows : List Row) (report : Report) : Type 0 where
   pub files : texts report.files.items ≡ files_in rows
   pub form : report.form ≡ form_in rows
@@ -158,6 +185,7 @@ pub record AsksShow (rows : List Row) (show : Show) : Type 0 where
   pub is_check : show.is_check ≡ is_on (codes "check") rows
   pub is_strict : show.is_strict ≡ is_on (codes "strict") rows
   pub one : has_two_modes rows ≡ false
+  pub ordered : keeps_json rows ≡ false
 
 -- more than one of FILE, `--files-from` and `--check`
 abbrev pub are_several : List Row → Bool
@@ -192,8 +220,8 @@ pub record AsksMerge (rows : List Row) (is_terminal : Bool) (merge : Merge) : Ty
 
 -- the command of this name is asked for this, with the keys of `--by`
 abbrev pub AsksIn : Text → List Row → List Text → Bool → Asked → Type 0
-AsksIn name rows by is_terminal (asks.Diff diff ignored) = (name ≡ codes "diff") × (page_in rows ≡ None) × AsksDiff rows by is_terminal diff × AsksIgnored rows ignored.items
-AsksIn name rows by is_terminal (asks.DiffPage page diff ignored) = (name ≡ codes "diff") × (page_in rows ≡ Some page) × (diff.stat ≡ false) × AsksDiff rows by is_terminal diff × AsksIgnored rows ignored.items
+AsksIn name rows by is_terminal (asks.Diff diff ignored included) = (name ≡ codes "diff") × (page_in rows ≡ None) × (has_keys rows ≡ true) × AsksDiff rows by is_terminal diff × AsksIgnored rows ignored.items × AsksIncluded rows included.items
+AsksIn name rows by is_terminal (asks.DiffPage page diff ignored included) = (name ≡ codes "diff") × (page_in rows ≡ Some page) × (diff.stat ≡ false) × (has_keys rows ≡ true) × AsksDiff rows by is_terminal diff × AsksIgnored rows ignored.items × AsksIncluded rows included.items
 AsksIn name rows by is_terminal (asks.Faults report) = (name ≡ codes "faults") × (page_in rows ≡ None) × AsksReport rows report
 AsksIn name rows by is_terminal (asks.FaultsPage page report) = (name ≡ codes "faults") × (page_in rows ≡ Some page) × AsksReport rows report
 AsksIn name rows by is_terminal (asks.Warn report warn) = (name ≡ codes "warn") × (page_in rows ≡ None) × AsksReport rows report × AsksWarn rows warn
@@ -201,7 +229,7 @@ AsksIn name rows by is_terminal (asks.WarnPage page report warn) = (name ≡ cod
 AsksIn name rows by is_terminal (asks.Show show) = (name ≡ codes "show") × AsksShow rows show
 AsksIn name rows by is_terminal (asks.Sum sum) = (name ≡ codes "sum") × AsksSum rows sum
 AsksIn name rows by is_terminal (asks.Merge merge) = (name ≡ codes "merge3") × AsksMerge rows is_terminal merge
-AsksIn name rows by is_terminal (asks.Git words) = ⊥
+AsksIn name rows by is_terminal (asks.Git words is_color) = ⊥
 
 -- ---- what words ask for
 
@@ -216,9 +244,9 @@ abbrev pub git_words : List Text → Option (List Text)
 git_words [] = None
 git_words (command ∷ rest) = if bytes_eq command (codes "git") then passed rest else None
 
-abbrev pub AsksGit : List Text → Asked → Type 0
-AsksGit words (asks.Git passed_on) = git_words words ≡ Some (texts passed_on.items)
-AsksGit words _ = ⊥
+abbrev pub AsksGit : List Text → Bool → Asked → Type 0
+AsksGit words is_terminal (asks.Git passed_on is_color) = (git_words words ≡ Some (texts passed_on.items)) × (is_color ≡ is_terminal)
+AsksGit words is_terminal _ = ⊥
 
 -- `clap` accepts the words, as those of the command of this name, and finds these rows
 pub record Finds (words : List Text) (name : Text) (rows : List Row) : Type 0 where
@@ -229,7 +257,7 @@ pub record Finds (words : List Text) (name : Text) (rows : List Row) : Type 0 wh
 
 -- The words ask for this.
 abbrev pub Asks : List Text → List Text → Bool → Asked → Type 0
-Asks words by is_terminal asked = AsksGit words asked
+Asks words by is_terminal asked = AsksGit words is_terminal asked
     ⊎ ((git_words words ≡ None) × ((name : Text) × (rows : List Row) × Finds words name rows × AsksIn name rows by is_terminal asked))
 
 -- the texts of `diff --by`
@@ -251,12 +279,19 @@ HasNoPattern text = (steps : List (List ℕ)) → IsPattern text steps → ⊥
 abbrev pub RefusesPatterns : List Row → ErrorKind → Type 0
 RefusesPatterns rows k = (k ≡ kind.OutOfMemory) ⊎ ((k ≡ kind.ValueValidation) × Any HasNoPattern (texts_in (codes "ignore") rows))
 
--- the same, or numbers are asked for on a page
+-- a text of `--include` is no glob
+abbrev pub RefusesGlobs : List Row → ErrorKind → Type 0
+RefusesGlobs rows k = (k ≡ kind.OutOfMemory) ⊎ ((k ≡ kind.ValueValidation) × (list_all is_glob (included_in rows) ≡ false))
+
+-- one of these, or a text of `--by` is empty, or numbers are asked for on a page
 abbrev pub RefusesDiff : List Row → ErrorKind → Type 0
-RefusesDiff rows k = RefusesPatterns rows k ⊎ ((k ≡ kind.ArgumentConflict) × (is_some (page_in rows) ≡ true) × (is_on (codes "stat") rows ≡ true))
+RefusesDiff rows k = RefusesPatterns rows k
+    ⊎ (RefusesGlobs rows k
+    ⊎ (((k ≡ kind.ValueValidation) × (has_keys rows ≡ false))
+    ⊎ ((k ≡ kind.ArgumentConflict) × (is_some (page_in rows) ≡ true) × (is_on (codes "stat") rows ≡ true))))
 
 abbrev pub RefusesShow : List Row → ErrorKind → Type 0
-RefusesShow rows k = (k ≡ kind.OutOfMemory) ⊎ ((k ≡ kind.ArgumentConflict) × (has_two_modes rows ≡ true))
+RefusesShow rows k = (k ≡ kind.OutOfMemory) ⊎ ((k ≡ kind.ArgumentConflict) × ((has_two_modes rows ≡ true) ⊎ (keeps_json rows ≡ true)))
 
 abbrev pub RefusesSum : List Row → ErrorKind → Type 0
 RefusesSum rows k = (k ≡ kind.OutOfMemory) ⊎ ((k ≡ kind.ArgumentConflict) × ((are_several rows ≡ true) ⊎ (lacks_list rows ≡ true)))

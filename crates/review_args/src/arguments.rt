@@ -174,7 +174,7 @@ pub(crate) fn words<'a>(alloc: Global) -> Arg<'a>
         .action(ArgAction::Append)
         .trailing_var_arg(true)
         .help(
-            "1, 7 or 9 words, as git passes them; `--lines=show` before them prints changed lines of what `show` writes",
+            "1, 7 or 9 words, as git passes them; `--lines=show` before them prints changed lines of what `show` writes, `--color=WHEN` differences in colour",
         )
 }
 
@@ -280,6 +280,16 @@ pub(crate) fn no_fold<'a>(alloc: Global) -> Arg<'a>
     let help =
         "Print a line for each place at which aliases show one change, and for each pair that moved";
     flag(alloc, "no-fold", help)
+}
+
+/// Globs of the files of folders.
+pub(crate) fn include<'a>(alloc: Global) -> Arg<'a>
+    ensures rule { rule_of result ≡ repeated (codes "include") }
+    ensures local { result.global ≡ false }
+{
+    let help =
+        "Of two folders, compare files whose names match GLOB (*.yaml, *.yml, *.json); repeatable";
+    repeated(alloc, "include", "GLOB", help)
 }
 
 /// Patterns of paths that are left out.

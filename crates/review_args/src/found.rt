@@ -9,6 +9,7 @@ ghost use Rattle.review_args.specs.Words.{
   form_in,
   format_in,
   has,
+  included_in,
   is_on,
   is_there,
   lines_or,
@@ -194,6 +195,21 @@ pub(crate) fn files_of<'a>(
     Ok(files)
 }
 
+/// The globs of the files of folders; with none, those of YAML and JSON.
+pub(crate) fn globs_of<'a>(
+    alloc: Global,
+    matches: &ArgMatches<'a>,
+) -> Result<Vec<&'a str>, AllocError>
+    ensures { IfOk result (λ list. texts list.items ≡ included_in (rows_of (found_of matches.now))) }
+{
+    let globs = texts_of(alloc, matches, "include")?;
+    if globs.is_empty() {
+        Ok(vec![in alloc; "*.yaml", "*.yml", "*.json"]?)
+    } else {
+        Ok(globs)
+    }
+}
+
 /// Whether one line tells several differences: in lines of text, unless it is asked otherwise.
 pub(crate) fn folds_of(matches: &ArgMatches<'_>) -> bool
     ensures { result ≡ (has (codes "format") (codes "line") (rows_of (found_of matches.now)) && not (is_on (codes "no-fold") (rows_of (found_of matches.now)))) }
@@ -206,6 +222,8 @@ pub(crate) fn format_of(matches: &ArgMatches<'_>) -> Format
 {
     if has(matches, "format", "json") {
         Format::Json
+    } else if is_on(matches, "keep-order") {
+        Format::AsRead
     } else {
         Format::Yaml
     }

@@ -20,8 +20,8 @@ ghost use Rattle.review_args.specs.Grammar.{
 };
 
 use crate::arguments::{
-    Choices, all_choices, by, by_position, color, file, files, flag, form, format, ignore, lines,
-    list, most, no_fold, no_places, quiet, repeated, spelling, stat, unified, whole, words,
+    Choices, all_choices, by, by_position, color, file, files, flag, form, format, ignore, include,
+    lines, list, most, no_fold, no_places, quiet, repeated, spelling, stat, unified, whole, words,
 };
 use clap::{Arg, Command};
 use std::alloc::{AllocError, Global};
@@ -42,12 +42,12 @@ Exit status:
   0  the streams are the same, or differ only at or below paths that are ignored
   1  they differ
   2  a file is rejected
-  3  the words, a file or a stream cannot be used";
+  3  the arguments, a file or a stream cannot be used";
 
 const FAULTS_STATUSES: &str = "Exit status (of several files the greatest):
   0  no file is rejected
   2  a file is rejected
-  3  the words, a file or a stream cannot be used";
+  3  the arguments, a file or a stream cannot be used";
 
 const WARN_STATUSES: &str = "There is a warning for each
   plain scalar that YAML 1.1 reads otherwise, and for a float such as 3.10, which is 3.1
@@ -56,14 +56,15 @@ const WARN_STATUSES: &str = "There is a warning for each
   key that is equal to an earlier key of its mapping in Python, as true and 1, or in JavaScript, as 1 and \"1\"
   int with the tag `!!int` that YAML 1.1 reads by base 8, as `!!int 010`
   slip: `{{ x }}`, `{type:string}`, `data:{}`, `<<` that is no key, typographic quotes around a text, a no-break space
-    or a space of no width in it
+    or a space of no width in it, stops and commas alone,
+    lines as `-a` and `-b` below each other, which are one text
 The first three were compared with PyYAML, libyaml and yaml.v3. Tags and characters that end a line in YAML 1.1 alone are not looked at.
 
 Exit status (of several files the greatest):
   0  no file is rejected, and with --strict there is no warning
   1  with --strict: there is a warning
   2  a file is rejected
-  3  the words, a file or a stream cannot be used";
+  3  the arguments, a file or a stream cannot be used";
 
 const SHOW_STATUSES: &str =
     "What `yamlreview warn` lists of a file is printed on standard error, unless --check or --textconv is given.
@@ -72,14 +73,14 @@ Exit status (of several files the greatest):
   0  each file is shown, or with --check as `show` writes it; with --textconv also if one is rejected
   1  with --check: a file is not as `show` writes it; with --strict: a file has a warning, and is not shown
   2  a file is rejected, or JSON cannot express it
-  3  the words, a file or a stream cannot be used";
+  3  the arguments, a file or a stream cannot be used";
 
 const SUM_STATUSES: &str = "Exit status (of several files the greatest):
   0  each file has a digest, or the one that LIST has
   1  a file has another digest than LIST has; with --strict: a line of LIST is not one of a digest; with --ignore-missing: no file has
      its digest
   2  a file is rejected
-  3  the words, a file, LIST or a stream cannot be used";
+  3  the arguments, a file, LIST or a stream cannot be used";
 
 const MERGE_STATUSES: &str =
     "Each conflict has a line: `!`, the path, what BASE, OURS and THEIRS have there, and where. With RESULT there is a line `~` for each path
@@ -93,12 +94,12 @@ Exit status:
   0  both changes can be merged; with RESULT: it is the merge
   1  they conflict, or RESULT is not the merge
   2  a file is rejected, or aliases make too many paths to look at
-  3  the words, a file or a stream cannot be used";
+  3  the arguments, a file or a stream cannot be used";
 
 const GIT_STATUSES: &str = "Exit status:
   0  whatever is found, since git stops at any other status
   2  memory is refused
-  3  the words or the output cannot be used";
+  3  the arguments or the output cannot be used";
 
 /// A command with its arguments.
 fn command<'a>(
@@ -136,6 +137,7 @@ fn diff<'a>(alloc: Global, choices: &Choices<'a>) -> Result<Command<'a>, AllocEr
         no_fold(alloc),
         color(alloc, choices),
         ignore(alloc),
+        include(alloc),
         spelling(alloc, choices),
         form(alloc, choices),
     ]?;
@@ -205,6 +207,11 @@ fn show<'a>(alloc: Global, choices: &Choices<'a>) -> Result<Command<'a>, AllocEr
             "Write nothing but the name of each file that is not as `show` writes it, with status 1"
         ),
         format(alloc, choices),
+        flag(
+            alloc,
+            "keep-order",
+            "Write entries in the order of the source; files that mean the same may then have different texts"
+        ),
         flag(
             alloc,
             "strict",

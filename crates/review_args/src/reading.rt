@@ -1,12 +1,15 @@
 //! Reads the program's words.
 ghost use Rattle.std.specs.Prelude.{◌≡◌, List, ℕ, Some, codes, IfOk, IfErr, map, option_map, string_bytes};
+ghost use Rattle.std.specs.List.{list_all};
 ghost use Rattle.clap.specs.Words.{found_of, kind_of, rows_of};
 ghost use Rattle.clap.specs.Walk.{texts};
+ghost use Rattle.review_patterns.specs.Globs.{is_glob};
 ghost use Rattle.review_args.specs.Words.{
   Asks,
   AsksDiff,
   AsksIgnored,
   AsksIn,
+  AsksIncluded,
   AsksMerge,
   AsksReport,
   AsksShow,
@@ -15,26 +18,30 @@ ghost use Rattle.review_args.specs.Words.{
   HasKeys,
   Refuses,
   RefusesDiff,
+  RefusesGlobs,
   RefusesIn,
   RefusesPatterns,
   RefusesShow,
   RefusesSum,
   are_several,
   git_words,
+  has_bytes,
+  has_keys,
   has_two_modes,
+  keeps_json,
   keys_in,
   lacks_list,
 };
 
 use crate::found::{
-    color_of, context_of, file_of, files_of, folds_of, form_of, format_of, is_on, is_there,
-    lines_or, loud_lines_or, page_of, paths_of, texts_of, value_of,
+    color_of, context_of, file_of, files_of, folds_of, form_of, format_of, globs_of, has, is_on,
+    is_there, lines_or, loud_lines_or, page_of, paths_of, texts_of, value_of,
 };
 use crate::grammar::grammar;
 use crate::words::{Asked, Diff, LINES, Merge, Report, Show, Sum, Warn};
 use clap::error::ErrorKind;
 use clap::{ArgMatches, Error};
-use review_patterns::{Pattern, read_pattern};
+use review_patterns::{Pattern, is_glob, read_pattern};
 use std::alloc::{AllocError, Global};
 
 /// How many differences are counted where no number is given.
@@ -130,6 +137,76 @@ fn ignored_of<'a>(alloc: Global, matches: &ArgMatches<'a>) -> Result<Vec<Pattern
     Ok(list)
 }
 
+/// What is wrong with a glob.
+const NO_GLOB: &str =
+    "--include takes the name of a file, in which one `*` stands for any text: *.yaml, values-*.yaml, Chart.lock";
+
+/// Whether all texts are globs.
+#[tactic(auto, using(crate::proofs::Getters::all_next, crate::proofs::Getters::all_stops, crate::proofs::Getters::all_ends))]
+fn are_globs(list: &[&str]) -> bool
+    ensures { result ≡ list_all is_glob (texts list.now) }
+{
+    for text in list {
+        if !is_glob(text) {
+            return false;
+        }
+    }
+    true
+}
+
+/// The error of texts of which one is no glob.
+fn no_glob(alloc: Global, list: &[&str]) -> Result<Error, AllocError>
+    ensures { IfOk result (λ e. kind_of e ≡ ErrorKind.ValueValidation) }
+{
+    let text = list.iter().find(|text| !is_glob(text)).unwrap_or(&"");
+    let message = format!(in alloc; "{text}: {NO_GLOB}")?;
+    refusal(alloc, ErrorKind::ValueValidation, message.as_str())
+}
+
+/// The globs of the files of folders.
+fn included_of<'a>(alloc: Global, matches: &ArgMatches<'a>) -> Result<Vec<&'a str>, Error>
+    ensures ok { IfOk result (λ list. AsksIncluded (rows_of (found_of matches.now)) list.items) }
+    ensures err { IfErr result (λ e. RefusesGlobs (rows_of (found_of matches.now)) (kind_of e)) }
+{
+    let globs = globs_of(alloc, matches)?;
+    if are_globs(&globs) {
+        Ok(globs)
+    } else {
+        Err(no_glob(alloc, &globs)?)
+    }
+}
+
+/// What is wrong with keys.
+const NO_KEYS: &str = "--by takes keys, parted by commas: host,spec.id";
+
+/// Whether a text is not empty.
+fn has_bytes(text: &str) -> bool
+    ensures { result ≡ has_bytes text.now }
+{
+    !text.is_empty()
+}
+
+/// Whether no text is empty.
+#[tactic(auto, using(crate::proofs::Getters::all_next, crate::proofs::Getters::all_stops, crate::proofs::Getters::all_ends))]
+fn are_keys(list: &[&str]) -> bool
+    ensures { result ≡ list_all has_bytes (texts list.now) }
+{
+    for text in list {
+        if !has_bytes(text) {
+            return false;
+        }
+    }
+    true
+}
+
+/// Whether no text of `--by` is empty.
+fn has_keys(alloc: Global, matches: &ArgMatches<'_>) -> Result<bool, AllocError>
+    ensures { IfOk result (λ answer. answer ≡ has_keys (rows_of (found_of matches.now))) }
+{
+    let texts = texts_of(alloc, matches, "by")?;
+    Ok(are_keys(&texts))
+}
+
 /// What is wrong with `--stat` beside the form of a page.
 const NO_STAT: &str =
     "--stat is for --format=line and --format=json: a page has the numbers itself";
@@ -144,12 +221,16 @@ fn diff_asked<'a>(
     ensures ok { IfOk result (AsksIn (codes "diff") (rows_of (found_of inner.now)) (texts by.entry.now) is_terminal) }
     ensures err { IfErr result (λ e. RefusesDiff (rows_of (found_of inner.now)) (kind_of e)) }
 {
+    if !has_keys(alloc, inner)? {
+        return Err(refusal(alloc, ErrorKind::ValueValidation, NO_KEYS)?);
+    }
     let ignored = ignored_of(alloc, inner)?;
+    let included = included_of(alloc, inner)?;
     let diff = diff_of(inner, by, is_terminal);
     match page_of(inner) {
-        None => Ok(Asked::Diff(diff, ignored)),
+        None => Ok(Asked::Diff(diff, ignored, included)),
         Some(_) if diff.stat => Err(refusal(alloc, ErrorKind::ArgumentConflict, NO_STAT)?),
-        Some(page) => Ok(Asked::DiffPage(page, diff, ignored)),
+        Some(page) => Ok(Asked::DiffPage(page, diff, ignored, included)),
     }
 }
 
@@ -188,6 +269,16 @@ fn has_two_modes(inner: &ArgMatches<'_>) -> bool
     (is_strict && textconv) || (is_on(inner, "check") && (is_strict || textconv))
 }
 
+/// What is wrong with `--keep-order` where JSON is asked for.
+const NO_ORDER: &str = "--keep-order is for YAML";
+
+/// Whether the order of the source is asked for, and JSON.
+fn keeps_json(inner: &ArgMatches<'_>) -> bool
+    ensures { result ≡ keeps_json (rows_of (found_of inner.now)) }
+{
+    is_on(inner, "keep-order") && has(inner, "format", "json")
+}
+
 /// What the words of `show` ask for.
 fn show_of<'a>(alloc: Global, inner: &ArgMatches<'a>) -> Result<Show<'a>, Error>
     ensures ok { IfOk result (AsksShow (rows_of (found_of inner.now))) }
@@ -195,6 +286,9 @@ fn show_of<'a>(alloc: Global, inner: &ArgMatches<'a>) -> Result<Show<'a>, Error>
 {
     if has_two_modes(inner) {
         return Err(refusal(alloc, ErrorKind::ArgumentConflict, TWO_MODES)?);
+    }
+    if keeps_json(inner) {
+        return Err(refusal(alloc, ErrorKind::ArgumentConflict, NO_ORDER)?);
     }
     Ok(Show {
         files: files_of(alloc, inner)?,
@@ -358,7 +452,7 @@ pub fn read_words<'a>(
     ensures err { IfErr result (λ e. Refuses (map string_bytes words.entry.now) (kind_of e)) }
 {
     if let Some(passed) = git_words(words) {
-        return Ok(Asked::Git(texts(alloc, passed)?));
+        return Ok(Asked::Git(texts(alloc, passed)?, is_terminal));
     }
     let matches = grammar(alloc)?.try_get_matches_from(words)?;
     match matches.subcommand() {

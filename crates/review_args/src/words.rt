@@ -108,8 +108,10 @@ pub struct Warn<'a> {
 /// How `show` writes a stream.
 #[derive(Clone, Copy, Debug, PartialEq, Eq)]
 pub enum Format {
-    /// YAML in block style.
+    /// YAML in block style, with entries in the order of their keys.
     Yaml,
+    /// YAML in block style, with entries in the order of the source.
+    AsRead,
     /// A line of JSON for each document.
     Json,
 }
@@ -165,9 +167,9 @@ pub struct Merge<'a> {
 /// A command.
 #[derive(Drop)]
 pub enum Asked<'a> {
-    /// With the paths whose differences are left out.
-    Diff(Diff<'a>, Vec<Pattern<'a>>),
-    DiffPage(Page, Diff<'a>, Vec<Pattern<'a>>),
+    /// With the paths whose differences are left out, and the globs of the files of folders.
+    Diff(Diff<'a>, Vec<Pattern<'a>>, Vec<&'a str>),
+    DiffPage(Page, Diff<'a>, Vec<Pattern<'a>>, Vec<&'a str>),
     Faults(Report<'a>),
     FaultsPage(Page, Report<'a>),
     Warn(Report<'a>, Warn<'a>),
@@ -175,6 +177,6 @@ pub enum Asked<'a> {
     Show(Show<'a>),
     Sum(Sum<'a>),
     Merge(Merge<'a>),
-    /// What `GIT_EXTERNAL_DIFF` passes.
-    Git(Vec<&'a str>),
+    /// What `GIT_EXTERNAL_DIFF` passes, and whether lines are in colour unless it asks otherwise.
+    Git(Vec<&'a str>, bool),
 }

@@ -111,8 +111,8 @@ module _ {W E : Type 0} (contents : W → Option (List ℕ)) (told : E → Optio
 module _ {R W E : Type 0} (remaining : R → Option (List ℕ)) (contents : W → Option (List ℕ)) (told : E → Option (List ℕ)) where
   -- two folders are compared, if `diff` is asked for and both names are those of folders
   abbrev pub FoldersDo : Asked → R → W → E → ℕ → Type 0
-  FoldersDo (asks.Diff asked ignored) input out err status = FoldersEnd contents told asked ignored.items None out status
-  FoldersDo (asks.DiffPage page asked ignored) input out err status = FoldersEnd contents told asked ignored.items (Some page) out status
+  FoldersDo (asks.Diff asked ignored included) input out err status = FoldersEnd contents told asked ignored.items None out status
+  FoldersDo (asks.DiffPage page asked ignored included) input out err status = FoldersEnd contents told asked ignored.items (Some page) out status
   FoldersDo asked input out err status = Does unknown remaining contents told asked input out err status
 
   abbrev pub HostDoes : Bool → Asked → R → W → E → ℕ → Type 0

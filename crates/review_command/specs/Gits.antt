@@ -1,5 +1,5 @@
 -- What `git` does.
-use Rattle.std.specs.Prelude.{◌≡◌, ◌⊎◌, ℕ, List, Option}
+use Rattle.std.specs.Prelude.{◌≡◌, ◌⊎◌, ℕ, Bool, List, Option}
 use Rattle.yaml_text.specs.Writers.{Printed, Broken}
 use Rattle.yaml_text.specs.declared.counted.Counted.{Counted}
 use Rattle.review_git.specs.Asked.{IsGitAsked}
@@ -16,5 +16,5 @@ module _ {W : Type 0} (holds : List ℕ → Option (List ℕ)) (contents : W →
   GitTells asked old new status = ((new ≡ old) × (status ≡ 2)) ⊎ ((text : List ℕ) × GitWrites holds asked text × GitPrints text old new status)
 
   -- The words ask for something, or for nothing.
-  abbrev pub GitEnds : List (List ℕ) → Counted W → Counted W → ℕ → Type 0
-  GitEnds words old new status = (((asked : GitAsked) → IsGitAsked words asked → ⊥) × (new ≡ old) × (status ≡ 3)) ⊎ ((asked : GitAsked) × IsGitAsked words asked × GitTells asked old new status)
+  abbrev pub GitEnds : List (List ℕ) → Bool → Counted W → Counted W → ℕ → Type 0
+  GitEnds words is_color old new status = (((asked : GitAsked) → IsGitAsked words is_color asked → ⊥) × (new ≡ old) × (status ≡ 3)) ⊎ ((asked : GitAsked) × IsGitAsked words is_color asked × GitTells asked old new status)

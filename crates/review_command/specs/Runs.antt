@@ -130,12 +130,12 @@ module _ {R W E : Type 0} (holds : List ℕ → Option (List ℕ)) (remaining : 
     pub ends : PageEnds asked page ignored input old new err status
 
   -- what git asks for is written
-  pub record GitRuns (words : List (List ℕ)) (out : W) (status : ℕ) : Type 0 where
+  pub record GitRuns (words : List (List ℕ)) (is_color : Bool) (out : W) (status : ℕ) : Type 0 where
     pub old : Counted W
     pub new : Counted W
     pub writer : inner_of old ≡ out
     pub no_write : faults_of old ≡ 0
-    pub ends : GitEnds holds contents words old new status
+    pub ends : GitEnds holds contents words is_color old new status
 
   -- it is told why nothing is said of a merge, which the status tells too
   abbrev pub MergeNone : Names → R → R → Counted W → Counted W → E → ℕ → Type 0
@@ -157,13 +157,13 @@ module _ {R W E : Type 0} (holds : List ℕ → Option (List ℕ)) (remaining : 
 
   -- What the commands do.
   abbrev pub Does : Asked → R → W → E → ℕ → Type 0
-  Does (asks.Diff asked ignored) input out err status = DiffRuns asked ignored.items input out err status
-  Does (asks.DiffPage page asked ignored) input out err status = PageRuns asked page ignored.items input out err status
+  Does (asks.Diff asked ignored included) input out err status = DiffRuns asked ignored.items input out err status
+  Does (asks.DiffPage page asked ignored included) input out err status = PageRuns asked page ignored.items input out err status
   Does (asks.Faults asked) input out err status = ReportsTell Faults asked input out status
   Does (asks.Warn asked warn) input out err status = (kind : Kind) × AsksWarnings warn kind × ReportsTell kind asked input out status
   Does (asks.FaultsPage page asked) input out err status = PagesTell Faults page asked input out status
   Does (asks.WarnPage page asked warn) input out err status = (kind : Kind) × AsksWarnings warn kind × PagesTell kind page asked input out status
   Does (asks.Show asked) input out err status = ShowRuns asked input out err status
-  Does (asks.Git words) input out err status = GitRuns (map (λ s. s.now) words.items) out status
+  Does (asks.Git words is_color) input out err status = GitRuns (map (λ s. s.now) words.items) is_color out status
   Does (asks.Sum asked) input out err status = (is : SumAsked) × AsksSum asked is × SumRuns is input out err status
   Does (asks.Merge asked) input out err status = MergeRuns asked input out err status

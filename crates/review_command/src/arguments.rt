@@ -1,6 +1,7 @@
-//! The program's own words.
-ghost use Rattle.std.specs.Prelude.{◌≡◌, IfOk, string_bytes};
+//! The program's own words, and what its environment says of colour.
+ghost use Rattle.std.specs.Prelude.{◌≡◌, ◌&&◌, ◌||◌, not, IfOk, string_bytes};
 ghost use Rattle.std.specs.Str.{IsUtf8};
+ghost use Rattle.review_command.specs.Environment.{is_set};
 
 use std::alloc::{AllocError, Global};
 use std::env::FillError;
@@ -56,4 +57,37 @@ pub fn words_of<E: Env>(env: &E, alloc: Global) -> Result<Vec<String>, WordsFaul
         }
     }
     Ok(words)
+}
+
+/// Whether a variable of the environment has a value that is not empty, by what is answered where there is little room for it.
+fn is_set(answer: Result<usize, FillError>) -> bool
+    ensures { result ≡ is_set answer }
+{
+    match answer {
+        Ok(len) => len > 0,
+        Err(FillError::TooLong) => true,
+        Err(FillError::NotPresent) => false,
+    }
+}
+
+/// Whether a variable of the environment has a value that is not empty.
+fn has_value<E: Env>(env: &E, name: &str) -> bool {
+    is_set(env.var(name, &mut [0; 8]))
+}
+
+/// Whether lines are in colour, by whether these are set or so: `NO_COLOR`, a terminal, `GIT_PAGER_IN_USE`.
+fn is_colored(is_plain: bool, is_terminal: bool, is_paged: bool) -> bool
+    ensures { result ≡ (not is_plain && (is_terminal || is_paged)) }
+{
+    !is_plain && (is_terminal || is_paged)
+}
+
+/// Whether lines are in colour unless the words say otherwise: on a terminal, and where git passes them on to one, but not with
+/// `NO_COLOR`.
+pub fn has_color<E: Env>(env: &E, is_terminal: bool) -> bool {
+    is_colored(
+        has_value(env, "NO_COLOR"),
+        is_terminal,
+        has_value(env, "GIT_PAGER_IN_USE"),
+    )
 }

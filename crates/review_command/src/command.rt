@@ -42,18 +42,19 @@ const ONE_INPUT: &str = "yamlreview: usage: `-` is standard input, which is read
 
 const GIT_WORDS: &str = "yamlreview: usage: git passes 1, 7 or 9 words\n";
 
-/// Writes what git asks for, and answers the status.
+/// Writes what git asks for, for an output that has colour unless it is asked otherwise, and answers the status.
 fn git<S: Shelf, W: Write, E: Write>(
     shelf: &S,
     alloc: Global,
     words: &[&str],
+    is_color: bool,
     out: &mut Counted<W>,
     err: &mut E,
 ) -> u8
     requires { faults_of out.old < 2 ^ 64 - 1 }
-    ensures { GitEnds (S.holds shelf.now) W.contents (map (λ s. s.now) words.now) out.old out.new result }
+    ensures { GitEnds (S.holds shelf.now) W.contents (map (λ s. s.now) words.now) is_color out.old out.new result }
 {
-    let Some(asked) = git_asked(words) else {
+    let Some(asked) = git_asked(words, is_color) else {
         return tell_usage(GIT_WORDS, err);
     };
     let text = match git_text(shelf, alloc, asked) {
@@ -226,8 +227,8 @@ fn run<S: Shelf, R: Read + Drop, W: Write + Drop, E: Write + Drop>(
     ensures { Does (S.holds shelf.now) R.remaining W.contents E.contents asked.entry input out err result }
 {
     match asked {
-        Asked::Diff(asked, ignored) => compare(shelf, alloc, &asked, &ignored, input, out, err),
-        Asked::DiffPage(page, asked, ignored) => {
+        Asked::Diff(asked, ignored, _) => compare(shelf, alloc, &asked, &ignored, input, out, err),
+        Asked::DiffPage(page, asked, ignored, _) => {
             compare_as(shelf, alloc, (&asked, page), &ignored, input, out, err)
         }
         Asked::Faults(asked) => report(shelf, alloc, Kind::Faults, &asked, input, out, err),
@@ -245,9 +246,9 @@ fn run<S: Shelf, R: Read + Drop, W: Write + Drop, E: Write + Drop>(
             let mut out = Counted::new(out);
             show_files(shelf, alloc, &asked, &mut input, &mut out, &mut err)
         }
-        Asked::Git(words) => {
+        Asked::Git(words, is_color) => {
             let mut out = Counted::new(out);
-            git(shelf, alloc, &words, &mut out, &mut err)
+            git(shelf, alloc, &words, is_color, &mut out, &mut err)
         }
         Asked::Sum(asked) => sum(shelf, alloc, sum_asked(&asked), input, out, err),
         Asked::Merge(asked) => merge(shelf, alloc, &asked, input, out, err),
@@ -341,20 +342,21 @@ fn told<W: Write + Drop, E: Write + Drop>(alloc: Global, error: Error, out: W, m
     }
 }
 
-/// Compares the files of two folders, as lines or as a page, and answers the status.
+/// Compares the files of two folders for which one of the globs stands, as lines or as a page, and answers the status.
 #[tactic(auto, using(crate::proofs::FolderLaws::folders_cut, crate::proofs::FolderLaws::folders_printed, crate::proofs::FolderLaws::folders_shown))]
 fn compare_folders<T: Files + AllocGlobal + Clone + Drop, W: Write + Drop, E: Write + Drop>(
     rt: &T,
     alloc: Global,
     told: (&Diff<'_>, Option<Page>),
     ignored: &[Pattern<'_>],
+    globs: &[&str],
     out: W,
     mut err: E,
 ) -> u8
     ensures { FoldersEnd W.contents E.contents told.entry.0.now ignored.now told.entry.1 out result }
 {
     let (asked, page) = told;
-    let names = match names_of(rt, alloc, asked, &mut err) {
+    let names = match names_of(rt, alloc, asked, globs, &mut err) {
         Ok(names) => names,
         Err(status) => return status,
     };
@@ -376,7 +378,7 @@ fn compare_folders<T: Files + AllocGlobal + Clone + Drop, W: Write + Drop, E: Wr
 /// Whether `diff` is asked for, of two folders.
 fn are_of_folders<T: Files>(rt: &T, asked: &Asked<'_>) -> bool {
     match asked {
-        Asked::Diff(asked, _) | Asked::DiffPage(_, asked, _) => are_folders(rt, asked),
+        Asked::Diff(asked, _, _) | Asked::DiffPage(_, asked, _, _) => are_folders(rt, asked),
         _ => false,
     }
 }
@@ -415,11 +417,12 @@ fn run_host<
         return run_files(rt, alloc, asked, input, out, err);
     }
     match asked {
-        Asked::Diff(asked, ignored) => {
-            compare_folders(rt, alloc, (&asked, None), &ignored, out, err)
+        Asked::Diff(asked, ignored, globs) => {
+            compare_folders(rt, alloc, (&asked, None), &ignored, &globs, out, err)
         }
-        Asked::DiffPage(page, asked, ignored) => {
-            compare_folders(rt, alloc, (&asked, Some(page)), &ignored, out, err)
+        Asked::DiffPage(page, asked, ignored, globs) => {
+            let told = (&asked, Some(page));
+            compare_folders(rt, alloc, told, &ignored, &globs, out, err)
         }
         asked => run_files(rt, alloc, asked, input, out, err),
     }
@@ -452,7 +455,8 @@ pub fn command_over<S: Shelf, R: Read + Drop, W: Write + Drop, E: Write + Drop>(
     }
 }
 
-/// The same over the files that `rt` opens, of which nothing is known, with an output that is a terminal or not. Sums are made of
+/// The same over the files that `rt` opens, of which nothing is known, with an output that has colour unless the words say otherwise, as
+/// a terminal has, or no colour. Sums are made of
 /// regular files alone, and `diff` compares the files of two folders too.
 pub fn command<
     T: Files + AllocGlobal + Clone + Drop,

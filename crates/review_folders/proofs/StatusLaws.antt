@@ -1,6 +1,6 @@
 -- A file in two folders.
 use Rattle.std.specs.Prelude.{IfOk, IfErr}
-use Rattle.std.proofs.Common.{◌≡◌, ℕ, max, Bool, cond, List, [], Option, Result, Ok, Err, Vec, inr, inl, sym, ◌∙◌, subst}
+use Rattle.std.proofs.Common.{◌≡◌, ℕ, max, Bool, cond, List, [], Option, Result, Ok, Err, Vec, inr, inl, sym, ◌∙◌, ap, subst}
 use Rattle.std.specs.declared.alloc.Global.{Global}
 use Rattle.yaml_text.specs.declared.fault.Fault.{Fault}
 use Rattle.yaml_text.specs.declared.side.Side.{Side}
@@ -18,7 +18,7 @@ use Rattle.review_files.specs.Named.{IsUnread, NotBothRead}
 use Rattle.review_files.specs.Told.{TellsFile, TellsBoth, TellsNotCompared}
 use Rattle.review_files.specs.declared.rejected.Named.{Named}
 use Rattle.review_files.specs.declared.unread.Unread.{Unread}
-use Rattle.review_folders.specs.Folders.{IsPath, IsRead, AreCompared, AreRejected, NewTold}
+use Rattle.review_folders.specs.Folders.{IsPath, IsRead, AreEqual, AreCompared, AreRejected, NewTold}
 use Rattle.review_folders.specs.Pages.{BytesFaults, AnswerFaults, FileFaults}
 use Rattle.review_folders.specs.Parts.{ShowsLines}
 use Rattle.review_folders.specs.Printed.{lines_text, AsksFiles, LinesCompared}
@@ -47,6 +47,10 @@ pub shown_as : (page : Page) (a b c d e f g h : List ℕ) (shown : Option (Shown
 shown_as page a b c d e f g h shown i j k l s =
     subst (λ z. ShowsLines page b d f z shown) l (subst (λ z. ShowsLines page b d z g shown) k (subst (λ z. ShowsLines page b z e g shown) j (subst (λ z. ShowsLines page z c e g shown) i s)))
 
+-- Two files that are read have other bytes.
+pub answers_differ : (a b : Result (Vec ℕ Global) Unread) (one other : Vec ℕ Global) → a ≡ Ok one → b ≡ Ok other → (one.items ≡ other.items → ⊥) → a ≡ b → ⊥
+answers_differ a b one other p q differ e = differ (ap (λ v. v.items) (let h : one ≡ other = cc in h))
+
 module _ (holds : List ℕ → Option (List ℕ)) where
   -- what reading a path gave is what reading the name that is printed gave
   pub is_read : (file : Named) (path read : List ℕ) → file.name.now ≡ path → read ≡ path → IfOk file.answer.now (λ v. IsOf (holds read) v.items) → IfErr file.answer.now (IsUnread (holds read)) → IsRead holds file
@@ -68,6 +72,15 @@ module _ (holds : List ℕ → Option (List ℕ)) where
   }
 
   module _ (left right left_read right_read : List ℕ) (read_left : left_read ≡ left) (read_right : right_read ≡ right) where
+    -- two files with the same bytes
+    pub are_equal : (first second : List ℕ) (status : ℕ) → IsOf (holds left_read) first → IsOf (holds right_read) second → first ≡ second → status ≡ 0 → AreEqual holds left right status
+    are_equal first second status a b same told = record {
+      bytes = first;
+      one = subst (λ z. IsOf (holds z) first) read_left a;
+      other = subst (λ z. IsOf (holds z) first) read_right (subst (λ z. IsOf (holds right_read) z) (sym same) b);
+      told = told;
+    }
+
     -- two files that are not compared
     module _ (form : Form) (one other : Named) (text err : List ℕ) (status : ℕ) (is : err ≡ text) (one_name : one.name.now ≡ left) (other_name : other.name.now ≡ right) (one_ok : IfOk one.answer.now (λ v. IsOf (holds left_read) v.items)) (one_err : IfErr one.answer.now (IsUnread (holds left_read))) (other_ok : IfOk other.answer.now (λ v. IsOf (holds right_read) v.items)) (other_err : IfErr other.answer.now (IsUnread (holds right_read))) where
       abbrev pub not_read : TellsBoth form one other text status → NotBothRead one.answer.now other.answer.now → AreRejected holds form left right err status
@@ -81,25 +94,26 @@ module _ (holds : List ℕ → Option (List ℕ)) where
         tells = inl (n, subst (λ z. TellsBoth form one other z status) (sym is) t);
       }
 
-      abbrev pub not_compared : (side : Side) → TellsNotCompared form one other side text status → AreRejected holds form left right err status
-      not_compared side t = record {
+      abbrev pub not_compared : (one.answer.now ≡ other.answer.now → ⊥) → (side : Side) → TellsNotCompared form one other side text status → AreRejected holds form left right err status
+      not_compared differ side t = record {
         one = one;
         other = other;
         one_name = one_name;
         other_name = other_name;
         one_is = is_read one left left_read one_name read_left one_ok one_err;
         other_is = is_read other right right_read other_name read_right other_ok other_err;
-        tells = inr (side, subst (λ z. TellsNotCompared form one other side z status) (sym is) t);
+        tells = inr (differ, side, subst (λ z. TellsNotCompared form one other side z status) (sym is) t);
       }
 
     -- two files that are compared
-    module _ (asked : Diff) (ignored : List Pattern) (first second : List ℕ) (status : ℕ) (a : IsOf (holds left_read) first) (b : IsOf (holds right_read) second) where
+    module _ (asked : Diff) (ignored : List Pattern) (first second : List ℕ) (status : ℕ) (a : IsOf (holds left_read) first) (b : IsOf (holds right_read) second) (differ : first ≡ second → ⊥) where
       pub lines_compared : (name : List ℕ) (none : Bool) (question : Diff) (lines out : List ℕ) → (ignored ≡ [] → Compares first second none) → AsksFiles asked name question → DiffLines first second question ignored none lines → out ≡ lines_text asked name none lines → status ≡ cond none 0 1 → LinesCompared holds asked ignored name left right out status
       lines_compared name none question lines out same asks are printed told = record {
         first = first;
         second = second;
         one = subst (λ z. IsOf (holds z) first) read_left a;
         other = subst (λ z. IsOf (holds z) second) read_right b;
+        differ = differ;
         none = none;
         compares = same;
         question = question;
@@ -116,6 +130,7 @@ module _ (holds : List ℕ → Option (List ℕ)) where
         second = second;
         one = subst (λ z. IsOf (holds z) first) read_left a;
         other = subst (λ z. IsOf (holds z) second) read_right b;
+        differ = differ;
         listed = listed;
         lists = lists;
         compares = same;

@@ -19,23 +19,31 @@ abbrev pub IsPath : List ℕ → List ℕ → List ℕ → Type 0
 IsPath folder name path = (path ≡ folder ++ name) ⊎ (path ≡ (folder ++ codes "/") ++ name)
 
 module _ (holds : List ℕ → Option (List ℕ)) where
+  -- Two files have the same bytes. Their status is 0, whether the bytes are accepted or not.
+  pub record AreEqual (left right : List ℕ) (status : ℕ) : Type 0 where
+    pub bytes : List ℕ
+    pub one : IsOf (holds left) bytes
+    pub other : IsOf (holds right) bytes
+    pub told : status ≡ 0
+
   -- a file by the name that is printed, and what reading it gave
   pub record IsRead (file : Named) : Type 0 where
     pub read : IfOk file.answer.now (λ v. IsOf (holds file.name.now) v.items)
     pub unread : IfErr file.answer.now (IsUnread (holds file.name.now))
 
-  -- Two files are accepted. The status is 0 if no difference of them is listed, and else 1; without patterns it is 0 if their streams are the same, and else 1.
+  -- Two files have other bytes and are accepted. The status is 0 if no difference of them is listed, and else 1; without patterns it is 0 if their streams are the same, and else 1.
   pub record AreCompared (asked : Diff) (ignored : List Pattern) (left right : List ℕ) (status : ℕ) : Type 0 where
     pub first : List ℕ
     pub second : List ℕ
     pub one : IsOf (holds left) first
     pub other : IsOf (holds right) second
+    pub differ : first ≡ second → ⊥
     pub listed : Listed
     pub lists : DiffLists first second asked ignored listed
     pub compares : ignored ≡ [] → Compares first second listed.same
     pub told : status ≡ cond listed.same 0 1
 
-  -- Two files are not both read, or they are read and not compared. The text and the status are those of what is told of both.
+  -- Two files are not both read, or they are read, have other bytes and are not compared. The text and the status are those of what is told of both.
   pub record AreRejected (form : Form) (left right text : List ℕ) (status : ℕ) : Type 0 where
     pub one : Named
     pub other : Named
@@ -45,7 +53,7 @@ module _ (holds : List ℕ → Option (List ℕ)) where
     pub other_is : IsRead other
     pub tells :
         (NotBothRead one.answer.now other.answer.now × TellsBoth form one other text status)
-        ⊎ ((side : Side) × TellsNotCompared form one other side text status)
+        ⊎ ((one.answer.now ≡ other.answer.now → ⊥) × (side : Side) × TellsNotCompared form one other side text status)
 
   -- What is told of a file that the right folder alone has. The status is 1 if it is accepted, and else that of `faults`.
   pub record NewTold (asked : Diff) (name text : List ℕ) (status : ℕ) : Type 0 where

@@ -26,7 +26,7 @@ use Rattle.review_files.specs.declared.rejected.Named.{Named}
 use Rattle.review_files.specs.declared.unread.Unread.{Unread}
 use Rattle.review_files.specs.declared.unread.Unread.TheVariants as unread
 use Rattle.review_reports.specs.Pages.{FindsFault}
-use Rattle.review_folders.specs.Folders.{IsPath, AreCompared, AreRejected, NewTold}
+use Rattle.review_folders.specs.Folders.{IsPath, AreEqual, AreCompared, AreRejected, NewTold}
 use Rattle.review_folders.specs.Parts.{ListsAll, ShowsLines, IsPartsText}
 use Rattle.review_folders.specs.declared.entry.Entry.{Entry}
 use Rattle.review_folders.specs.declared.entry.Has.{Has}
@@ -100,7 +100,8 @@ module _ (holds : List ℕ → Option (List ℕ)) where
   abbrev pub BothFound : Diff → List Pattern → Page → List ℕ → Part → List ℕ → ℕ → Type 0
   BothFound asked ignored page name part err status =
       (left : List ℕ) × (right : List ℕ) × IsPath asked.left.now name left × IsPath asked.right.now name right
-      × ((ListsFound asked ignored page left right part status × (err ≡ [])) ⊎ RejectedFound asked.form left right part err status)
+      × ((AreEqual holds left right status × IsList [] part × (err ≡ []))
+      ⊎ ((ListsFound asked ignored page left right part status × (err ≡ [])) ⊎ RejectedFound asked.form left right part err status))
 
   -- a file that the left folder alone has
   pub record DeletedFound (asked : Diff) (page : Page) (name : List ℕ) (part : Part) (err : List ℕ) (status : ℕ) : Type 0 where

@@ -16,7 +16,7 @@ use Rattle.review_text.specs.Terminal.{terminal}
 use Rattle.review_compare.specs.Compared.{DiffLines}
 use Rattle.review_files.specs.Lines.{TakesLine, bare_line}
 use Rattle.review_files.specs.Statuses.{fault_status}
-use Rattle.review_folders.specs.Folders.{IsPath, AreRejected, NewTold}
+use Rattle.review_folders.specs.Folders.{IsPath, AreEqual, AreRejected, NewTold}
 use Rattle.review_folders.specs.declared.entry.Entry.{Entry}
 use Rattle.review_folders.specs.declared.entry.Has.{Has}
 use Rattle.review_folders.specs.declared.entry.Has.TheVariants.{Left, Both, Right}
@@ -79,12 +79,13 @@ pub record AsksFiles (asked : Diff) (name : List ℕ) (question : Diff) : Type 0
 -- ---- one file
 
 module _ (holds : List ℕ → Option (List ℕ)) where
-  -- Two files are accepted. The lines of their differences are printed behind the name. The status is 0 if no difference is left, and else 1; without patterns it is 0 if their streams are the same, and else 1.
+  -- Two files have other bytes and are accepted. The lines of their differences are printed after the name. The status is 0 if no difference is left, and else 1; without patterns it is 0 if their streams are the same, and else 1.
   pub record LinesCompared (asked : Diff) (ignored : List Pattern) (name left right out : List ℕ) (status : ℕ) : Type 0 where
     pub first : List ℕ
     pub second : List ℕ
     pub one : IsOf (holds left) first
     pub other : IsOf (holds right) second
+    pub differ : first ≡ second → ⊥
     pub none : Bool
     pub compares : ignored ≡ [] → Compares first second none
     pub question : Diff
@@ -98,7 +99,8 @@ module _ (holds : List ℕ → Option (List ℕ)) where
   abbrev pub BothTold : Diff → List Pattern → List ℕ → List ℕ → List ℕ → ℕ → Type 0
   BothTold asked ignored name out err status =
       (left : List ℕ) × (right : List ℕ) × IsPath asked.left.now name left × IsPath asked.right.now name right
-      × ((LinesCompared asked ignored name left right out status × (err ≡ [])) ⊎ (AreRejected holds asked.form left right err status × (out ≡ [])))
+      × ((AreEqual holds left right status × (out ≡ []) × (err ≡ []))
+      ⊎ ((LinesCompared asked ignored name left right out status × (err ≡ [])) ⊎ (AreRejected holds asked.form left right err status × (out ≡ []))))
 
   -- the output of a file, what is told of it, and its status
   abbrev pub HasTold : Has → Diff → List Pattern → List ℕ → List ℕ → List ℕ → ℕ → Type 0

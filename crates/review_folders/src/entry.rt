@@ -1,5 +1,5 @@
 //! A name of a file in two folders.
-ghost use Rattle.std.specs.Prelude.{◌≡◌, ◌++◌, ◌⊎◌, codes, IfOk, string_bytes, cond, IfErr};
+ghost use Rattle.std.specs.Prelude.{◌≡◌, ◌++◌, ◌⊎◌, true, false, codes, IfOk, string_bytes, cond, IfErr};
 ghost use Rattle.review_folders.specs.Folders.{IsPath};
 
 use std::alloc::Global;
@@ -50,6 +50,14 @@ pub(crate) fn path_in(alloc: Global, folder: &str, name: &str) -> Result<String,
     }
     path.push_str(name)?;
     Ok(path)
+}
+
+/// Whether two files have the same bytes.
+pub(crate) fn are_equal(left: &[u8], right: &[u8]) -> bool
+    ensures same { result ≡ true → left.now ≡ right.now }
+    ensures differ { result ≡ false → left.now ≡ right.now → ⊥ }
+{
+    left == right
 }
 
 /// The status of two files that are the same, or differ.

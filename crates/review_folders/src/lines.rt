@@ -7,7 +7,7 @@ ghost use Rattle.review_files.specs.Lines.{TakesLine};
 ghost use Rattle.review_folders.specs.Folders.{NewTold};
 ghost use Rattle.review_folders.specs.Printed.{has_lines, file_object, name_line, name_text, alone_line, alone_text, head_text, lines_text, AsksFiles, BothTold, EntryTold, PrintsEntry, CutsEntry, FolderPrints};
 
-use crate::entry::{Entry, Has, path_in, status_of};
+use crate::entry::{Entry, Has, are_equal, path_in, status_of};
 use review_args::{Diff, Form};
 use review_compare::compare_sides;
 use review_files::files::read_file;
@@ -203,7 +203,18 @@ fn lines_of(
     Ok(out)
 }
 
-/// What is printed of a file that both folders have.
+/// What is printed of two files of which nothing is told.
+fn untold(alloc: Global) -> Told
+    ensures { (string_bytes result.out ≡ []) × (string_bytes result.err ≡ []) × (result.status ≡ 0) }
+{
+    Told {
+        out: String::new(alloc),
+        err: String::new(alloc),
+        status: SAME,
+    }
+}
+
+/// What is printed of a file that both folders have. Equal bytes are the same, whether they are accepted or not.
 fn both_told<S: Shelf>(
     shelf: &S,
     alloc: Global,
@@ -235,6 +246,9 @@ fn both_told<S: Shelf>(
             status,
         });
     };
+    if are_equal(one.as_slice(), other.as_slice()) {
+        return Ok(untold(alloc));
+    }
     match compare_sides(alloc, &of_files(asked, name), ignored, one, other) {
         Ok(compared) => Ok(Told {
             out: lines_of(alloc, asked, name, &compared)?,

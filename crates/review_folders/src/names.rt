@@ -1,11 +1,14 @@
 //! The names of the files in two folders.
 ghost use Rattle.std.specs.Prelude.{◌≡◌, ◌≤◌, [], cond, drop, IfSome, IfNone, IfErr};
+ghost use Rattle.std.specs.List.{list_any};
+ghost use Rattle.review_patterns.specs.Globs.{begins_with_dot, fits_glob};
 ghost use Rattle.review_folders.specs.Names.{IsNext, IsNearer};
 
 use crate::entry::{Entry, Has, path_in};
 use review_args::Diff;
 use review_files::telling::tell_unread;
 use review_files::unread::Unread;
+use review_patterns::fits_glob;
 use std::alloc::Global;
 use std::cmp::Ordering;
 use std::io::Write;
@@ -45,13 +48,28 @@ struct Names {
     folders: Vec<String>,
 }
 
-/// Adds the names in a folder, which has this path from the first one. A link to a folder is not followed, and what is neither a
-/// regular file nor a folder is left out.
+/// Whether a name is that of a file or folder that is hidden.
+fn is_hidden(name: &str) -> bool
+    ensures { result ≡ begins_with_dot name.now }
+{
+    name.as_bytes().starts_with(b".")
+}
+
+/// Whether one of the globs stands for a name.
+fn is_included(globs: &[&str], name: &str) -> bool
+    ensures { result ≡ list_any (λ glob. fits_glob glob.now name.now) globs.now }
+{
+    globs.iter().any(|glob| fits_glob(glob, name))
+}
+
+/// Adds the names in a folder, which has this path from the first one: those for which one of the globs stands. A folder that is
+/// hidden is left out, a link to a folder is not followed, and what is neither a regular file nor a folder is left out.
 fn add_names<T: Files + AllocGlobal + Clone + Drop>(
     rt: &T,
     alloc: Global,
     top: &str,
     below: &str,
+    globs: &[&str],
     names: &mut Names,
 ) -> Result<(), Unread> {
     let path = path_in(alloc, top, below).map_err(Unread::Fault)?;
@@ -71,9 +89,11 @@ fn add_names<T: Files + AllocGlobal + Clone + Drop>(
             Err(_) => false,
         };
         if is_folder {
-            name.push('/').map_err(refused)?;
-            names.folders.push(name).map_err(refused)?;
-        } else if is_file(rt, alloc, top, name.as_str())? {
+            if !is_hidden(entry.file_name()) {
+                name.push('/').map_err(refused)?;
+                names.folders.push(name).map_err(refused)?;
+            }
+        } else if is_included(globs, entry.file_name()) && is_file(rt, alloc, top, name.as_str())? {
             names.files.push(name).map_err(refused)?;
         }
     }
@@ -89,23 +109,24 @@ fn is_file<T: Files>(rt: &T, alloc: Global, top: &str, name: &str) -> Result<boo
     }
 }
 
-/// The names of the files in a folder and in the folders in it, in order.
+/// The names of the files in a folder and in the folders in it for which one of the globs stands, in order.
 fn names_in<T: Files + AllocGlobal + Clone + Drop>(
     rt: &T,
     alloc: Global,
     top: &str,
+    globs: &[&str],
 ) -> Result<Vec<String>, Unread> {
     let mut names = Names {
         files: Vec::new(alloc),
         folders: Vec::new(alloc),
     };
-    add_names(rt, alloc, top, "", &mut names)?;
+    add_names(rt, alloc, top, "", globs, &mut names)?;
     // The walk ends when no folder is left.
     for _ in 0..usize::MAX {
         let Some(below) = names.folders.pop() else {
             break;
         };
-        add_names(rt, alloc, top, below.as_str(), &mut names)?;
+        add_names(rt, alloc, top, below.as_str(), globs, &mut names)?;
     }
     names.files.sort_unstable();
     Ok(names.files)
@@ -196,20 +217,22 @@ impl BothNames {
     }
 }
 
-/// The names of the files in both folders. Why a folder is not read goes to standard error; the status is given.
+/// The names of the files in both folders for which one of the globs stands. Why a folder is not read goes to standard error; the status
+/// is given.
 pub fn names_of<T: Files + AllocGlobal + Clone + Drop, E: Write>(
     rt: &T,
     alloc: Global,
     asked: &Diff<'_>,
+    globs: &[&str],
     err: &mut E,
 ) -> Result<BothNames, u8>
     ensures status { IfErr result (λ status. 2 ≤ status) }
 {
-    let left = match names_in(rt, alloc, asked.left) {
+    let left = match names_in(rt, alloc, asked.left, globs) {
         Ok(names) => names,
         Err(unread) => return Err(tell_unread(alloc, asked.left, unread, err)),
     };
-    let right = match names_in(rt, alloc, asked.right) {
+    let right = match names_in(rt, alloc, asked.right, globs) {
         Ok(names) => names,
         Err(unread) => return Err(tell_unread(alloc, asked.right, unread, err)),
     };

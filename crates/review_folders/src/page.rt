@@ -1,11 +1,11 @@
 //! What differs in the files of two folders, as one page.
-ghost use Rattle.std.specs.Prelude.{◌≡◌, ◌++◌, ◌<◌, ◌-◌, ◌^◌, List, IfOk, OnOk, string_bytes, IfErr};
+ghost use Rattle.std.specs.Prelude.{◌≡◌, ◌++◌, ◌<◌, ◌-◌, ◌^◌, [], List, IfOk, OnOk, string_bytes, IfErr};
 ghost use Rattle.yaml_text.specs.CountedModel.{faults_of};
 ghost use Rattle.review_formats.specs.declared.finding.Part.{Part};
 ghost use Rattle.review_formats.specs.declared.finding.Sign.TheVariants as signs;
 ghost use Rattle.review_folders.specs.Pages.{BytesFaults, FileFaults, alone_rule, ShowsSign, IsAlone, IsList, RejectedFound, BothFound, DeletedFound, NewFound, HasFound, HasPart, FindsParts, WritesParts, FolderShows};
 
-use crate::entry::{Entry, Has, path_in, status_of};
+use crate::entry::{Entry, Has, are_equal, path_in, status_of};
 use crate::parts::{lines_shown, list_found, parts_text};
 use review_args::{Diff, Page};
 use review_compare::{fault_of, list_sides};
@@ -239,7 +239,18 @@ fn faults_found(alloc: Global, left: Named<'_>, right: Named<'_>) -> Result<Part
     Ok(part_with(list))
 }
 
-/// What is found of a file that both folders have.
+/// Two files in which nothing is found.
+fn nothing(alloc: Global) -> Found
+    ensures { IsList [] result.part × (string_bytes result.err ≡ []) × (result.status ≡ 0) }
+{
+    Found {
+        part: part_with(Vec::new(alloc)),
+        err: String::new(alloc),
+        status: SAME,
+    }
+}
+
+/// What is found of a file that both folders have. Equal bytes are the same, whether they are accepted or not.
 fn both_found<S: Shelf>(
     shelf: &S,
     alloc: Global,
@@ -269,6 +280,9 @@ fn both_found<S: Shelf>(
         let part = faults_found(alloc, first, second)?;
         return Ok(Found { part, err, status });
     };
+    if are_equal(one.as_slice(), other.as_slice()) {
+        return Ok(nothing(alloc));
+    }
     match list_sides(alloc, asked, ignored, one, other) {
         Ok(listed) => {
             let part = Part {

@@ -13,8 +13,8 @@ use Rattle.review_git.specs.Files.{IsAnswer, IsFileOf, AsksLines, TellsDifferenc
 use Rattle.review_git.specs.declared.asked.Side.{Side}
 use Rattle.review_git.proofs.NoneLaws.{no_lines}
 
-pub compared : (left right : Named) (first second text : List ℕ) (asked : Diff) (same : Bool) → AsksLines left.name.now right.name.now asked → Compares first second same → DiffLines first second asked [] same text → TellsDifferences left right first second text
-compared left right first second text asked same a c l = inl (record {
+pub compared : (is_color : Bool) (left right : Named) (first second text : List ℕ) (asked : Diff) (same : Bool) → AsksLines left.name.now right.name.now is_color asked → Compares first second same → DiffLines first second asked [] same text → TellsDifferences is_color left right first second text
+compared is_color left right first second text asked same a c l = inl (record {
   asked = asked;
   asks = a;
   same = same;

@@ -1,9 +1,11 @@
 -- What the words of git ask for (git(1), GIT_EXTERNAL_DIFF).
-use Rattle.std.specs.Prelude.{◌≡◌, ◌⊎◌, ℕ, Bool, true, false, List, [], ◌∷◌, Option, Some, None, codes}
+use Rattle.std.specs.Prelude.{◌≡◌, ◌⊎◌, ℕ, Bool, true, false, List, [], ◌∷◌, Option, Some, None, codes, bytes_eq, if◌then◌else◌}
 use Rattle.std.specs.Borrow.{Bor}
 use Rattle.review_git.specs.declared.asked.Side.{Side}
 use Rattle.review_git.specs.declared.asked.GitAsked.{GitAsked}
 use Rattle.review_git.specs.declared.asked.GitAsked.TheVariants.{Unmerged, Changed}
+use Rattle.review_git.specs.declared.asked.Style.{Style}
+use Rattle.review_git.specs.declared.asked.Style.TheVariants.{Differences, Shown}
 
 -- of a side its file, hash and mode, and then other words
 abbrev pub side_words : Side → List (List ℕ) → List (List ℕ)
@@ -19,14 +21,23 @@ abbrev pub git_words : GitAsked → List (List ℕ)
 git_words (Unmerged path) = path.now ∷ []
 git_words (Changed pair) = pair.path.now ∷ side_words pair.left (side_words pair.right (renamed_words pair.renamed))
 
--- lines of what `show` writes are asked for, or not
-abbrev pub IsShown : Bool → GitAsked → Type 0
-IsShown is_shown (Unmerged path) = Unit {0}
-IsShown is_shown (Changed pair) = pair.is_shown ≡ is_shown
+-- what is to be printed of two files
+abbrev pub HasStyle : Style → GitAsked → Type 0
+HasStyle style (Unmerged path) = Unit {0}
+HasStyle style (Changed pair) = pair.style ≡ style
 
-abbrev pub AsksPlainly : Bool → List (List ℕ) → GitAsked → Type 0
-AsksPlainly is_shown words asked = (words ≡ git_words asked) × IsShown is_shown asked
+abbrev pub AsksPlainly : Style → List (List ℕ) → GitAsked → Type 0
+AsksPlainly style words asked = (words ≡ git_words asked) × HasStyle style asked
 
--- The words ask for this: they are those of git, or `--lines=show` and those of git.
-abbrev pub IsGitAsked : List (List ℕ) → GitAsked → Type 0
-IsGitAsked words asked = AsksPlainly false words asked ⊎ ((rest : List (List ℕ)) × (words ≡ codes "--lines=show" ∷ rest) × AsksPlainly true rest asked)
+-- What an option before the words of git asks for. With `auto` it depends on the output, as without an option.
+abbrev pub style_of : Bool → List ℕ → Option Style
+style_of is_color option = if bytes_eq option (codes "--lines=show") then Some Shown
+    else (if bytes_eq option (codes "--color=always") then Some (Differences true)
+    else (if bytes_eq option (codes "--color=never") then Some (Differences false)
+    else (if bytes_eq option (codes "--color=auto") then Some (Differences is_color)
+    else None)))
+
+-- The words ask for this: they are those of git, or an option and those of git.
+abbrev pub IsGitAsked : List (List ℕ) → Bool → GitAsked → Type 0
+IsGitAsked words is_color asked = AsksPlainly (Differences is_color) words asked
+    ⊎ ((option : List ℕ) × (rest : List (List ℕ)) × (style : Style) × (words ≡ option ∷ rest) × (style_of is_color option ≡ Some style) × AsksPlainly style rest asked)

@@ -17,6 +17,8 @@ use Rattle.review_files.specs.declared.rejected.Named.{Named}
 use Rattle.review_files.specs.declared.unread.Unread.{Unread}
 use Rattle.review_git.specs.Shown.{TellsShown}
 use Rattle.review_git.specs.declared.asked.Side.{Side}
+use Rattle.review_git.specs.declared.asked.Style.{Style}
+use Rattle.review_git.specs.declared.asked.Style.TheVariants.{Differences, Shown}
 
 -- what reading a file gave
 abbrev pub IsAnswer : Option (List ℕ) → Result (Vec ℕ Global) Unread → Type 0
@@ -42,8 +44,8 @@ TellsUnread left right text = NotBothRead left.answer.now right.answer.now × ((
 
 -- ---- differences
 
--- what is asked of `diff`: lines with their places, a thousand at most
-pub record AsksLines (left right : List ℕ) (asked : Diff) : Type 0 where
+-- what is asked of `diff`: lines with their places, a thousand at most, in colour or not
+pub record AsksLines (left right : List ℕ) (is_color : Bool) (asked : Diff) : Type 0 where
   pub left_is : asked.left.now ≡ left
   pub right_is : asked.right.now ≡ right
   pub places : asked.places ≡ true
@@ -51,7 +53,7 @@ pub record AsksLines (left right : List ℕ) (asked : Diff) : Type 0 where
   pub lines : asked.lines ≡ 1000
   pub form : asked.form ≡ Line
   pub context : asked.context ≡ 0
-  pub color : asked.color ≡ false
+  pub color : asked.color ≡ is_color
   pub stat : asked.stat ≡ false
   pub by_position : asked.by_position ≡ false
   pub by : asked.by.now ≡ []
@@ -59,25 +61,25 @@ pub record AsksLines (left right : List ℕ) (asked : Diff) : Type 0 where
   pub plain_paths : asked.paths ≡ Plain
 
 -- Both files are accepted, and the text is the lines of `diff`, none if the files mean the same.
-pub record Differ (left right : Named) (first second text : List ℕ) : Type 0 where
+pub record Differ (is_color : Bool) (left right : Named) (first second text : List ℕ) : Type 0 where
   pub asked : Diff
-  pub asks : AsksLines left.name.now right.name.now asked
+  pub asks : AsksLines left.name.now right.name.now is_color asked
   pub same : Bool
   pub compares : Compares first second same
   pub lines : DiffLines first second asked [] same text
   pub none : same ≡ true → text ≡ []
 
 -- Or they are not compared: of each that is rejected it is told why, and of others that memory is refused.
-abbrev pub TellsDifferences : Named → Named → List ℕ → List ℕ → List ℕ → Type 0
-TellsDifferences left right first second text = Differ left right first second text ⊎ ((side : Of) × (status : ℕ) × TellsNotCompared Line left right side text status)
+abbrev pub TellsDifferences : Bool → Named → Named → List ℕ → List ℕ → List ℕ → Type 0
+TellsDifferences is_color left right first second text = Differ is_color left right first second text ⊎ ((side : Of) × (status : ℕ) × TellsNotCompared Line left right side text status)
 
 -- lines of what `show` writes, or differences
-abbrev pub TellsRead : Bool → Named → Named → List ℕ → List ℕ → List ℕ → Type 0
-TellsRead true left right first second text = TellsShown left.name.now right.name.now first second text
-TellsRead false left right first second text = TellsDifferences left right first second text
+abbrev pub TellsRead : Style → Named → Named → List ℕ → List ℕ → List ℕ → Type 0
+TellsRead Shown left right first second text = TellsShown left.name.now right.name.now first second text
+TellsRead (Differences is_color) left right first second text = TellsDifferences is_color left right first second text
 
-abbrev pub TellsFiles : Bool → Named → Named → List ℕ → Type 0
-TellsFiles is_shown left right text = TellsUnread left right text ⊎ ((first : List ℕ) × (second : List ℕ) × AreRead left right first second × TellsRead is_shown left right first second text)
+abbrev pub TellsFiles : Style → Named → Named → List ℕ → Type 0
+TellsFiles style left right text = TellsUnread left right text ⊎ ((first : List ℕ) × (second : List ℕ) × AreRead left right first second × TellsRead style left right first second text)
 
 -- ---- links and submodules
 

@@ -28,7 +28,7 @@ module _ (holds : List ℕ → Option (List ℕ)) where
     pub right : Named
     pub left_is : IsFileOf holds pair.left (codes "a/" ++ pair.path.now) left
     pub right_is : IsFileOf holds pair.right (codes "b/" ++ right_path pair) right
-    pub tells : TellsFiles pair.is_shown left right text
+    pub tells : TellsFiles pair.style left right text
 
   -- what two links or submodules hold
   pub record OfTargets (words : List ℕ) (pair : Pair) (text : List ℕ) : Type 0 where

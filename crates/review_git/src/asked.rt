@@ -1,14 +1,11 @@
 //! The words that git passes to an external diff.
 ghost use Rattle.std.specs.Prelude.{◌≡◌, map, MatchOption, MatchBool};
-ghost use Rattle.review_git.specs.Asked.{AsksPlainly, IsGitAsked};
+ghost use Rattle.review_git.specs.Asked.{AsksPlainly, IsGitAsked, style_of};
 ghost use Rattle.review_git.specs.Sides.{AreEqual, is_hash};
 ghost use Rattle.review_git.specs.declared.asked.GitAsked.{GitAsked as AskedOfGit};
 
 /// What git passes for the hash and the mode of a side that does not exist.
 const NONE: &str = ".";
-
-/// The word before those of git that asks for lines of what `show` writes.
-const SHOWN: &str = "--lines=show";
 
 /// One side: the file to read, its hash and its mode.
 #[derive(Clone, Copy)]
@@ -16,6 +13,15 @@ pub struct Side<'a> {
     pub(crate) file: &'a str,
     pub(crate) hash: &'a str,
     pub(crate) mode: &'a str,
+}
+
+/// What is printed of two files that differ.
+#[derive(Clone, Copy, Debug, PartialEq, Eq)]
+pub(crate) enum Style {
+    /// Their differences, in colour or not.
+    Differences(bool),
+    /// Changed lines of what `show` writes.
+    Shown,
 }
 
 /// What a side is, by its mode.
@@ -51,8 +57,7 @@ pub struct Pair<'a> {
     pub(crate) left: Side<'a>,
     pub(crate) right: Side<'a>,
     pub(crate) renamed: Option<(&'a str, &'a str)>,
-    /// Whether changed lines of what `show` writes are asked for, and not differences.
-    pub(crate) is_shown: bool,
+    pub(crate) style: Style,
 }
 
 /// What git asks for.
@@ -71,8 +76,8 @@ fn side_of<'a>(file: &'a str, hash: &'a str, mode: &'a str) -> Side<'a>
 }
 
 /// What the words of git ask for.
-fn asked_of<'a>(words: &[&'a str], is_shown: bool) -> Option<GitAsked<'a>>
-    ensures { MatchOption result ((asked : AskedOfGit) → AsksPlainly is_shown (map (λ s. s.now) words.now) asked → ⊥) (AsksPlainly is_shown (map (λ s. s.now) words.now)) }
+fn asked_of<'a>(words: &[&'a str], style: Style) -> Option<GitAsked<'a>>
+    ensures { MatchOption result ((asked : AskedOfGit) → AsksPlainly style (map (λ s. s.now) words.now) asked → ⊥) (AsksPlainly style (map (λ s. s.now) words.now)) }
 {
     match *words {
         [path] => Some(GitAsked::Unmerged(path)),
@@ -82,7 +87,7 @@ fn asked_of<'a>(words: &[&'a str], is_shown: bool) -> Option<GitAsked<'a>>
                 left: side_of(old, old_hash, old_mode),
                 right: side_of(new, new_hash, new_mode),
                 renamed: None,
-                is_shown,
+                style,
             }))
         }
         [
@@ -101,25 +106,43 @@ fn asked_of<'a>(words: &[&'a str], is_shown: bool) -> Option<GitAsked<'a>>
                 left: side_of(old, old_hash, old_mode),
                 right: side_of(new, new_hash, new_mode),
                 renamed: Some((renamed, lines)),
-                is_shown,
+                style,
             }))
         }
         _ => None,
     }
 }
 
-/// What 1, 7 or 9 words ask for: a path; the path, the old file with its hash and mode, and the new one with its own; or these
-/// and the new path with lines on what was renamed or copied. A word before them may ask for lines of what `show` writes; there are
-/// never so many words of both kinds, so a path of its name is none. `None` if the words ask for nothing.
-pub fn git_asked<'a>(given: &[&'a str]) -> Option<GitAsked<'a>>
-    ensures { MatchOption result ((asked : AskedOfGit) → IsGitAsked (map (λ s. s.now) given.now) asked → ⊥) (IsGitAsked (map (λ s. s.now) given.now)) }
+/// What an option before the words of git asks for, of an output that has colour unless it is asked otherwise.
+fn style_of(option: &str, is_color: bool) -> Option<Style>
+    ensures { result ≡ style_of is_color option.now }
 {
-    if let Some(asked) = asked_of(given, false) {
+    match option {
+        "--lines=show" => Some(Style::Shown),
+        "--color=always" => Some(Style::Differences(true)),
+        "--color=never" => Some(Style::Differences(false)),
+        "--color=auto" => Some(Style::Differences(is_color)),
+        _ => None,
+    }
+}
+
+/// What 1, 7 or 9 words ask for: a path; the path, the old file with its hash and mode, and the new one with its own; or these
+/// and the new path with lines on what was renamed or copied. An option before them may ask for lines of what `show` writes, or for
+/// colour; there are never so many words of both kinds, so a path of its name is none. Without one, lines are in colour if the output
+/// has it. `None` if the words ask for nothing.
+#[tactic(auto, using(crate::proofs::AskedLaws::none_of_no_words, crate::proofs::AskedLaws::none_of_no_option, crate::proofs::AskedLaws::by_option))]
+pub fn git_asked<'a>(given: &[&'a str], is_color: bool) -> Option<GitAsked<'a>>
+    ensures { MatchOption result ((asked : AskedOfGit) → IsGitAsked (map (λ s. s.now) given.now) is_color asked → ⊥) (IsGitAsked (map (λ s. s.now) given.now) is_color) }
+{
+    if let Some(asked) = asked_of(given, Style::Differences(is_color)) {
         return Some(asked);
     }
-    match given.split_first() {
-        Some((first, rest)) if *first == SHOWN => asked_of(rest, true),
-        _ => None,
+    let Some((first, rest)) = given.split_first() else {
+        return None;
+    };
+    match style_of(first, is_color) {
+        Some(style) => asked_of(rest, style),
+        None => None,
     }
 }
 

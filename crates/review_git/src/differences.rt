@@ -7,7 +7,7 @@ ghost use Rattle.review_git.specs.Files.{AreRead, AsksLines, TellsDifferences, T
 ghost use Rattle.review_git.specs.Heads.{right_path};
 ghost use Rattle.review_git.specs.Texts.{OfFiles, OfNewFile, IsNew};
 
-use crate::asked::{Kind, Pair};
+use crate::asked::{Kind, Pair, Style};
 use crate::git_show::put_shown_lines;
 use crate::heads::put_alone;
 use review_args::{Diff, Form, Paths};
@@ -52,8 +52,8 @@ fn right_label(alloc: Global, pair: Pair<'_>) -> Result<String, Fault>
 }
 
 /// What is asked of the differences of two files of these names.
-fn lines_of<'n>(left: &'n str, right: &'n str) -> Diff<'n>
-    ensures { AsksLines left.now right.now result }
+fn lines_of<'n>(left: &'n str, right: &'n str, color: bool) -> Diff<'n>
+    ensures { AsksLines left.now right.now color result }
 {
     Diff {
         left,
@@ -63,7 +63,7 @@ fn lines_of<'n>(left: &'n str, right: &'n str) -> Diff<'n>
         lines: LINES,
         form: Form::Line,
         context: 0,
-        color: false,
+        color,
         stat: false,
         by_position: false,
         by: &[],
@@ -80,11 +80,13 @@ fn put_compared(
     right: Named<'_>,
     first: &[u8],
     second: &[u8],
+    color: bool,
 ) -> Result<(), Fault>
-    ensures ok { OnOk result ((text : List ℕ) × (string_bytes out.new ≡ string_bytes out.old ++ text) × TellsDifferences left.entry right.entry first.now second.now text) }
+    ensures ok { OnOk result ((text : List ℕ) × (string_bytes out.new ≡ string_bytes out.old ++ text) × TellsDifferences color left.entry right.entry first.now second.now text) }
     ensures err { IfErr result (λ fault. fault ≡ Fault.OutOfMemory) }
 {
-    match compare_sides(alloc, &lines_of(left.name, right.name), &[], first, second) {
+    let asked = lines_of(left.name, right.name, color);
+    match compare_sides(alloc, &asked, &[], first, second) {
         Ok(told) => out.push_str(&told.text)?,
         Err(side) => {
             put_not_compared(alloc, out, left, right, side, Form::Line)?;
@@ -127,15 +129,16 @@ fn put_read(
     left: Named<'_>,
     right: Named<'_>,
     read: (&[u8], &[u8]),
-    is_shown: bool,
+    style: Style,
 ) -> Result<(), Fault>
-    ensures ok { OnOk result ((text : List ℕ) × (string_bytes out.new ≡ string_bytes out.old ++ text) × TellsRead is_shown left.entry right.entry read.entry.0.now read.entry.1.now text) }
+    ensures ok { OnOk result ((text : List ℕ) × (string_bytes out.new ≡ string_bytes out.old ++ text) × TellsRead style left.entry right.entry read.entry.0.now read.entry.1.now text) }
     ensures err { IfErr result (λ fault. fault ≡ Fault.OutOfMemory) }
 {
-    if is_shown {
-        put_shown_lines(alloc, out, (left.name, read.0), (right.name, read.1))
-    } else {
-        put_compared(alloc, out, left, right, read.0, read.1)
+    match style {
+        Style::Shown => put_shown_lines(alloc, out, (left.name, read.0), (right.name, read.1)),
+        Style::Differences(color) => {
+            put_compared(alloc, out, left, right, read.0, read.1, color)
+        }
     }
 }
 
@@ -145,13 +148,13 @@ fn put_files(
     out: &mut String,
     left: Named<'_>,
     right: Named<'_>,
-    is_shown: bool,
+    style: Style,
 ) -> Result<(), Fault>
-    ensures ok { OnOk result ((text : List ℕ) × (string_bytes out.new ≡ string_bytes out.old ++ text) × TellsFiles is_shown left.entry right.entry text) }
+    ensures ok { OnOk result ((text : List ℕ) × (string_bytes out.new ≡ string_bytes out.old ++ text) × TellsFiles style left.entry right.entry text) }
     ensures err { IfErr result (λ fault. fault ≡ Fault.OutOfMemory) }
 {
     match both_of(left, right) {
-        Some(read) => put_read(alloc, out, left, right, read, is_shown),
+        Some(read) => put_read(alloc, out, left, right, read, style),
         None => put_unread(alloc, out, left, right),
     }
 }
@@ -172,7 +175,7 @@ pub(crate) fn put_differences<S: Shelf>(
     let right = read_file(shelf, alloc, pair.right.file);
     let first = named(left_name.as_str(), &left);
     let second = named(right_name.as_str(), &right);
-    put_files(alloc, out, first, second, pair.is_shown)
+    put_files(alloc, out, first, second, pair.style)
 }
 
 /// Writes why a new file is rejected, if it is.

@@ -1,5 +1,5 @@
 -- What is shown of two nodes that differ.
-use Rattle.std.proofs.Common.{◌≡◌, ◌==◌, inl, inr, ℕ, Bool, List, [], ◌++◌, cond, take, drop, length, sym, subst, ◌∙◌, ap}
+use Rattle.std.proofs.Common.{◌≡◌, ◌==◌, inl, inr, ℕ, Bool, true, false, List, [], ◌++◌, cond, take, drop, length, refl, sym, subst, ◌∙◌, ap}
 use Rattle.std.specs.Prelude.{Option, Some, None, String, nat_le, codes, string_bytes}
 use Rattle.std.specs.declared.alloc.Global.{Global}
 use Rattle.std.specs.List.{slice_get}
@@ -16,7 +16,7 @@ use Rattle.yaml_graph.specs.declared.graph.Graph.{Graph}
 use Rattle.yaml_diff.specs.declared.difference.Difference.{Difference}
 use Rattle.review_text.specs.Shown.{front}
 use Rattle.review_lines.specs.Lines.{Text}
-use Rattle.review_lines.specs.Compared.{TellsMembers, room_of, is_numbered, path_as, IsScalar, SameTexts, SameFronts, ShowsNode, ShowsBoth, ShowsParts, ShowsScript, ShowsChanges, TellsOne, part_text}
+use Rattle.review_lines.specs.Compared.{TellsMembers, room_of, is_numbered, path_as, IsScalar, SameTexts, SameFronts, ShowsNode, ShowsBoth, ShowsApart, TellsApart, IsAscii, are_alike, ShowsParts, ShowsScript, ShowsChanges, TellsOne, part_text}
 use Rattle.review_lines.specs.declared.lines.Line.{Line}
 use Rattle.yaml_script.specs.Script.{IsScript}
 use Rattle.yaml_script.specs.Printed.{script_text}
@@ -43,6 +43,16 @@ fronts_same g room i j (Some a) None x y e = absurd e
 
 pub parts_shown : (g : Graph) (room : ℕ) (d : Difference) (one other left right : Text) → ShowsNode g room d.left one → ShowsNode g room d.right other → SameTexts one other → ShowsParts g room d left right → ShowsBoth g room d left right
 parts_shown g room d one other left right x y e h = inr (fronts_same g room d.left d.right one other x y e, h)
+
+-- two texts that are told apart, by whether they look the same
+pub as_they_are : (one other : Text) (b : Bool) → b ≡ are_alike one other → b ≡ false → TellsApart (are_alike one other) one other one other
+as_they_are one other b e f = subst (λ z. TellsApart z one other one other) (sym f ∙ e) (refl, refl)
+
+pub in_escapes : (one other left right : Text) (b : Bool) → b ≡ are_alike one other → b ≡ true → IsAscii one left → IsAscii other right → TellsApart (are_alike one other) one other left right
+in_escapes one other left right b e t g h = subst (λ z. TellsApart z one other left right) (sym t ∙ e) (g, h)
+
+pub apart_shown : (g : Graph) (room : ℕ) (d : Difference) (one other left right : Text) → ShowsBoth g room d one other → TellsApart (are_alike one other) one other left right → ShowsApart g room d left right
+apart_shown g room d one other left right h t = (one, other, h, t)
 
 -- a part of a content, by what it has behind its start
 abbrev pub rest_text : ℕ → ℕ → List ℕ → List ℕ
@@ -77,11 +87,11 @@ script_told g context color d tag one other edits slice text l r s e h = record 
   is = h ∙ ap (script_text context color) e;
 }
 
-pub one_told : (both : Both) (asked : Diff) (d : Difference) (l : Line) (room : ℕ) → room ≡ room_of asked.whole → string_bytes l.path ≡ path_as asked.paths (is_numbered both) d.left d.right (way_of both.graph d.path.items) → ShowsBoth both.graph room d l.left l.right
+pub one_told : (both : Both) (asked : Diff) (d : Difference) (l : Line) (room : ℕ) → room ≡ room_of asked.whole → string_bytes l.path ≡ path_as asked.paths (is_numbered both) d.left d.right (way_of both.graph d.path.items) → ShowsApart both.graph room d l.left l.right
     → ShowsChanges both.graph asked.context asked.color d l.changes → TellsMembers asked.form both.graph d l.members → l.label ≡ None → TellsOne both asked d l
 one_told both asked d l room m p b c v n = record {
   path = p;
-  nodes = subst (λ z. ShowsBoth both.graph z d l.left l.right) m b;
+  nodes = subst (λ z. ShowsApart both.graph z d l.left l.right) m b;
   changes = c;
   members = v;
   no_label = n;

@@ -30,6 +30,8 @@ use Rattle.review_formats.specs.declared.left_out.LeftOut.{LeftOut}
 use Rattle.review_folds.specs.Moves.{Groups}
 use Rattle.review_folds.specs.declared.moves.Group.{Group}
 use Rattle.review_labels.specs.Labels.{label}
+use Rattle.review_text.specs.Alike.{looks_alike}
+use Rattle.review_text.specs.Hidden.{ascii}
 use Rattle.review_text.specs.Shown.{front, shown}
 use Rattle.review_text.specs.NodeText.{text_of}
 use Rattle.review_text.specs.PathText.{bracketed, start_text, step_text, path_text}
@@ -100,6 +102,24 @@ SameFronts g room _ _ = ⊥
 abbrev pub ShowsBoth : Graph → ℕ → Difference → Text → Text → Type 0
 ShowsBoth g room d left right = (ShowsNode g room d.left left × ShowsNode g room d.right right) ⊎ (SameFronts g room d.left d.right × ShowsParts g room d left right)
 
+-- a text with an escape for each character outside ASCII, or none if there is none
+abbrev pub IsAscii : Text → Text → Type 0
+IsAscii one text = option_map string_bytes text ≡ option_map (λ t. ascii (string_bytes t)) one
+
+-- both sides have a text, and these look the same
+abbrev pub are_alike : Text → Text → Bool
+are_alike (Some t) (Some u) = looks_alike (string_bytes t) (string_bytes u)
+are_alike _ _ = false
+
+-- Of texts that look the same, both have an escape for each character outside ASCII; others are as they are.
+abbrev pub TellsApart : Bool → Text → Text → Text → Text → Type 0
+TellsApart true one other left right = IsAscii one left × IsAscii other right
+TellsApart false one other left right = (left ≡ one) × (right ≡ other)
+
+-- what is shown of both nodes, told apart
+abbrev pub ShowsApart : Graph → ℕ → Difference → Text → Text → Type 0
+ShowsApart g room d left right = (one : Text) × (other : Text) × ShowsBoth g room d one other × TellsApart (are_alike one other) one other left right
+
 -- Of two scalars of one tag, an edit script from the left content to the right one is printed, with so many lines before and behind each change.
 pub record ShowsScript (g : Graph) (context : ℕ) (color : Bool) (d : Difference) (text : List ℕ) : Type 0 where
   pub tag : List ℕ
@@ -149,7 +169,7 @@ path_as JsonPointer numbered left right w = pasted false numbered (has_left left
 -- the line has the difference's path, what is shown of its nodes, and what a program reads of them, and no label
 pub record TellsOne (both : Both) (asked : Diff) (d : Difference) (l : Line) : Type 0 where
   pub path : string_bytes l.path ≡ path_as asked.paths (is_numbered both) d.left d.right (way_of both.graph d.path.items)
-  pub nodes : ShowsBoth both.graph (room_of asked.whole) d l.left l.right
+  pub nodes : ShowsApart both.graph (room_of asked.whole) d l.left l.right
   pub changes : ShowsChanges both.graph asked.context asked.color d l.changes
   pub members : TellsMembers asked.form both.graph d l.members
   pub no_label : l.label ≡ None

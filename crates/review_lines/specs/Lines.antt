@@ -8,7 +8,7 @@ use Rattle.review_args.specs.declared.words.Form.TheVariants as form
 use Rattle.review_args.specs.declared.words.Diff.{Diff}
 use Rattle.review_formats.specs.LeftOut.{is_none, between_text}
 use Rattle.review_formats.specs.declared.left_out.LeftOut.{LeftOut}
-use Rattle.review_text.specs.Hidden.{visible}
+use Rattle.review_text.specs.Hidden.{visible, json_visible}
 use Rattle.review_values.specs.Json.{text_json, place_json, raw_text}
 use Rattle.review_values.specs.declared.members.Members.{Members}
 use Rattle.review_lines.specs.Stat.{whole_text}
@@ -45,7 +45,7 @@ abbrev pub label_or : Text → Text → List ℕ
 label_or (Some t) left = string_bytes t
 label_or None left = text_or_none left
 
--- what the sides have: both texts or, of strings whose changed lines are printed below, how many lines there are and which are changed; of items that moved their label
+-- what the sides have: both texts or, of scalars whose changed lines are printed below, how many lines there are and which are changed; of items that moved their label
 abbrev pub values : Option Changes → Line → List ℕ
 values None l = column (visible (label_or l.label l.left)) ++ column (visible (text_or_none l.right))
 values (Some c) l = column (visible (string_bytes c.summary))
@@ -65,7 +65,7 @@ color_text l = by_sides (27 ∷ codes "[33m") (27 ∷ codes "[31m") (27 ∷ code
 abbrev pub plain_text : List ℕ
 plain_text = 27 ∷ codes "[0m"
 
--- Sign, path, what the sides have, parted by tabs, and behind these the places if they are told; below them the changed lines of strings. A character that a terminal would not show is written as its escape.
+-- Sign, path, what the sides have, parted by tabs, and behind these the places if they are told; below them the changed lines of scalars. A character that a terminal would not show is written as its escape.
 abbrev pub columns : Bool → Bool → Line → List ℕ
 columns places color l =
     cond color (color_text l) [] ++ (sign l ++ (column (visible (string_bytes l.path)) ++ (values l.changes l
@@ -100,11 +100,15 @@ steps_text None = None
 steps_text (Some m) = Some (string_bytes m.steps)
 
 -- an object with the members in the order of their names, and the end of the line
-abbrev pub line_json : Line → List ℕ
-line_json l =
+abbrev pub line_object : Line → List ℕ
+line_object l =
     (codes "{\"kind\":" ++ text_json (Some (kind l))) ++ ((codes ",\"left\":" ++ text_json (option_map string_bytes l.left)) ++ ((codes ",\"left_place\":" ++ place_json l.left_place)
     ++ (raw_text (codes ",\"left_value\":") (left_value l.members) ++ ((codes ",\"path\":" ++ text_json (Some (string_bytes l.path))) ++ ((codes ",\"right\":" ++ text_json (option_map string_bytes l.right))
     ++ ((codes ",\"right_place\":" ++ place_json l.right_place) ++ (raw_text (codes ",\"right_value\":") (right_value l.members) ++ (raw_text (codes ",\"steps\":") (steps_text l.members) ++ codes "}\n"))))))))
+
+-- the same with an escape for each character that a terminal does not show
+abbrev pub line_json : Line → List ℕ
+line_json l = json_visible (line_object l)
 
 -- ---- a line in each form
 

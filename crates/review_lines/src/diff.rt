@@ -7,7 +7,7 @@ ghost use Rattle.yaml_rank.specs.RanksView.{RanksAre};
 ghost use Rattle.yaml_diff.specs.Lines.{way_of};
 ghost use Rattle.review_lines.specs.Lines.{lines_text};
 ghost use Rattle.review_lines.specs.Stat.{stat_text};
-ghost use Rattle.review_lines.specs.Compared.{room_of, is_numbered, has_left, has_right, path_as, ShowsNode, ShowsBoth, is_line, with_lines, left_out_of, TellsMembers, TellsOne, TellsEach, TellsDifferences, TellsFound, TellsAsked, TellsStreams};
+ghost use Rattle.review_lines.specs.Compared.{room_of, is_numbered, has_left, has_right, path_as, ShowsNode, ShowsBoth, ShowsApart, TellsApart, IsAscii, are_alike, is_line, with_lines, left_out_of, TellsMembers, TellsOne, TellsEach, TellsDifferences, TellsFound, TellsAsked, TellsStreams};
 
 use crate::lines::{Line, put_rest};
 use crate::moved::{MoveLines, lines_of_moves};
@@ -22,6 +22,7 @@ use review_ignore::kept;
 use review_paths::pasted;
 use review_patterns::Pattern;
 use review_places::trace::Traced;
+use review_text::alike::{ascii_text, look_alike};
 use review_text::both::Both;
 use review_text::path::path_text;
 use review_text::text::{CUT, WHOLE, node_text};
@@ -115,6 +116,63 @@ fn shown_both(
     }
 }
 
+/// Whether both sides have a text, and these look the same.
+fn are_alike(alloc: Global, texts: &Texts) -> Result<bool, Fault>
+    ensures ok { IfOk result (λ answer. answer ≡ are_alike texts.now.left texts.now.right) }
+    ensures err { IfErr result (λ fault. fault ≡ Fault.OutOfMemory) }
+{
+    let Some(left) = &texts.left else {
+        return Ok(false);
+    };
+    let Some(right) = &texts.right else {
+        return Ok(false);
+    };
+    look_alike(alloc, left.as_str(), right.as_str())
+}
+
+/// The text of a side with an escape for each character outside ASCII.
+fn in_ascii(alloc: Global, text: &Option<String>) -> Result<Option<String>, Fault>
+    ensures ok { IfOk result (λ s. IsAscii text.now s) }
+    ensures err { IfErr result (λ fault. fault ≡ Fault.OutOfMemory) }
+{
+    match text {
+        Some(text) => Ok(Some(ascii_text(alloc, text.as_str())?)),
+        None => Ok(None),
+    }
+}
+
+/// Two texts, both with escapes where they would look the same.
+#[tactic(auto, using(crate::proofs::StringLaws::as_they_are, crate::proofs::StringLaws::in_escapes))]
+fn told_apart(alloc: Global, texts: Texts) -> Result<Texts, Fault>
+    ensures ok { IfOk result (λ s. TellsApart (are_alike texts.left texts.right) texts.left texts.right s.left s.right) }
+    ensures err { IfErr result (λ fault. fault ≡ Fault.OutOfMemory) }
+{
+    if !are_alike(alloc, &texts)? {
+        return Ok(texts);
+    }
+    Ok(Texts {
+        left: in_ascii(alloc, &texts.left)?,
+        right: in_ascii(alloc, &texts.right)?,
+    })
+}
+
+/// What is shown of both nodes, with escapes where they would look the same.
+#[tactic(auto, using(crate::proofs::StringLaws::apart_shown))]
+fn shown_apart(
+    alloc: Global,
+    both: &Both<'_>,
+    difference: &Difference,
+    room: usize,
+    budget: &mut Budget,
+) -> Result<Texts, Fault>
+    requires ranked { RanksAre both.now.graph both.now.ranks }
+    ensures ok { IfOk result (λ s. ShowsApart both.now.graph room difference.now s.left s.right) }
+    ensures err { IfErr result (λ fault. fault ≡ Fault.OutOfMemory) }
+{
+    let texts = shown_both(alloc, both, difference, room, budget)?;
+    told_apart(alloc, texts)
+}
+
 /// Whether paths tell the number of the document: unless each side has one document.
 pub(crate) fn is_numbered(both: &Both<'_>) -> bool
     ensures { result ≡ is_numbered both.now }
@@ -198,7 +256,7 @@ fn line_of(
     ensures err { IfErr result (λ fault. fault ≡ Fault.OutOfMemory) }
 {
     let path = path_of(alloc, both, difference, asked.paths)?;
-    let nodes = shown_both(alloc, both, difference, room_of(asked.whole), budget)?;
+    let nodes = shown_apart(alloc, both, difference, room_of(asked.whole), budget)?;
     let lines = changed_lines(alloc, both, difference, asked, budget)?;
     let members = members_in(alloc, both, difference, asked.form, budget)?;
     Ok(Line {

@@ -7,14 +7,14 @@ use crate::stat::{put_number, put_whole};
 use review_args::{Diff, Form};
 use review_formats::LeftOut;
 use review_text::json::text_of;
-use review_text::put_visible;
+use review_text::{put_json, put_visible};
 use review_values::Members;
 use review_values::writing::{put_place_json, put_raw, put_text};
 use std::alloc::Global;
 use yaml_place::Place;
 use yaml_text::fault::Fault;
 
-/// The changed lines of two strings.
+/// The changed lines of two scalars of one tag.
 #[derive(Drop)]
 pub struct Changes {
     /// How many lines there are, how many are changed, and where.
@@ -35,7 +35,7 @@ pub struct Line {
     /// The places of the two nodes, where they are told.
     pub left_place: Option<Place>,
     pub right_place: Option<Place>,
-    /// The changed lines, where both nodes are strings and one of them has a line feed.
+    /// The changed lines, where both nodes are scalars of one tag and one of them has a line feed.
     pub changes: Option<Changes>,
     /// What a program reads beside the texts, where JSON is written.
     pub members: Option<Members>,
@@ -51,7 +51,7 @@ const PLAIN: &str = "\u{1b}[0m";
 
 impl Line {
     ghost use Rattle.std.specs.Prelude.{◌≡◌, ◌++◌, [], cond, unwrap_or, option_map, string_bytes, OnOk, IfErr};
-    ghost use Rattle.review_lines.specs.Lines.{sign, kind, color_text, plain_text, label_or, values, below, places_text, columns, told_text, left_value, right_value, steps_text, line_json, line_text};
+    ghost use Rattle.review_lines.specs.Lines.{sign, kind, color_text, plain_text, label_or, values, below, places_text, columns, told_text, left_value, right_value, steps_text, line_object, line_json, line_text};
 
     /// What the two sides have at the path: other things, or one of them nothing. Where both have no text, a pair of items moved.
     fn sign(&self) -> &'static str
@@ -98,7 +98,7 @@ impl Line {
         }
     }
 
-    /// Both texts or, of strings whose changed lines are printed below, what is said of these; of items that moved their label.
+    /// Both texts or, of scalars whose changed lines are printed below, what is said of these; of items that moved their label.
     fn put_values(&self, out: &mut String) -> Result<(), Fault>
         ensures ok { OnOk result (string_bytes out.new ≡ string_bytes out.old ++ values self.now.changes self.now) }
         ensures err { IfErr result (λ fault. fault ≡ Fault.OutOfMemory) }
@@ -195,9 +195,9 @@ impl Line {
         }
     }
 
-    /// One JSON object.
-    fn put_json(&self, alloc: Global, out: &mut String) -> Result<(), Fault>
-        ensures ok { OnOk result (string_bytes out.new ≡ string_bytes out.old ++ line_json self.now) }
+    /// One JSON object, with all characters as they are.
+    fn put_object(&self, alloc: Global, out: &mut String) -> Result<(), Fault>
+        ensures ok { OnOk result (string_bytes out.new ≡ string_bytes out.old ++ line_object self.now) }
         ensures err { IfErr result (λ fault. fault ≡ Fault.OutOfMemory) }
     {
         put_text(alloc, out, "{\"kind\":", Some(self.kind()))?;
@@ -211,6 +211,16 @@ impl Line {
         put_raw(out, ",\"steps\":", self.steps())?;
         out.push_str("}\n")?;
         Ok(())
+    }
+
+    /// The same with escapes for the characters that a terminal would not show.
+    fn put_json(&self, alloc: Global, out: &mut String) -> Result<(), Fault>
+        ensures ok { OnOk result (string_bytes out.new ≡ string_bytes out.old ++ line_json self.now) }
+        ensures err { IfErr result (λ fault. fault ≡ Fault.OutOfMemory) }
+    {
+        let mut object = String::new(alloc);
+        self.put_object(alloc, &mut object)?;
+        put_json(out, object.as_str())
     }
 
     /// Writes the line in the form that is asked for.

@@ -1,4 +1,4 @@
-//! What is shown of two strings that differ: their changed lines, or the parts where they differ.
+//! What is shown of two scalars of one tag that differ: their changed lines, or the parts where they differ.
 ghost use Rattle.std.specs.Prelude.{◌≡◌, ◌==◌, ◌++◌, ◌≤◌, [], cond, nat_le, take, drop, length, codes, string_bytes, Some, OnOk, IfOk, IfSome, IfErr};
 ghost use Rattle.yaml_scalar.specs.Spelling.{quoted_bytes};
 ghost use Rattle.yaml_definitions.specs.model.Tree.{scalar};
@@ -17,7 +17,6 @@ use yaml_diff::Difference;
 use yaml_graph::node::{NodeId, NodeKind};
 use yaml_scalar::spell::spell_into;
 use yaml_script::{Edit, put_script, script_of};
-use yaml_text::core_tag;
 use yaml_text::fault::Fault;
 
 /// How many bytes before the first difference are shown.
@@ -29,10 +28,11 @@ const MORE: &str = "...";
 /// How many changed places are named.
 const NAMED: usize = 3;
 
-/// How many bytes of strings are looked at: more than two files have without aliases.
+/// How many bytes of scalars are looked at: more than two files have without aliases.
 const BYTES: usize = 64 * 1_024 * 1_024;
 
-/// How many bytes of strings may still be looked at, and how many of values may be written, so that a long string with many aliases is not compared with another each time.
+/// How many bytes of scalars may still be looked at, and how many of values may be written, so that a long scalar with many aliases is not
+/// compared with another each time.
 #[derive(Drop)]
 pub(crate) struct Budget {
     bytes: usize,
@@ -48,7 +48,7 @@ impl Budget {
         }
     }
 
-    /// Takes the bytes of two strings, if there are so many.
+    /// Takes the bytes of two contents, if there are so many.
     fn take(&mut self, left: &str, right: &str) -> bool {
         let bytes = left.len().saturating_add(right.len());
         let is_enough = bytes <= self.bytes;
@@ -203,7 +203,7 @@ pub(crate) fn differing_parts(
     let Some((left, right)) = scalars_of(both, difference) else {
         return Ok(None);
     };
-    if left.tag != core_tag::STR || !budget.take(left.content, right.content) {
+    if !budget.take(left.content, right.content) {
         return Ok(None);
     }
     let Some(rests) = rests_of(left.content, right.content) else {
@@ -330,7 +330,7 @@ fn lines_of(alloc: Global, edits: &[Edit<'_>], asked: &Diff<'_>) -> Result<Strin
     Ok(text)
 }
 
-/// The changed lines of two strings, if the nodes of a difference are such and one of them has a line feed.
+/// The changed lines of two scalars of one tag, if the nodes of a difference are such and one of them has a line feed.
 #[tactic(auto, using(crate::proofs::StringLaws::script_told))]
 pub(crate) fn changed_lines(
     alloc: Global,
@@ -346,7 +346,7 @@ pub(crate) fn changed_lines(
         return Ok(None);
     };
     let has_lines = left.content.contains('\n') || right.content.contains('\n');
-    if left.tag != core_tag::STR || !has_lines || !budget.take(left.content, right.content) {
+    if !has_lines || !budget.take(left.content, right.content) {
         return Ok(None);
     }
     let edits = script_of(alloc, left.content, right.content)?;

@@ -50,7 +50,7 @@ fn number(text: &[u8]) -> Option<u64>
 }
 
 /// The parts before the first such byte and after it, or the whole text twice if it has none.
-fn parts(separator: u8, text: &[u8]) -> (&[u8], &[u8])
+pub(crate) fn parts(separator: u8, text: &[u8]) -> (&[u8], &[u8])
     ensures first { result.0.now ≡ first_part separator text.now }
     ensures last { result.1.now ≡ last_part separator text.now }
 {

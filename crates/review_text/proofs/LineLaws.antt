@@ -7,6 +7,7 @@ use Rattle.std.proofs.Math.ListN.{drop_of_length-le}
 use Rattle.serde_json.specs.Data.{Data, Members, member, no_members, put, object}
 use Rattle.serde_json.specs.Written.{has_float, members_have_float, compact_text}
 use Rattle.yaml_place.specs.declared.place.Place.{Place}
+use Rattle.review_text.specs.Hidden.{json_visible}
 use Rattle.review_text.specs.Objects.{text_data, place_data, said_data, with_members, object_line}
 use Rattle.review_text.specs.declared.json.Said.{Said}
 use Rattle.review_text.specs.declared.json.Said.TheVariants as said
@@ -64,5 +65,5 @@ with_float : {X : Type 0} (f : X → List ℕ × Data) → ((x : X) → has_floa
 with_float f h [] ms m = m
 with_float f h (x ∷ xs) ms m = with_float f h xs (put (f x).0 (f x).1 ms) (put_float (f x).0 (f x).1 ms (h x) m)
 
-pub object_put : {X : Type 0} (f : X → List ℕ × Data) → ((x : X) → has_float (f x).1 ≡ false) → (xs : List X) (v : Data) (o y t : List ℕ) → v ≡ object (with_members (map f xs) no_members) → (has_float v ≡ false → t ≡ compact_text v) → y ≡ o ++ (t ++ codes "\n") → y ≡ o ++ object_line (map f xs)
-object_put f h xs v o y t e g p = p ∙ ap (λ z. o ++ (z ++ codes "\n")) (g (ap has_float e ∙ with_float f h xs no_members refl) ∙ ap compact_text e)
+pub object_put : {X : Type 0} (f : X → List ℕ × Data) → ((x : X) → has_float (f x).1 ≡ false) → (xs : List X) (v : Data) (o y t : List ℕ) → v ≡ object (with_members (map f xs) no_members) → (has_float v ≡ false → t ≡ compact_text v) → y ≡ o ++ (json_visible t ++ codes "\n") → y ≡ o ++ object_line (map f xs)
+object_put f h xs v o y t e g p = p ∙ ap (λ z. o ++ (json_visible z ++ codes "\n")) (g (ap has_float e ∙ with_float f h xs no_members refl) ∙ ap compact_text e)

@@ -1,3 +1,4 @@
+pub mod Alike
 pub mod Fills
 pub mod Hidden
 pub mod NodeText

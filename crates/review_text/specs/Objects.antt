@@ -3,6 +3,7 @@ use Rattle.std.specs.Prelude.{ℕ, List, [], ◌∷◌, ◌++◌, Option, Some, 
 use Rattle.serde_json.specs.Data.{Data, null, number, unsigned, string, object, Members, member, no_members, put}
 use Rattle.serde_json.specs.Written.{compact_text}
 use Rattle.yaml_place.specs.declared.place.Place.{Place}
+use Rattle.review_text.specs.Hidden.{json_visible}
 use Rattle.review_text.specs.declared.json.Said.{Said}
 use Rattle.review_text.specs.declared.json.Said.TheVariants as said
 
@@ -29,6 +30,6 @@ abbrev pub with_members : List (List ℕ × Data) → Members → Members
 with_members [] ms = ms
 with_members (m ∷ given) ms = with_members given (put m.0 m.1 ms)
 
--- an object in one line
+-- an object in one line, with escapes for what a terminal does not show
 abbrev pub object_line : List (List ℕ × Data) → List ℕ
-object_line given = compact_text (object (with_members given no_members)) ++ codes "\n"
+object_line given = json_visible (compact_text (object (with_members given no_members))) ++ codes "\n"

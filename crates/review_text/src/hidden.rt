@@ -1,7 +1,7 @@
-//! Texts in which a terminal shows each character.
-ghost use Rattle.std.specs.Prelude.{◌≡◌, ◌<◌, ◌++◌, string_bytes, OnOk, IfErr};
+//! Texts in which a terminal shows each character, as they are and in JSON.
+ghost use Rattle.std.specs.Prelude.{◌≡◌, ◌<◌, ◌++◌, ◌||◌, string_bytes, OnOk, IfErr};
 ghost use Rattle.std.specs.Str.{encode_utf8_all};
-ghost use Rattle.review_text.specs.Hidden.{is_hidden_low, is_hidden_high, is_hidden, two_digits, escape_text, visible_char, visible};
+ghost use Rattle.review_text.specs.Hidden.{is_hidden_low, is_hidden_high, is_hidden, is_control_high, two_digits, escape_text, visible_char, visible, ascii_char, ascii, json_escape, json_char, escaped_char, escaped, json_visible};
 
 use yaml_text::digit::hex_digit;
 use yaml_text::fault::Fault;
@@ -66,8 +66,42 @@ fn put_escape(out: &mut String, code: u32) -> Result<(), Fault>
     }
 }
 
+/// Whether a character is DEL or a control above it, which JSON may have as it is.
+fn is_control_high(c: char) -> bool
+    ensures { result ≡ is_control_high c }
+{
+    matches!(c, '\u{7F}'..='\u{9F}')
+}
+
+/// Writes the escape of a character in JSON (RFC 8259, 7): two escapes for one above U+FFFF.
+#[tactic(auto, using(crate::proofs::HiddenLaws::two_escapes))]
+fn put_json_escape(out: &mut String, code: u32) -> Result<(), Fault>
+    requires { code < 1114112 }
+    ensures ok { OnOk result (string_bytes out.new ≡ string_bytes out.old ++ encode_utf8_all (json_escape code)) }
+    ensures err { IfErr result (λ fault. fault ≡ Fault.OutOfMemory) }
+{
+    if code < 65_536 {
+        return put_escape(out, code);
+    }
+    put_escape(out, 55_296 + (code - 65_536) / 1_024)?;
+    put_escape(out, 56_320 + code % 1_024)
+}
+
+/// Writes a character of JSON, or its escape if a terminal does not show it.
+fn put_json_char(out: &mut String, c: char) -> Result<(), Fault>
+    ensures ok { OnOk result (string_bytes out.new ≡ string_bytes out.old ++ encode_utf8_all (json_char c)) }
+    ensures err { IfErr result (λ fault. fault ≡ Fault.OutOfMemory) }
+{
+    if is_control_high(c) || is_hidden(c) {
+        put_json_escape(out, u32::from(c))
+    } else {
+        out.push(c)?;
+        Ok(())
+    }
+}
+
 /// Writes a character, or its escape if it is hidden.
-fn put_char(out: &mut String, c: char) -> Result<(), Fault>
+fn put_visible_char(out: &mut String, c: char) -> Result<(), Fault>
     ensures ok { OnOk result (string_bytes out.new ≡ string_bytes out.old ++ encode_utf8_all (visible_char c)) }
     ensures err { IfErr result (λ fault. fault ≡ Fault.OutOfMemory) }
 {
@@ -79,14 +113,74 @@ fn put_char(out: &mut String, c: char) -> Result<(), Fault>
     }
 }
 
+/// Writes a character of ASCII, or the escape of another.
+fn put_ascii_char(out: &mut String, c: char) -> Result<(), Fault>
+    ensures ok { OnOk result (string_bytes out.new ≡ string_bytes out.old ++ encode_utf8_all (ascii_char c)) }
+    ensures err { IfErr result (λ fault. fault ≡ Fault.OutOfMemory) }
+{
+    if u32::from(c) < 128 {
+        out.push(c)?;
+        Ok(())
+    } else {
+        put_escape(out, u32::from(c))
+    }
+}
+
+/// What a text is, and so which of its characters have escapes.
+#[derive(Clone, Copy)]
+enum Kind {
+    /// A text of a node, or another one that is read by people.
+    Node,
+    /// The same, where the text is to be told from another that looks like it.
+    Ascii,
+    Json,
+}
+
+/// Writes a character of a text, or its escape.
+fn put_char(out: &mut String, c: char, kind: Kind) -> Result<(), Fault>
+    ensures ok { OnOk result (string_bytes out.new ≡ string_bytes out.old ++ encode_utf8_all (escaped_char kind c)) }
+    ensures err { IfErr result (λ fault. fault ≡ Fault.OutOfMemory) }
+{
+    match kind {
+        Kind::Node => put_visible_char(out, c),
+        Kind::Ascii => put_ascii_char(out, c),
+        Kind::Json => put_json_char(out, c),
+    }
+}
+
+/// Writes a text with escapes for some of its characters.
+fn put_escaped(out: &mut String, text: &str, kind: Kind) -> Result<(), Fault>
+    ensures ok { OnOk result (string_bytes out.new ≡ string_bytes out.old ++ escaped kind text.now) }
+    ensures err { IfErr result (λ fault. fault ≡ Fault.OutOfMemory) }
+{
+    'chars: for c in text.chars() {
+        put_char(out, c, kind)?;
+    }
+    Ok(())
+}
+
 /// Writes a text with the escape of each hidden character (YAML 1.2.2, 5.7). In the text of a node these stand between double quotes
 /// alone, where the escape is read as the character.
 pub fn put_visible(out: &mut String, text: &str) -> Result<(), Fault>
     ensures ok { OnOk result (string_bytes out.new ≡ string_bytes out.old ++ visible text.now) }
     ensures err { IfErr result (λ fault. fault ≡ Fault.OutOfMemory) }
 {
-    'chars: for c in text.chars() {
-        put_char(out, c)?;
-    }
-    Ok(())
+    put_escaped(out, text, Kind::Node)
+}
+
+/// Writes a text of a node with the escape of each character outside ASCII (YAML 1.2.2, 5.7).
+pub(crate) fn put_ascii(out: &mut String, text: &str) -> Result<(), Fault>
+    ensures ok { OnOk result (string_bytes out.new ≡ string_bytes out.old ++ ascii text.now) }
+    ensures err { IfErr result (λ fault. fault ≡ Fault.OutOfMemory) }
+{
+    put_escaped(out, text, Kind::Ascii)
+}
+
+/// Writes a text of JSON with the escape of each character that a terminal does not show. Such characters stand in strings alone, where
+/// the escape is read as the character.
+pub fn put_json(out: &mut String, text: &str) -> Result<(), Fault>
+    ensures ok { OnOk result (string_bytes out.new ≡ string_bytes out.old ++ json_visible text.now) }
+    ensures err { IfErr result (λ fault. fault ≡ Fault.OutOfMemory) }
+{
+    put_escaped(out, text, Kind::Json)
 }

@@ -4,7 +4,7 @@ ghost use Rattle.serde_json.specs.Data.{object, no_members};
 ghost use Rattle.serde_json.specs.View.{view};
 ghost use Rattle.review_text.specs.Objects.{place_data, said_data, with_members, object_line};
 
-use crate::text::put_all;
+use crate::hidden::put_json;
 use serde_json::{Map, Value, put};
 use std::alloc::Global;
 use yaml_place::Place;
@@ -77,5 +77,7 @@ pub fn put_object(
     ensures err { IfErr result (λ fault. fault ≡ Fault.OutOfMemory) }
 {
     let line = object_of(alloc, members)?.to_string(alloc)?;
-    put_all(out, &[line.as_str(), "\n"])
+    put_json(out, line.as_str())?;
+    out.push_str("\n")?;
+    Ok(())
 }

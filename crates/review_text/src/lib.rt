@@ -1,6 +1,7 @@
 //! The texts that `yamlreview` prints: nodes, paths, source lines, words for warnings.
 #![tactic(auto)]
 
+pub mod alike;
 pub mod both;
 pub mod fronts;
 pub mod hidden;
@@ -13,4 +14,4 @@ pub mod yaml11;
 
 pub use both::Both;
 pub use fronts::put_shown;
-pub use hidden::put_visible;
+pub use hidden::{put_json, put_visible};

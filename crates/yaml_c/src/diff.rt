@@ -38,8 +38,11 @@ pub extern "C" fn yaml_c_diff(
         Err((side, refusal)) => return refuse(side, refusal, fault),
     };
     let status = put_text(told.text.as_str().as_bytes(), out, len);
-    if status == DONE && !told.same {
-        return DIFFERENT;
+    if status != DONE {
+        return status;
     }
-    status
+    if told.same {
+        return DONE;
+    }
+    DIFFERENT
 }

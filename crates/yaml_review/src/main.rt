@@ -4,7 +4,7 @@
 mod pipe;
 
 use crate::pipe::{Messages, Output};
-use review_command::arguments::words_of;
+use review_command::arguments::{has_color, words_of};
 use review_command::command::command;
 use review_files::telling::tell_no_words;
 use std::cell::Cell;
@@ -31,7 +31,7 @@ fn main(rt: HostRuntime) -> ExitCode {
             rt.stdin(),
             out,
             err,
-            rt.stdout().is_terminal(),
+            has_color(&rt, rt.stdout().is_terminal()),
         ),
         Err(fault) => tell_no_words(fault, err),
     };

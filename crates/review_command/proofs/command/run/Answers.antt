@@ -56,8 +56,3 @@ returns-in-Git g c =
       no_write = c.new-out-in-Git.ensures.faults;
       ends = rw c.deref-in-Git.ensures.value at c.git.ensures;
     })
-
-pub returns-in-Merge : goal.returns-in-Merge
-returns-in-Merge g c =
-    subst (λ z. Does (g.S.Shelf.holds c.args.shelf.now) g.R.Read.remaining g.W.Write.contents g.E.Write.contents z c.args.input c.args.out c.args.err c.merge.result) (sym c.in-Merge.is)
-    c.merge.ensures

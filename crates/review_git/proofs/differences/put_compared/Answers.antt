@@ -6,5 +6,5 @@ pub returns-in_ok-push_str-in-Ok-clause-ok : goal.returns-in_ok-push_str-in-Ok-c
 returns-in_ok-push_str-in-Ok-clause-ok c = (
   string_bytes c.in-Ok.told.text,
   c.in_ok-push_str-in-Ok.ensures.bytes ∙ ap (λ z. string_bytes c.args.out.now ++ z) c.deref.ensures,
-  compared c.args.left c.args.right c.args.first.now c.args.second.now _ c.lines_of.result c.in-Ok.told.same c.lines_of.ensures (c.in-Ok.ensures.same refl) c.in-Ok.ensures.lines,
+  compared c.args.color c.args.left c.args.right c.args.first.now c.args.second.now _ c.lines_of-asked.result c.in-Ok.told.same c.lines_of-asked.ensures (c.in-Ok.ensures.same refl) c.in-Ok.ensures.lines,
 )

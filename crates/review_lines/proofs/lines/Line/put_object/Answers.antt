@@ -1,5 +1,5 @@
 use Rattle.review_lines.proofs.LineLaws.{ten_put}
-use Rattle.review_lines.proofs.lines.Line.put_json.Goals as goal
+use Rattle.review_lines.proofs.lines.Line.put_object.Goals as goal
 
 pub returns-clause-ok : goal.returns-clause-ok
 returns-clause-ok c =

@@ -1,0 +1,17 @@
+use Rattle.std.proofs.lemmas.List.{nil_from_length}
+use Rattle.std.proofs.lemmas.Str.{IsUtf8-past_char}
+use Rattle.review_text.specs.Alike.{seen_char}
+use Rattle.review_text.proofs.HiddenLaws.{spelled_next, spelled_all}
+use Rattle.review_text.proofs.alike.put_look.Goals as goal
+
+pub chars-preserved : goal.chars-preserved
+chars-preserved c =
+    let v = c.chars.invariant in
+    let s = c.in-Some.ensures.steps.0 in
+    record {
+      utf8 = IsUtf8-past_char _ _ c.in-Some.c v.utf8 s;
+      put = spelled_next seen_char _ _ c.in-Some.c _ _ _ v.utf8 s v.put c.in_ok-put_seen.ensures.ok;
+    }
+
+pub returns-clause-ok : goal.returns-clause-ok
+returns-clause-ok c = spelled_all seen_char _ _ _ (nil_from_length _ c.in-None.ensures.steps.0.0) c.chars.invariant.put
