@@ -10,6 +10,7 @@ class Place:
 
     def __init__(self, name: str, cycle: str | None, folders: list[str], path: str, first: int, last: int) -> None:
         self.name, self.cycle, self.folders, self.path, self.first, self.last = name, cycle, folders, path, first, last
+        self.is_public = False
 
     def __eq__(self, other: object) -> bool:
         return isinstance(other, Place) and self.name == other.name
@@ -79,7 +80,9 @@ def function_at(text: str, path: str, crate: str, start: int, length: int) -> Pl
         if top <= first and last <= end:
             home = module_of(text, module, owner) if found[1] and owner else module
             room = home + ([owner] if found[1] and owner else [])
-            return place_of(crate, home, room, found[2], cycle, path, top + 1, end + 1)
+            place = place_of(crate, home, room, found[2], cycle, path, top + 1, end + 1)
+            place.is_public = line.lstrip().startswith("pub ")
+            return place
     return None
 
 

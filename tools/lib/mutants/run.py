@@ -82,13 +82,26 @@ def one_of_each_function(mutants: list[Mutant]) -> list[Mutant]:
     return chosen
 
 
+def of_the_gate_in(mutants: list[Mutant]) -> list[Mutant]:
+    """Of a crate: one of each public function that has any, one of each file that has none of these, and those that cannot be tried."""
+    first = one_of_each_function(mutants)
+    chosen = [it for it in first if it.why or any(place.is_public for place in it.places)]
+    files = {place.path for it in chosen for place in it.places}
+    for mutant in first:
+        paths = {place.path for place in mutant.places}
+        if mutant not in chosen and not paths <= files:
+            chosen.append(mutant)
+            files |= paths
+    return chosen
+
+
 def of_the_gate(root: str, since: str | None) -> Asked:
-    """The mutants that a gate tries: one of each function, in the crates that changed since a commit, or in all where git does not know it."""
+    """The mutants that a gate tries, in the crates that changed since a commit, or in all where git does not know it."""
     changed = changed_crates(root, since)
     if changed is None:
         print("mutants: git knows no commit to compare with, so those of all crates are tried", flush=True)
     every = mutants_asked(root, [], None)
-    return {crate: one_of_each_function(mutants) for crate, mutants in every.items() if changed is None or crate in changed}
+    return {crate: of_the_gate_in(mutants) for crate, mutants in every.items() if changed is None or crate in changed}
 
 
 def weight(root: str, crate: str, mutants: list[Mutant]) -> int:
