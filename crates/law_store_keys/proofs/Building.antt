@@ -7,13 +7,13 @@ use Rattle.std.specs.declared.borrow.CowStr.TheVariants.{Borrowed}
 use Rattle.std.proofs.lemmas.Option.{get_or_from_slice_get}
 use denote.RawPtr.{null_ptr}
 use Rattle.yaml_definitions.specs.model.Tree.{Tree, Trees, Pairs, scalar, sequence, mapping, end, item, done, entry}
-use Rattle.yaml_graph.specs.TreeLists.{trees, pairs}
+use Rattle.yaml_tree.specs.TreeLists.{trees, pairs}
 use Rattle.yaml_graph.specs.GraphModel.{Entries, trees_at, entries_at, node_tree, more_trees, PartsBelow}
-use Rattle.yaml_graph.specs.declared.node.NodeId.{NodeId}
+use Rattle.yaml_tree.specs.declared.node.NodeId.{NodeId}
 use Rattle.yaml_graph.specs.declared.node.Node.{Node}
 use Rattle.yaml_graph.specs.declared.node.NodeKind.TheVariants as kinds
-use Rattle.yaml_rank.proofs.Numbering.{get-within}
-use Rattle.law_store_keys.specs.Keys.{listed, pairs_listed}
+use Rattle.yaml_tree.proofs.Numbering.{get-within}
+use Rattle.yaml_tree.specs.Keys.{listed, pairs_listed}
 use Rattle.law_store_keys.specs.Laws.{Holdable, PartsHoldable}
 use Rattle.law_store_keys.proofs.Grounding.{EachStands, PairsStand, PartsStand, Behind}
 

@@ -8,18 +8,20 @@ use Rattle.yaml_definitions.specs.model.Tree.{Tree, Trees, Pairs, sequence, mapp
 use Rattle.yaml_definitions.specs.model.Serial.{SerialNode, alias_at, scalar_at, sequence_at, mapping_at, Document}
 use Rattle.yaml_definitions.specs.model.Core.{collection_tag}
 use Rattle.yaml_definitions.specs.model.Unfold.{Table, and_then, placed, opened, closed, last_named, event_count, unfold_node, unfold_all, unfold_pairs, trees_from, trees_of}
-use Rattle.yaml_graph.specs.Closing.{trees_inside, trees_inside_all, trees_inside_pairs, stream_trees}
+use Rattle.yaml_tree.specs.Closing.{trees_inside, trees_inside_all, trees_inside_pairs, stream_trees}
 use Rattle.yaml_graph.specs.Composed.{Composed}
-use Rattle.yaml_graph.proofs.ClosingLaws.{low-stream}
-use Rattle.yaml_graph.specs.GraphModel.{AreLow, trees_at, trees_in}
+use Rattle.yaml_tree.proofs.ClosingLaws.{low-stream}
+use Rattle.yaml_tree.specs.TreeLists.{AreLow}
+use Rattle.yaml_graph.specs.GraphModel.{trees_at, trees_in}
 use Rattle.yaml_graph.specs.declared.node.Node.{Node}
 use Rattle.yaml_graph.specs.declared.graph.Graph.{Graph}
 use Rattle.yaml_graph.specs.GraphView.{nodes_of, roots_of}
 use Rattle.yaml_graph.specs.JoinModel.{raised}
-use Rattle.yaml_graph.specs.declared.node.NodeId.{NodeId}
-use Rattle.yaml_graph.proofs.GraphLaws.{get-more, trees-length}
+use Rattle.yaml_tree.specs.declared.node.NodeId.{NodeId}
+use Rattle.yaml_tree.proofs.Lists.{get-more}
+use Rattle.yaml_graph.proofs.GraphLaws.{trees-length}
 use Rattle.yaml_graph.proofs.JoinLaws.{rooted-both}
-use Rattle.yaml_graph.proofs.LowLaws.{Low, low-each, heights-low}
+use Rattle.yaml_tree.proofs.LowLaws.{Low, low-each, heights-low}
 use Rattle.law_store_keys.specs.Laws.{Holdable, PartsHoldable, AreHoldable, HaveJoined}
 use Rattle.law_store_keys.proofs.Grounding.{then-found, found-is, EachStands, Behind, behind-both, stream-behind}
 use Rattle.law_store_keys.proofs.Building.{vector, places, places-count, places-tell, places-below, AllHoldable, nodes_for, nodes-count, nodes-tell, nodes-below}

@@ -7,9 +7,9 @@ use Rattle.yaml_definitions.specs.model.Event.{Anchor}
 use Rattle.yaml_definitions.specs.model.Serial.{SerialNode, SerialNodes, SerialPairs, alias_at, scalar_at, sequence_at, mapping_at, end_serial, item_serial, done_serial, entry_serial, Document}
 use Rattle.yaml_definitions.specs.model.Core.{Cause, resolve, collection_tag}
 use Rattle.yaml_definitions.specs.model.Unfold.{Outcome, Table, and_then, placed, or_else, opened, closed, last_named, tree_named, event_count, unfold_node, unfold_all, unfold_pairs, trees_from}
-use Rattle.yaml_graph.specs.Closing.{trees_inside, trees_inside_all, trees_inside_pairs, stream_trees}
-use Rattle.yaml_graph.proofs.GraphLaws.{get-more, get-end}
-use Rattle.law_store_keys.specs.Keys.{listed, pairs_listed, items_of, pairs_of}
+use Rattle.yaml_tree.specs.Closing.{trees_inside, trees_inside_all, trees_inside_pairs, stream_trees}
+use Rattle.yaml_tree.proofs.Lists.{get-more, get-end}
+use Rattle.yaml_tree.specs.Keys.{listed, pairs_listed, items_of, pairs_of}
 
 -- ---- trees that stand in a list
 

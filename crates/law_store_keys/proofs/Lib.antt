@@ -2,4 +2,4 @@ pub mod Grounding
 pub mod Building
 pub mod Graphs
 pub mod Repeats
-pub mod NumberLaws
+pub mod Holding

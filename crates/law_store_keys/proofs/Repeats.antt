@@ -1,5 +1,5 @@
 -- Equal keys of nodes, by their trees.
-use Rattle.std.proofs.Common.{◌≡◌, ◌⊎◌, inl, inr, ◌<◌, ◌≤◌, ℕ, List, [], ◌∷◌, length, map, refl, sym, ◌∙◌, ap, subst, arith}
+use Rattle.std.proofs.Common.{◌≡◌, ◌⊎◌, inl, inr, ◌<◌, ◌≤◌, ℕ, List, [], length, map, refl, sym, ◌∙◌, ap, subst, arith}
 use Rattle.std.specs.Prelude.{Some}
 use Rattle.std.specs.List.{slice_get}
 use Rattle.std.specs.Cow.{cow_str_bytes}
@@ -8,12 +8,18 @@ use Rattle.std.specs.declared.cmp.Ordering.TheVariants.{Less, Equal, Greater}
 use Rattle.std.specs.Ordering.{nat_cmp}
 use Rattle.std.proofs.lemmas.Option.{get_or_from_slice_get}
 use Rattle.yaml_definitions.specs.model.Tree.{Tree, scalar, height}
-use Rattle.yaml_definitions.specs.model.Same.{Same}
 use Rattle.yaml_text.specs.declared.fault.Fault.TheVariants.{EqualKeys}
-use Rattle.yaml_graph.specs.TreeLists.{pairs}
-use Rattle.yaml_graph.specs.GraphModel.{tree_at, kind_tree, entries_of}
+use Rattle.yaml_tree.specs.TreeLists.{tree_at}
+use Rattle.yaml_tree.specs.declared.node.NodeId.{NodeId}
+use Rattle.yaml_tree.specs.View.{View, Repeats, IsFirst}
+use Rattle.yaml_tree.specs.Keys.{pairs_of, TreeRepeats}
+use Rattle.yaml_tree.specs.Numbers.{Numbers}
+use Rattle.yaml_tree.proofs.Repeats.{listed-pairs, to-tree, from-tree, view-to, view-from}
+use Rattle.yaml_tree.proofs.Lists.{get-some}
+use Rattle.yaml_tree.proofs.Numbering.{get-within}
+use Rattle.yaml_tree.proofs.Numbers.{less-cmp, equal-cmp, greater-cmp}
+use Rattle.yaml_graph.specs.GraphModel.{kind_tree, entries_of}
 use Rattle.yaml_graph.specs.GraphView.{nodes_of, graph_trees, tree}
-use Rattle.yaml_graph.specs.declared.node.NodeId.{NodeId}
 use Rattle.yaml_graph.specs.declared.node.Node.{Node}
 use Rattle.yaml_graph.specs.declared.node.NodeKind.{NodeKind}
 use Rattle.yaml_graph.specs.declared.node.NodeKind.TheVariants as kinds
@@ -21,70 +27,7 @@ use Rattle.yaml_graph.specs.declared.graph.Graph.{Graph}
 use Rattle.yaml_graph.proofs.GraphLaws.{node-tree, trees-length}
 use Rattle.yaml_rank.specs.RankModel.{EqualAt}
 use Rattle.yaml_rank.specs.RanksView.{RefusesGraph}
-use Rattle.yaml_rank.specs.View.{View, Inside, content, items, entries, entries_in, inside_tree, Repeats, IsFirst}
-use Rattle.yaml_rank.proofs.GraphOf.{get-map, get-unmap}
-use Rattle.yaml_rank.proofs.LevelLaws.{get-some}
-use Rattle.yaml_rank.proofs.Numbering.{get-within}
-use Rattle.yaml_rank.proofs.Numbers.{less-cmp, equal-cmp, greater-cmp}
-use Rattle.law_store_keys.specs.Keys.{pairs_listed, pairs_of, TreeRepeats}
-use Rattle.law_store_keys.specs.Numbers.{Numbers}
 use Rattle.law_store_keys.specs.Laws.{NoneBefore}
-
-listed-pairs : (ps : List (Tree × Tree)) → pairs_listed (pairs ps) ≡ ps
-listed-pairs [] = refl
-listed-pairs (p ∷ ps) = ap (λ qs. p ∷ qs) (listed-pairs ps)
-
--- ---- entries that stand for a tree's pairs
-
--- entries whose keys' trees are equal
-record Equals {X : Type 0} (f : X → Tree × Tree) (es : List X) (first second : ℕ) : Type 0 where
-  in_order : first < second
-  earlier : X
-  later : X
-  earlier_is : slice_get es first ≡ Some earlier
-  later_is : slice_get es second ≡ Some later
-  equal : Same (f earlier).0 (f later).0
-
-module _ {X : Type 0} (f : X → Tree × Tree) (es : List X) (t : Tree) (are : pairs_of t ≡ map f es) where
-  to-tree : (first second : ℕ) → Equals f es first second → TreeRepeats t first second
-  to-tree first second e = record {
-    in_order = e.in_order;
-    earlier = f e.earlier;
-    later = f e.later;
-    earlier_is = ap (λ ps. slice_get ps first) are ∙ get-map f es first e.earlier e.earlier_is;
-    later_is = ap (λ ps. slice_get ps second) are ∙ get-map f es second e.later e.later_is;
-    equal = e.equal;
-  }
-
-  from-tree : (first second : ℕ) → TreeRepeats t first second → Equals f es first second
-  from-tree first second r =
-      let x = get-unmap f es first r.earlier (ap (λ ps. slice_get ps first) (sym are) ∙ r.earlier_is) in
-      let y = get-unmap f es second r.later (ap (λ ps. slice_get ps second) (sym are) ∙ r.later_is) in
-      record { in_order = r.in_order; earlier = x.0; later = y.0; earlier_is = x.1; later_is = y.1; equal = subst (λ p. Same p.0 (f y.0).0) (sym x.2) (subst (λ p. Same r.earlier.0 p.0) (sym y.2) r.equal) }
-
--- ---- nodes of a view
-
-abbrev entry_trees : (ℕ → Tree) → ℕ × ℕ → Tree × Tree
-entry_trees t p = (t p.0, t p.1)
-
-inside-pairs : (t : ℕ → Tree) (g : List ℕ) (inside : Inside) → pairs_of (inside_tree t g inside) ≡ map (entry_trees t) (entries_in inside)
-inside-pairs t g (content x) = refl
-inside-pairs t g (items is) = refl
-inside-pairs t g (entries es) = listed-pairs (map (entry_trees t) es)
-
-module _ (v : View) (n : ℕ) (within : n < v.count) where
-  view-pairs : pairs_of (v.tree n) ≡ map (entry_trees v.tree) (entries_in (v.inside n))
-  view-pairs = ap pairs_of (v.made n within) ∙ inside-pairs v.tree (v.tag n) (v.inside n)
-
-  pub view-to : (first second : ℕ) → Repeats v n first second → TreeRepeats (v.tree n) first second
-  view-to first second r =
-      to-tree (entry_trees v.tree) (entries_in (v.inside n)) (v.tree n) view-pairs first second
-      (record { in_order = r.in_order; earlier = r.earlier; later = r.later; earlier_is = r.earlier_is; later_is = r.later_is; equal = r.equal })
-
-  pub view-from : (first second : ℕ) → TreeRepeats (v.tree n) first second → Repeats v n first second
-  view-from first second r =
-      let e = from-tree (entry_trees v.tree) (entries_in (v.inside n)) (v.tree n) view-pairs first second r in
-      record { within = within; in_order = e.in_order; earlier = e.earlier; later = e.later; earlier_is = e.earlier_is; later_is = e.later_is; equal = e.equal }
 
 -- ---- nodes of a graph
 

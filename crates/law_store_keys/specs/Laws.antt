@@ -5,17 +5,17 @@ use Rattle.yaml_definitions.specs.model.Tree.{Tree}
 use Rattle.yaml_definitions.specs.model.Serial.{Document}
 use Rattle.yaml_definitions.specs.model.Unfold.{trees_of}
 use Rattle.yaml_text.specs.declared.fault.Fault.TheVariants.{EqualKeys}
-use Rattle.yaml_graph.specs.GraphModel.{AreLow, tree_at}
+use Rattle.yaml_tree.specs.TreeLists.{AreLow, tree_at}
 use Rattle.yaml_graph.specs.GraphView.{nodes_of, graph_trees, tree}
 use Rattle.yaml_graph.specs.JoinModel.{Joined}
 use Rattle.yaml_graph.specs.declared.graph.Graph.{Graph}
-use Rattle.yaml_graph.specs.Closing.{stream_trees}
+use Rattle.yaml_tree.specs.Closing.{stream_trees}
 use Rattle.yaml_graph.specs.Composed.{Composed}
 use Rattle.yaml_rank.specs.RankModel.{EqualAt}
 use Rattle.yaml_rank.specs.RanksView.{RefusesGraph}
-use Rattle.yaml_rank.specs.View.{View, Repeats, IsFirst}
-use Rattle.law_store_keys.specs.Keys.{items_of, pairs_of, TreeRepeats}
-use Rattle.law_store_keys.specs.Numbers.{Numbers}
+use Rattle.yaml_tree.specs.View.{View, Repeats, IsFirst}
+use Rattle.yaml_tree.specs.Keys.{items_of, pairs_of, TreeRepeats}
+use Rattle.yaml_tree.specs.Numbers.{Numbers}
 
 -- a vector may have so many elements
 abbrev pub Holdable : ℕ → Type 0

@@ -7,8 +7,8 @@ ghost use Rattle.review_folds.specs.Folds.{OfSameNodes, OfSameAt, TellsFor, Tell
 use std::alloc::Global;
 use std::collections::BTreeMap;
 use yaml_diff::Difference;
-use yaml_graph::node::NodeId;
 use yaml_text::fault::Fault;
+use yaml_tree::node::NodeId;
 
 /// What is changed, as a number of either side: differences of one cause are one change, which aliases show at several paths.
 pub type Cause = (usize, usize);

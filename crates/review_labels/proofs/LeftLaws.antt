@@ -6,9 +6,9 @@ use Rattle.std.proofs.lemmas.Bool.{cases_lt}
 use Rattle.std.proofs.lemmas.List.{length-take-le}
 use Rattle.std.proofs.lemmas.Option.{slice_get_past}
 use Rattle.yaml_definitions.specs.model.Tree.{Tree}
-use Rattle.yaml_graph.specs.TreeLists.{trees}
+use Rattle.yaml_tree.specs.TreeLists.{trees}
 use Rattle.yaml_graph.specs.GraphView.{nodes_of, roots_of, tree}
-use Rattle.yaml_graph.specs.declared.node.NodeId.{NodeId}
+use Rattle.yaml_tree.specs.declared.node.NodeId.{NodeId}
 use Rattle.yaml_graph.specs.declared.graph.Graph.{Graph}
 use Rattle.yaml_rank.specs.RanksView.{RanksAre, numbers_of}
 use Rattle.yaml_rank.specs.declared.ranks.Ranks.{Ranks}

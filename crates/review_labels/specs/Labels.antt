@@ -5,7 +5,7 @@ use Rattle.yaml_definitions.specs.model.Tree.{Tree, scalar, sequence, mapping}
 use Rattle.yaml_definitions.specs.model.Same.{same}
 use Rattle.yaml_definitions.specs.model.Tag.{str_tag}
 use Rattle.yaml_graph.specs.GraphView.{nodes_of, roots_of, tree}
-use Rattle.yaml_graph.specs.declared.node.NodeId.{NodeId}
+use Rattle.yaml_tree.specs.declared.node.NodeId.{NodeId}
 use Rattle.yaml_graph.specs.declared.graph.Graph.{Graph}
 use Rattle.yaml_rank.specs.RanksView.{rank_of}
 use Rattle.yaml_rank.specs.declared.ranks.Ranks.{Ranks}

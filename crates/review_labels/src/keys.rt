@@ -8,10 +8,11 @@ ghost use Rattle.review_labels.specs.Labels.{string, IsRankOf, IsKey, AreEach};
 
 use review_text::both::Both;
 use std::alloc::Global;
-use yaml_graph::node::{NodeId, NodeKind};
+use yaml_graph::node::NodeKind;
 use yaml_pair::TABLE;
 use yaml_text::core_tag;
 use yaml_text::fault::Fault;
+use yaml_tree::node::NodeId;
 
 /// The key of the table that names what `metadata` stands in, too.
 const NAME: &str = "name";

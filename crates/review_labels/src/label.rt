@@ -12,8 +12,8 @@ use review_text::both::Both;
 use review_text::text::{node_text, put_all};
 use std::alloc::Global;
 use yaml_diff::Step;
-use yaml_graph::node::NodeId;
 use yaml_text::fault::Fault;
+use yaml_tree::node::NodeId;
 
 /// What an item is called: the words that name it and their value or, where it has no name, its own text.
 fn put_item(

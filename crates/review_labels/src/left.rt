@@ -10,7 +10,7 @@ ghost use Rattle.review_labels.specs.Labels.{left_below, left_tree};
 use crate::values::{count_in, item_in, node_at, value_in};
 use review_text::both::Both;
 use yaml_diff::Step;
-use yaml_graph::node::NodeId;
+use yaml_tree::node::NodeId;
 
 /// The left document at a place.
 fn left_document(both: &Both<'_>, place: usize) -> Option<NodeId>

@@ -8,7 +8,7 @@ ghost use Rattle.review_labels.specs.Labels.{value_of, if_scalar, first_name, me
 use crate::keys::{Key, Keys};
 use crate::values::{is_scalar, value_in};
 use review_text::both::Both;
-use yaml_graph::node::NodeId;
+use yaml_tree::node::NodeId;
 
 /// The value of a key in an item, if it is a scalar.
 #[tactic(auto, using(crate::proofs::NameLaws::scalar_none, crate::proofs::NameLaws::scalar_then, crate::proofs::NameLaws::scalar_else))]

@@ -12,7 +12,8 @@ ghost use Rattle.review_labels.specs.Labels.{is_scalar, IsRankOf};
 
 use review_text::both::Both;
 use yaml_diff::value_of;
-use yaml_graph::node::{NodeId, NodeKind};
+use yaml_graph::node::NodeKind;
+use yaml_tree::node::NodeId;
 
 /// The value of the keys of this rank in a mapping. Another node has none.
 #[tactic(auto, using(crate::proofs::ValueLaws::key_none, crate::proofs::ValueLaws::value_by, crate::proofs::ValueLaws::past_part, crate::proofs::ValueLaws::value_within))]

@@ -5,9 +5,9 @@ use Rattle.std.proofs.lemmas.Bool.{eqb-true}
 use Rattle.yaml_definitions.specs.model.Tree.{Tree, sequence}
 use Rattle.yaml_definitions.specs.model.Same.{Same, Keyed, keyed, keyed_trees, Alike}
 use Rattle.yaml_definitions.proofs.Members.{both_and, and_both}
-use Rattle.yaml_graph.specs.TreeLists.{trees}
+use Rattle.yaml_tree.specs.TreeLists.{trees}
 use Rattle.yaml_graph.specs.GraphView.{nodes_of, tree}
-use Rattle.yaml_graph.specs.declared.node.NodeId.{NodeId}
+use Rattle.yaml_tree.specs.declared.node.NodeId.{NodeId}
 use Rattle.yaml_graph.specs.declared.graph.Graph.{Graph}
 use Rattle.yaml_path.specs.Ways.{Pairing}
 use Rattle.yaml_diff.specs.Lines.{line_of, way_of, tree_of}

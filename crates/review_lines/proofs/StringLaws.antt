@@ -10,7 +10,7 @@ use Rattle.yaml_graph.specs.GraphModel.{kind_tree}
 use Rattle.yaml_graph.specs.GraphView.{nodes_of, graph_trees, tree}
 use Rattle.yaml_graph.proofs.GraphLaws.{node-tree}
 use Rattle.yaml_graph.specs.declared.node.Node.{Node}
-use Rattle.yaml_graph.specs.declared.node.NodeId.{NodeId}
+use Rattle.yaml_tree.specs.declared.node.NodeId.{NodeId}
 use Rattle.yaml_graph.specs.declared.node.NodeKind.TheVariants as kinds
 use Rattle.yaml_graph.specs.declared.graph.Graph.{Graph}
 use Rattle.yaml_diff.specs.declared.difference.Difference.{Difference}

@@ -5,7 +5,7 @@ use Rattle.std.specs.Fmt.{decimal}
 use Rattle.yaml_definitions.specs.model.Tree.{scalar}
 use Rattle.yaml_scalar.specs.Spelling.{quoted_bytes}
 use Rattle.yaml_graph.specs.GraphView.{roots_of, tree}
-use Rattle.yaml_graph.specs.declared.node.NodeId.{NodeId}
+use Rattle.yaml_tree.specs.declared.node.NodeId.{NodeId}
 use Rattle.yaml_graph.specs.declared.graph.Graph.{Graph}
 use Rattle.yaml_path.specs.Ways.{Way}
 use Rattle.yaml_path.specs.declared.places.Places.{Places}

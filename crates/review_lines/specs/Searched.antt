@@ -4,7 +4,7 @@ use Rattle.std.specs.List.{list_any}
 use Rattle.yaml_definitions.specs.model.Tree.{height}
 use Rattle.yaml_graph.specs.GraphView.{roots_of, tree}
 use Rattle.yaml_graph.specs.declared.graph.Graph.{Graph}
-use Rattle.yaml_graph.specs.declared.node.NodeId.{NodeId}
+use Rattle.yaml_tree.specs.declared.node.NodeId.{NodeId}
 use Rattle.yaml_diff.specs.Found.{FindsItems, moves_of}
 use Rattle.yaml_diff.specs.declared.difference.Found.{Found}
 use Rattle.review_args.specs.declared.words.Diff.{Diff}

@@ -29,9 +29,9 @@ use review_text::text::{CUT, WHOLE, node_text};
 use review_values::{Members, members_of};
 use std::alloc::Global;
 use yaml_diff::{Difference, Found};
-use yaml_graph::node::NodeId;
 use yaml_place::Place;
 use yaml_text::fault::Fault;
+use yaml_tree::node::NodeId;
 
 /// The text of a node, if there is one.
 fn shown(

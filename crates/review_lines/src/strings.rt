@@ -14,10 +14,11 @@ use review_text::text::front;
 use review_values::Room;
 use std::alloc::Global;
 use yaml_diff::Difference;
-use yaml_graph::node::{NodeId, NodeKind};
+use yaml_graph::node::NodeKind;
 use yaml_scalar::spell::spell_into;
 use yaml_script::{Edit, put_script, script_of};
 use yaml_text::fault::Fault;
+use yaml_tree::node::NodeId;
 
 /// How many bytes before the first difference are shown.
 const LEAD: usize = 20;

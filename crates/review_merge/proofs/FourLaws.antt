@@ -7,12 +7,12 @@ use Rattle.std.proofs.lemmas.Option.{slice_get_within, get_or_from_slice_get}
 use Rattle.yaml_definitions.specs.model.Tree.{Tree}
 use Rattle.yaml_definitions.specs.model.Same.{Keyed, keyed, keyed_trees}
 use Rattle.yaml_definitions.proofs.Members.{both_and}
-use Rattle.yaml_graph.specs.TreeLists.{trees}
-use Rattle.yaml_graph.specs.GraphModel.{tree_at, trees_at}
+use Rattle.yaml_tree.specs.TreeLists.{trees, tree_at}
+use Rattle.yaml_graph.specs.GraphModel.{trees_at}
 use Rattle.yaml_graph.specs.GraphView.{nodes_of, roots_of, graph_trees, tree, forest}
 use Rattle.yaml_graph.specs.JoinModel.{Joined, raised}
 use Rattle.yaml_graph.proofs.GraphLaws.{trees-length}
-use Rattle.yaml_graph.specs.declared.node.NodeId.{NodeId}
+use Rattle.yaml_tree.specs.declared.node.NodeId.{NodeId}
 use Rattle.yaml_graph.specs.declared.graph.Graph.{Graph}
 use Rattle.yaml_diff.specs.Lines.{tree_of}
 use Rattle.yaml_diff.specs.Found.{AllWithin}

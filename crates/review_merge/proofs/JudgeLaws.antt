@@ -7,8 +7,8 @@ use Rattle.yaml_merge.proofs.RuleLaws.{not-true}
 use Rattle.std.specs.List.{slice_get}
 use Rattle.yaml_definitions.specs.model.Tree.{Tree, Trees}
 use Rattle.yaml_definitions.specs.model.Same.{keyed_trees}
-use Rattle.yaml_graph.specs.TreeLists.{trees}
-use Rattle.yaml_graph.specs.declared.node.NodeId.{NodeId}
+use Rattle.yaml_tree.specs.TreeLists.{trees}
+use Rattle.yaml_tree.specs.declared.node.NodeId.{NodeId}
 use Rattle.yaml_graph.specs.declared.graph.Graph.{Graph}
 use Rattle.yaml_diff.specs.Lines.{tree_of}
 use Rattle.yaml_diff.specs.Found.{AllWithin}

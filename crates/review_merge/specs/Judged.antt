@@ -1,9 +1,9 @@
 -- What is found of streams that are merged.
 use Rattle.std.specs.Prelude.{◌≡◌, ◌==◌, Bool, true, false, cond, List, ◌++◌, length, Option, Some, None}
 use Rattle.yaml_definitions.specs.model.Tree.{Tree, Trees}
-use Rattle.yaml_graph.specs.TreeLists.{trees}
+use Rattle.yaml_tree.specs.TreeLists.{trees}
 use Rattle.yaml_graph.specs.GraphView.{roots_of}
-use Rattle.yaml_graph.specs.declared.node.NodeId.{NodeId}
+use Rattle.yaml_tree.specs.declared.node.NodeId.{NodeId}
 use Rattle.yaml_path.specs.Path.{Path}
 use Rattle.yaml_merge.specs.Streams.{StreamBreaks}
 use Rattle.yaml_conflicts.specs.declared.streams.Roots.{Roots}

@@ -8,8 +8,8 @@ ghost use Rattle.review_merge.specs.Judged.{verdict, RootsAre};
 use crate::four::Four;
 use std::alloc::Global;
 use yaml_conflicts::{Outcome, Room, Roots, stream_conflicts};
-use yaml_graph::node::NodeId;
 use yaml_text::fault::Fault;
+use yaml_tree::node::NodeId;
 
 /// Whether nothing is found, which is known if something is found, or all places were looked at.
 pub(crate) fn verdict_of(outcome: &Outcome) -> Option<bool>

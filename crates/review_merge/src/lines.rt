@@ -21,10 +21,10 @@ use review_text::{Both, put_visible};
 use std::alloc::Global;
 use yaml_conflicts::{Conflict, Outcome, Roots, Step};
 use yaml_diff::Step as Shown;
-use yaml_graph::node::NodeId;
 use yaml_path::places::Places;
 use yaml_place::Place;
 use yaml_text::fault::Fault;
+use yaml_tree::node::NodeId;
 
 /// What stands behind lines that are not all.
 const MORE: &str = "...\n";

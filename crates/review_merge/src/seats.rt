@@ -11,9 +11,9 @@ use review_places::trace::trace_of;
 use review_text::Both;
 use std::alloc::Global;
 use yaml_diff::Step;
-use yaml_graph::node::NodeId;
 use yaml_text::chars::Chars;
 use yaml_text::fault::Fault;
+use yaml_tree::node::NodeId;
 
 /// Where the nodes of a stream begin of which these are the bytes.
 fn layout_of(alloc: Global, bytes: &[u8]) -> Result<Layout, Fault>

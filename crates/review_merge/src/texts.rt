@@ -9,8 +9,8 @@ ghost use Rattle.review_merge.specs.Parts.{values_in, node_value, node_texts, bu
 use review_text::Both;
 use review_text::text::{CUT, WHOLE, front, node_text, put_all};
 use std::alloc::Global;
-use yaml_graph::node::NodeId;
 use yaml_text::fault::Fault;
+use yaml_tree::node::NodeId;
 
 /// How many bytes are shown before the place by which a text differs.
 const LEAD: usize = 20;

@@ -14,9 +14,10 @@ use review_text::text::WHOLE;
 use review_text::{put_shown, put_visible};
 use std::alloc::Global;
 use yaml_diff::Step;
-use yaml_graph::node::{NodeId, NodeKind};
+use yaml_graph::node::NodeKind;
 use yaml_text::core_tag;
 use yaml_text::fault::Fault;
+use yaml_tree::node::NodeId;
 
 /// Whether a tag is that of strings.
 #[tactic(auto, unfolding(yaml_definitions::specs::model::Tag::core_tag))]

@@ -9,9 +9,9 @@ ghost use Rattle.review_paths.specs.Pasted.{side_place, filter_char, pointer_cha
 use crate::fit::content_of;
 use review_text::both::Both;
 use yaml_diff::Step;
-use yaml_graph::node::NodeId;
 use yaml_path::places::Places;
 use yaml_text::fault::Fault;
+use yaml_tree::node::NodeId;
 
 /// Writes a character of a string in a filter: `"` and `\` behind a `\`.
 fn put_filter_char(out: &mut String, c: char) -> Result<(), Fault>

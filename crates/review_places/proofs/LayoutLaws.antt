@@ -13,9 +13,8 @@ use Rattle.review_places.specs.declared.trace.Shape.TheVariants.{Scalar, Alias, 
 use Rattle.review_places.specs.Nodes.{Nodes, Open as OpenNodes, ground, nothing, is_alias, aliases_from}
 use Rattle.review_places.specs.Layout.{part_event, node_numbers, alias_events, IsNumbered, Holds, IsWhole, Stands, IsLayout}
 use Rattle.review_places.proofs.NodeLaws.{open-other, open-alias, open-scalar, open-opens, open-within, open-closes, open-none}
-use Rattle.yaml_graph.proofs.GraphLaws.{get-more, get-end}
-use Rattle.yaml_rank.proofs.LevelLaws.{push-get}
-use Rattle.yaml_rank.proofs.Numbering.{get-within}
+use Rattle.yaml_tree.proofs.Lists.{get-more, get-end, push-get}
+use Rattle.yaml_tree.proofs.Numbering.{get-within}
 use Rattle.review_places.proofs.Lists.{set-here, set-there, get-behind}
 
 more-parts : (firsts parts fs ps : List ℕ) (n k p : ℕ) → option_and_then (λ first. slice_get parts (first + k)) (slice_get firsts n) ≡ Some p

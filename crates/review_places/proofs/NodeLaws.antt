@@ -5,7 +5,7 @@ use Rattle.std.specs.List.{slice_get}
 use Rattle.review_places.specs.declared.trace.Shape.{Shape}
 use Rattle.review_places.specs.declared.trace.Shape.TheVariants.{Scalar, Alias, Opens, Closes, Other}
 use Rattle.review_places.specs.Nodes.{Nodes, nothing, other, alias, scalar, collection, Open, ground, inside}
-use Rattle.yaml_rank.proofs.LevelLaws.{push-get}
+use Rattle.yaml_tree.proofs.Lists.{push-get}
 use Rattle.review_places.proofs.Lists.{get-of, ends-same, not-empty}
 
 module _ (s : List Shape) where

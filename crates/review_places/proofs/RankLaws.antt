@@ -6,7 +6,7 @@ use Rattle.std.proofs.lemmas.Bool.{cases_lt}
 use Rattle.std.proofs.lemmas.Option.{slice_get_within, slice_get-get_or, get_or_from_slice_get, unwrap_or-slice_get}
 use Rattle.yaml_graph.specs.GraphModel.{Entries, entries_of}
 use Rattle.yaml_graph.specs.GraphView.{nodes_of}
-use Rattle.yaml_graph.specs.declared.node.NodeId.{NodeId}
+use Rattle.yaml_tree.specs.declared.node.NodeId.{NodeId}
 use Rattle.yaml_rank.specs.RanksView.{numbers_of, rank_of}
 use Rattle.yaml_graph.specs.declared.graph.Graph.{Graph}
 use Rattle.yaml_graph.specs.declared.node.NodeKind.TheVariants.{Sequence, Mapping}

@@ -3,7 +3,7 @@ use Rattle.std.proofs.Common.{◌≡◌, ℕ, ◌+◌, ◌*◌, ◌&&◌, Bool, 
 use Rattle.std.specs.Prelude.{Option, Some, None, IfNone, option_map, option_and_then}
 use Rattle.std.specs.List.{slice_get}
 use Rattle.yaml_graph.specs.GraphModel.{Entries}
-use Rattle.yaml_graph.specs.declared.node.NodeId.{NodeId}
+use Rattle.yaml_tree.specs.declared.node.NodeId.{NodeId}
 use Rattle.yaml_rank.specs.RanksView.{numbers_of}
 use Rattle.yaml_diff.specs.Found.{HasEntries}
 use Rattle.yaml_diff.specs.declared.difference.Step.{Step}

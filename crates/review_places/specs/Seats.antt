@@ -1,7 +1,7 @@
 -- Where the nodes of a stream stand.
 use Rattle.std.specs.Prelude.{◌≡◌, ℕ, ◌+◌, ◌*◌, ◌&&◌, Bool, not, List, [], ◌∷◌, Option, Some, None, slice_get}
 use Rattle.yaml_graph.specs.GraphModel.{Entries}
-use Rattle.yaml_graph.specs.declared.node.NodeId.{NodeId}
+use Rattle.yaml_tree.specs.declared.node.NodeId.{NodeId}
 use Rattle.yaml_rank.specs.RanksView.{numbers_of, RanksAre}
 use Rattle.yaml_path.specs.Ways.{left_place, right_place}
 use Rattle.yaml_path.specs.declared.places.Places.{Places}

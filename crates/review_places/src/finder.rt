@@ -1,6 +1,6 @@
 //! Where the nodes of differences stand.
 ghost use Rattle.std.specs.Prelude.{◌≡◌, ◌+◌, ◌*◌, ◌∷◌, [], ℕ, Some, None, length, nat_lt, slice_get, option_map, IfOk, IfErr, IfSome, IfNone};
-ghost use Rattle.yaml_graph.specs.declared.node.NodeId.{NodeId};
+ghost use Rattle.yaml_tree.specs.declared.node.NodeId.{NodeId};
 ghost use Rattle.yaml_diff.specs.Found.{HasEntries};
 ghost use Rattle.review_places.specs.Layout.{offsets_of, alias_events, node_numbers, node_told};
 ghost use Rattle.review_places.specs.Seats.{layout_of, both_of, place_on, IsRanked, IsValue, LeadsDown, IsRoot, IsPart, IsEnd, EndsNowhere, IsSeat, HasNoSeat, SameStream};
@@ -10,9 +10,10 @@ use crate::layout::Layout;
 use review_text::Both;
 use std::alloc::Global;
 use yaml_diff::Step;
-use yaml_graph::node::{NodeId, NodeKind};
+use yaml_graph::node::NodeKind;
 use yaml_path::places::Places;
 use yaml_text::fault::Fault;
+use yaml_tree::node::NodeId;
 
 /// One of the two streams.
 #[derive(Clone, Copy)]

@@ -12,8 +12,8 @@ ghost use Rattle.review_places.specs.Tables.{rank_at, IsKeyTable, IsTableOf};
 use review_text::Both;
 use std::alloc::Global;
 use std::collections::BTreeMap;
-use yaml_graph::node::NodeId;
 use yaml_text::fault::Fault;
+use yaml_tree::node::NodeId;
 
 /// The ranks of the keys of entries, which rise, each with its entry's place in the file.
 fn key_table(

@@ -23,7 +23,7 @@ use Rattle.yaml_definitions.specs.canonical.TagText.{tag_text, written_tag, full
 use Rattle.yaml_definitions.specs.canonical.CharText.{hex_digit, is_plain, spell_char}
 use Rattle.yaml_scalar.specs.Spelling.{quoted_bytes, spelled_chars}
 use Rattle.yaml_scalar.proofs.SpellingLemmas.{quoted_more, spelled_is}
-use Rattle.yaml_graph.specs.TreeLists.{trees, pairs}
+use Rattle.yaml_tree.specs.TreeLists.{trees, pairs}
 use Rattle.review_text.specs.Fills.{Fills}
 use Rattle.review_text.proofs.Pieces.{drop_next}
 use Rattle.review_text.specs.Shown.{IsLongFront}

@@ -4,8 +4,9 @@ ghost use Rattle.yaml_graph.specs.GraphView.{nodes_of, roots_of};
 ghost use Rattle.yaml_rank.specs.RanksView.{numbers_of, sorted_of};
 
 use yaml_graph::graph::Graph;
-use yaml_graph::node::{Node, NodeId};
+use yaml_graph::node::Node;
 use yaml_rank::ranks::Ranks;
+use yaml_tree::node::NodeId;
 
 /// Two streams in one graph: the documents of the left one, then those of the right one.
 #[derive(Drop)]

@@ -8,7 +8,7 @@ ghost use Rattle.yaml_definitions.specs.model.Tree.{scalar};
 ghost use Rattle.yaml_definitions.specs.model.Order.{arranged};
 ghost use Rattle.yaml_definitions.specs.canonical.NodeText.{items_text, pairs_text};
 ghost use Rattle.yaml_definitions.specs.canonical.TagText.{spell_byte, encoded, full_text};
-ghost use Rattle.yaml_graph.specs.TreeLists.{trees, pairs};
+ghost use Rattle.yaml_tree.specs.TreeLists.{trees, pairs};
 ghost use Rattle.yaml_graph.specs.GraphView.{tree};
 ghost use Rattle.yaml_rank.specs.RankModel.{key_pair};
 ghost use Rattle.yaml_rank.specs.RanksView.{RanksAre};
@@ -20,11 +20,12 @@ ghost use Rattle.review_text.specs.Shown.{front, shown, IsLongFront};
 use crate::both::Both;
 use percent_encoding::percent_encode_byte;
 use std::alloc::Global;
-use yaml_graph::node::{NodeId, NodeKind};
+use yaml_graph::node::NodeKind;
 use yaml_scalar::spell::spell_into;
 use yaml_text::class::is_uri;
 use yaml_text::core_tag;
 use yaml_text::fault::Fault;
+use yaml_tree::node::NodeId;
 
 /// How many bytes a text has that is not cut.
 pub const CUT: usize = 60;

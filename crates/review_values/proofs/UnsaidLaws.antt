@@ -7,7 +7,7 @@ use Rattle.std.proofs.Math.ListN.{drop_of_length-le}
 use Rattle.yaml_definitions.specs.model.Tree.{Tree, Trees, Pairs, scalar, sequence, mapping, height, heights, heights_of_pairs}
 use Rattle.yaml_definitions.specs.model.Tag.{core_tag, str_tag, seq_tag, map_tag}
 use Rattle.yaml_definitions.specs.model.Order.{arranged}
-use Rattle.yaml_graph.specs.TreeLists.{trees, pairs}
+use Rattle.yaml_tree.specs.TreeLists.{trees, pairs}
 use Rattle.yaml_graph.specs.GraphView.{nodes_of, tree}
 use Rattle.yaml_graph.specs.declared.node.Node.{Node}
 use Rattle.yaml_graph.specs.declared.node.NodeKind.{NodeKind}

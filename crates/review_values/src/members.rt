@@ -9,8 +9,8 @@ use crate::value::value_text;
 use review_text::Both;
 use std::alloc::Global;
 use yaml_diff::Difference;
-use yaml_graph::node::NodeId;
 use yaml_text::fault::Fault;
+use yaml_tree::node::NodeId;
 
 /// A difference as JSON: its path, and the values of its nodes where JSON has them.
 #[derive(Drop)]

@@ -12,10 +12,11 @@ use review_text::Both;
 use review_text::text::{WHOLE, node_text};
 use std::alloc::Global;
 use yaml_diff::Step;
-use yaml_graph::node::{NodeId, NodeKind};
+use yaml_graph::node::NodeKind;
 use yaml_path::places::Places;
 use yaml_text::core_tag;
 use yaml_text::fault::Fault;
+use yaml_tree::node::NodeId;
 
 /// Writes the places of an item on the sides that have it.
 fn put_places(out: &mut String, places: Places) -> Result<(), Fault>

@@ -3,7 +3,7 @@ ghost use Rattle.std.specs.Prelude.{◌≡◌, ◌++◌, ◌∷◌, ◌+◌, ◌
 ghost use Rattle.yaml_definitions.specs.model.Tree.{scalar, height, heights, heights_of_pairs};
 ghost use Rattle.yaml_definitions.specs.model.Tag.{str_tag, seq_tag, map_tag};
 ghost use Rattle.yaml_definitions.specs.model.Order.{arranged};
-ghost use Rattle.yaml_graph.specs.TreeLists.{trees, pairs};
+ghost use Rattle.yaml_tree.specs.TreeLists.{trees, pairs};
 ghost use Rattle.yaml_graph.specs.GraphView.{tree};
 ghost use Rattle.yaml_rank.specs.RankModel.{key_pair};
 ghost use Rattle.yaml_rank.specs.RanksView.{RanksAre};
@@ -16,7 +16,7 @@ use crate::room::Room;
 use crate::unsaid::Unsaid;
 use review_text::Both;
 use std::alloc::Global;
-use yaml_graph::node::{NodeId, NodeKind};
+use yaml_graph::node::NodeKind;
 use yaml_json::is_json;
 use yaml_show_scalar::escapes::put_json_string;
 use yaml_show_scalar::number::{is_in_words, put_float};
@@ -24,6 +24,7 @@ use yaml_show_scalar::tag::is_resolved;
 use yaml_show_scalar::{Out, Stop};
 use yaml_text::core_tag;
 use yaml_text::fault::Fault;
+use yaml_tree::node::NodeId;
 
 /// How many nodes may be inside one another: some readers of JSON take no more than 127 arrays and objects, and the line is one.
 const LEVELS: u16 = 100;

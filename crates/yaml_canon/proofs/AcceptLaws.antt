@@ -21,10 +21,11 @@ use Rattle.yaml_definitions.proofs.FlatLaws.{stream_once}
 use Rattle.law_one_reading.proofs.Documents.{one_reading}
 use Rattle.law_read_back.specs.Spellings.{MeansLike}
 use Rattle.law_read_back.proofs.Meanings.{spellings_mean, blocks_mean}
-use Rattle.yaml_graph.specs.GraphModel.{tree_at}
+use Rattle.yaml_tree.specs.TreeLists.{tree_at}
 use Rattle.yaml_graph.specs.GraphView.{graph_trees}
-use Rattle.yaml_graph.specs.Closing.{trees_inside, trees_inside_all, trees_inside_pairs, stream_trees}
-use Rattle.yaml_graph.specs.Composed.{Composed, RefusesStream}
+use Rattle.yaml_tree.specs.Closing.{trees_inside, trees_inside_all, trees_inside_pairs, stream_trees}
+use Rattle.yaml_tree.specs.Refused.{RefusesStream}
+use Rattle.yaml_graph.specs.Composed.{Composed}
 use Rattle.yaml_graph.specs.declared.graph.Graph.{Graph}
 use Rattle.yaml_rank.proofs.Standing.{keyed-none}
 use Rattle.yaml_canon.specs.Claims.{AllOf, IsCanonicalText, IsRead, CanonicalRefuses}

@@ -6,9 +6,9 @@ use Rattle.yaml_definitions.specs.model.Means.{Means}
 use Rattle.yaml_definitions.specs.model.Serial.{Document, stream_events}
 use Rattle.yaml_definitions.specs.model.Unfold.{trees_of as trees_unfolded}
 use Rattle.yaml_definitions.specs.grammar.Reading.{Reads}
-use Rattle.yaml_graph.specs.GraphModel.{tree_at, AreLow}
+use Rattle.yaml_tree.specs.TreeLists.{tree_at, AreLow}
 use Rattle.yaml_graph.specs.GraphView.{roots_of, graph_trees, forest}
-use Rattle.yaml_graph.specs.declared.node.NodeId.{NodeId}
+use Rattle.yaml_tree.specs.declared.node.NodeId.{NodeId}
 use Rattle.yaml_graph.specs.declared.graph.Graph.{Graph}
 use Rattle.yaml_store.specs.StoreModel.{parts_at}
 use Rattle.yaml_store.specs.StoreGrows.{trees_of}

@@ -30,10 +30,11 @@ use Rattle.law_length.specs.Sizes.{texts_bytes}
 use Rattle.law_length.proofs.Contents.{tag_light}
 use Rattle.law_length.proofs.Numbers.{text_light}
 use Rattle.law_length.proofs.Forests.{meaning_bounded}
-use Rattle.yaml_graph.specs.GraphModel.{tree_at}
+use Rattle.yaml_tree.specs.TreeLists.{tree_at}
 use Rattle.yaml_graph.specs.GraphView.{nodes_of, roots_of, graph_trees, tree, forest}
-use Rattle.yaml_graph.specs.Composed.{Composed, RefusesStream}
-use Rattle.yaml_graph.specs.declared.node.NodeId.{NodeId}
+use Rattle.yaml_tree.specs.Refused.{RefusesStream}
+use Rattle.yaml_graph.specs.Composed.{Composed}
+use Rattle.yaml_tree.specs.declared.node.NodeId.{NodeId}
 use Rattle.yaml_graph.specs.declared.graph.Graph.{Graph}
 use Rattle.yaml_spell.specs.Pieces.{Began, Puts, Fails}
 use Rattle.yaml_spell.specs.Documents.{spell_more, arranged_more, arranged_bytes, RefusesArranged}

@@ -8,14 +8,14 @@ use Rattle.yaml_definitions.specs.model.Tree.{Tree, height}
 use Rattle.yaml_definitions.specs.model.Serial.{Document}
 use Rattle.yaml_text.specs.declared.fault.Fault.{Fault}
 use Rattle.yaml_text.specs.declared.fault.Fault.TheVariants as faults
-use Rattle.yaml_graph.specs.GraphModel.{AreLow}
+use Rattle.yaml_tree.specs.TreeLists.{AreLow}
 use Rattle.yaml_graph.specs.GraphView.{graph_trees}
 use Rattle.yaml_graph.specs.declared.graph.Graph.{Graph}
-use Rattle.yaml_graph.specs.Closing.{stream_trees}
+use Rattle.yaml_tree.specs.Closing.{stream_trees}
 use Rattle.yaml_graph.specs.Composed.{Composed}
 use Rattle.yaml_rank.specs.RanksView.{RefusesGraph}
 use Rattle.law_store_keys.specs.Laws.{AreHoldable, HaveJoined}
-use Rattle.law_store_keys.specs.Numbers.{Numbers}
+use Rattle.yaml_tree.specs.Numbers.{Numbers}
 use Rattle.law_store_keys.proofs.Graphs.{has-graph, have-joined}
 use Rattle.law_store_keys.proofs.Repeats.{first-is-graphs}
 use Rattle.yaml_store.specs.TextModel.{text_of}

@@ -8,7 +8,7 @@ use Rattle.yaml_definitions.specs.model.Tree.{Tree, scalar, height}
 use Rattle.yaml_definitions.specs.model.Order.{arranged}
 use Rattle.yaml_definitions.specs.model.Same.{Alike, same, Same, Keyed}
 use Rattle.yaml_definitions.proofs.Members.{and_both, both_and}
-use Rattle.yaml_graph.specs.GraphModel.{tree_at}
+use Rattle.yaml_tree.specs.TreeLists.{tree_at}
 use Rattle.yaml_store_rank.specs.Walked.{walked_tree}
 use Rattle.yaml_canon.specs.Both.{HaveRanks}
 use Rattle.yaml_canon.specs.declared.both.RankedBoth.{RankedBoth}

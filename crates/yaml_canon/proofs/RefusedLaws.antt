@@ -12,7 +12,7 @@ use Rattle.yaml_text.specs.declared.fault.Fault.TheVariants as faults
 use Rattle.yaml_read.specs.Decided.{HasNoReading}
 use Rattle.yaml_definitions.specs.model.Serial.{Document}
 use Rattle.yaml_definitions.specs.grammar.Reading.{Reads}
-use Rattle.yaml_graph.specs.Composed.{RefusesStream}
+use Rattle.yaml_tree.specs.Refused.{RefusesStream}
 use Rattle.yaml_canon.specs.Claims.{CanonicalRefuses, GraphRefuses, IsRead}
 use Rattle.yaml_canon.specs.RefusedRanks.{RefusesRanks}
 use Rattle.yaml_canon.specs.Read.{IsSource}

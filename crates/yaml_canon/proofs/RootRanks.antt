@@ -9,7 +9,7 @@ use Rattle.std.proofs.lemmas.List.Elements.{All-map, All-cons}
 use Rattle.yaml_definitions.specs.model.Tree.{Tree, scalar}
 use Rattle.yaml_definitions.specs.model.Order.{arranged}
 use Rattle.yaml_definitions.specs.model.Same.{same, Same, Keyed}
-use Rattle.yaml_graph.specs.GraphModel.{tree_at}
+use Rattle.yaml_tree.specs.TreeLists.{tree_at}
 use Rattle.yaml_store_rank.specs.declared.ranking.Ranked.{Ranked}
 use Rattle.yaml_store.specs.StoreModel.{parts_at}
 use Rattle.yaml_store.specs.StoreGrows.{tags_of, trees_of}

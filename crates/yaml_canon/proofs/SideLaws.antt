@@ -11,7 +11,7 @@ use Rattle.yaml_text.specs.declared.fault.Fault.TheVariants as faults
 use Rattle.yaml_graph.specs.GraphView.{nodes_of}
 use Rattle.yaml_graph.specs.declared.graph.Graph.{Graph}
 use Rattle.yaml_graph.proofs.GraphLaws.{trees-length}
-use Rattle.yaml_graph.specs.Closing.{stream_trees}
+use Rattle.yaml_tree.specs.Closing.{stream_trees}
 use Rattle.yaml_graph.specs.Composed.{Composed}
 use Rattle.yaml_tree_builder.specs.Reached.{UnfoldTo}
 use Rattle.yaml_tree_builder.specs.declared.size.StreamSize.{StreamSize}

@@ -3,7 +3,7 @@ use Rattle.std.specs.Prelude.{◌≡◌, ℕ, List, ◌++◌, length}
 use Rattle.yaml_definitions.specs.model.Tree.{Tree}
 use Rattle.yaml_definitions.specs.model.Means.{Means}
 use Rattle.yaml_definitions.specs.model.Serial.{Document}
-use Rattle.yaml_graph.specs.GraphModel.{AreLow}
+use Rattle.yaml_tree.specs.TreeLists.{AreLow}
 use Rattle.yaml_tree_builder.specs.Reached.{UnfoldTo}
 use Rattle.yaml_tree_builder.specs.BuilderModel.{AreForests}
 use Rattle.yaml_canon.specs.Claims.{IsRead}

@@ -15,7 +15,8 @@ use Rattle.yaml_text.specs.declared.fault.Fault.{Fault}
 use Rattle.yaml_text.specs.declared.fault.Fault.TheVariants.{TooLong, NotUtf8, NotPrintable, Syntax, Tab, KeyTooLong, TooDeep, BadEscape, BadDirective, UnknownHandle, BadTag, UndefinedAlias, CyclicAlias, WrongKind, BadContent, IntRange, FloatRange, TooHigh, EqualKeys, TextTooLong, OutOfMemory}
 use Rattle.law_length.specs.Sizes.{texts_bytes}
 use Rattle.yaml_text.specs.Unread.{IsNoStream}
-use Rattle.yaml_graph.specs.Composed.{Composed, RefusesStream}
+use Rattle.yaml_tree.specs.Refused.{RefusesStream}
+use Rattle.yaml_graph.specs.Composed.{Composed}
 use Rattle.yaml_graph.specs.declared.graph.Graph.{Graph}
 use Rattle.yaml_rank.specs.RanksView.{RefusesGraph}
 use Rattle.yaml_spell.specs.Documents.{arranged_bytes}

@@ -5,7 +5,8 @@ use Rattle.yaml_definitions.specs.model.Tree.{Tree}
 use Rattle.yaml_definitions.specs.model.Serial.{Document}
 use Rattle.yaml_text.specs.declared.fault.Fault.{Fault}
 use Rattle.yaml_text.specs.declared.fault.Fault.TheVariants.{EqualKeys, TextTooLong}
-use Rattle.yaml_graph.specs.Composed.{Composed, RefusesStream}
+use Rattle.yaml_tree.specs.Refused.{RefusesStream}
+use Rattle.yaml_graph.specs.Composed.{Composed}
 use Rattle.yaml_graph.specs.GraphView.{nodes_of}
 use Rattle.yaml_graph.specs.JoinModel.{Joined}
 use Rattle.yaml_graph.specs.declared.graph.Graph.{Graph}

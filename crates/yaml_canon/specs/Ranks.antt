@@ -5,7 +5,7 @@ use Rattle.yaml_definitions.specs.model.Tree.{Tree}
 use Rattle.yaml_definitions.specs.model.Order.{arranged}
 use Rattle.yaml_definitions.specs.model.Same.{Same, Keyed}
 use Rattle.yaml_definitions.specs.model.Means.{Means}
-use Rattle.yaml_graph.specs.GraphModel.{tree_at, AreLow}
+use Rattle.yaml_tree.specs.TreeLists.{tree_at, AreLow}
 use Rattle.yaml_spell.specs.RankedNodes.{Rooted}
 use Rattle.yaml_store_rank.specs.Walked.{StandsFor, walked_tree}
 use Rattle.yaml_canon.specs.declared.ranks.RankedForest.{RankedForest}

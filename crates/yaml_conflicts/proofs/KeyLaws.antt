@@ -9,8 +9,8 @@ use Rattle.yaml_definitions.proofs.Members.{or_either}
 use Rattle.yaml_definitions.proofs.Equivalence.{same_refl, same_sym, same_trans}
 use Rattle.yaml_graph.specs.GraphModel.{Entries}
 use Rattle.yaml_graph.specs.GraphView.{nodes_of, tree}
-use Rattle.yaml_graph.proofs.GraphLaws.{get-more}
-use Rattle.yaml_graph.specs.declared.node.NodeId.{NodeId}
+use Rattle.yaml_tree.proofs.Lists.{get-more}
+use Rattle.yaml_tree.specs.declared.node.NodeId.{NodeId}
 use Rattle.yaml_graph.specs.declared.graph.Graph.{Graph}
 use Rattle.yaml_rank.specs.RanksView.{RanksAre}
 use Rattle.yaml_rank.specs.declared.ranks.Ranks.{Ranks}

@@ -8,7 +8,7 @@ use Rattle.yaml_definitions.specs.model.Tree.{Tree}
 use Rattle.yaml_graph.specs.GraphModel.{entries_of, node_tree, kind_tree}
 use Rattle.yaml_graph.specs.GraphView.{nodes_of, graph_trees, tree}
 use Rattle.yaml_graph.proofs.GraphLaws.{node-tree}
-use Rattle.yaml_graph.specs.declared.node.NodeId.{NodeId}
+use Rattle.yaml_tree.specs.declared.node.NodeId.{NodeId}
 use Rattle.yaml_graph.specs.declared.node.Node.{Node}
 use Rattle.yaml_graph.specs.declared.node.NodeKind.{NodeKind}
 use Rattle.yaml_graph.specs.declared.node.NodeKind.TheVariants as kinds

@@ -7,8 +7,8 @@ use Rattle.yaml_text.specs.declared.fault.Fault.{Fault}
 use Rattle.yaml_definitions.specs.model.Tree.{Tree, Trees}
 use Rattle.yaml_definitions.specs.model.Same.{same, same_trees}
 use Rattle.yaml_definitions.proofs.Members.{and_both}
-use Rattle.yaml_graph.specs.TreeLists.{trees}
-use Rattle.yaml_graph.specs.declared.node.NodeId.{NodeId}
+use Rattle.yaml_tree.specs.TreeLists.{trees}
+use Rattle.yaml_tree.specs.declared.node.NodeId.{NodeId}
 use Rattle.yaml_graph.specs.declared.graph.Graph.{Graph}
 use Rattle.yaml_path.specs.Path.{Step, Path, at_item, at_key, item_in}
 use Rattle.yaml_path.specs.Ways.{count_in}

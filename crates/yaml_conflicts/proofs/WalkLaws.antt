@@ -10,8 +10,8 @@ use Rattle.yaml_definitions.specs.model.Tree.{Tree, scalar, sequence, mapping}
 use Rattle.yaml_definitions.specs.model.Same.{same}
 use Rattle.yaml_definitions.proofs.Members.{and_both}
 use Rattle.yaml_definitions.proofs.Equivalence.{same_refl, same_sym, same_trans}
-use Rattle.yaml_graph.proofs.GraphLaws.{get-more}
-use Rattle.yaml_graph.specs.declared.node.NodeId.{NodeId}
+use Rattle.yaml_tree.proofs.Lists.{get-more}
+use Rattle.yaml_tree.specs.declared.node.NodeId.{NodeId}
 use Rattle.yaml_graph.specs.declared.graph.Graph.{Graph}
 use Rattle.yaml_path.specs.Path.{Step, Path, AlikeStep, AlikePath, at_item, at_key, reach, part_of}
 use Rattle.yaml_diff.specs.Lines.{tree_of, trees_of}

@@ -6,7 +6,7 @@ use Rattle.yaml_definitions.specs.model.Tree.{Tree}
 use Rattle.yaml_definitions.specs.model.Same.{Same}
 use Rattle.yaml_graph.specs.GraphModel.{Entries}
 use Rattle.yaml_graph.specs.GraphView.{nodes_of}
-use Rattle.yaml_graph.specs.declared.node.NodeId.{NodeId}
+use Rattle.yaml_tree.specs.declared.node.NodeId.{NodeId}
 use Rattle.yaml_graph.specs.declared.graph.Graph.{Graph}
 use Rattle.yaml_path.specs.Path.{at_key, part_of}
 use Rattle.yaml_diff.specs.Lines.{tree_of, trees_of}

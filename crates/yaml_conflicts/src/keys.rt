@@ -11,9 +11,10 @@ use crate::sides::Sides;
 use crate::values::value_at;
 use std::alloc::Global;
 use yaml_graph::graph::Graph;
-use yaml_graph::node::{NodeId, NodeKind};
+use yaml_graph::node::NodeKind;
 use yaml_rank::ranks::Ranks;
 use yaml_text::fault::Fault;
+use yaml_tree::node::NodeId;
 
 /// Whether this side has a value of the key.
 #[tactic(auto, using(crate::proofs::KeyLaws::side_found))]

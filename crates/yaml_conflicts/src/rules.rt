@@ -8,8 +8,8 @@ ghost use Rattle.yaml_conflicts.specs.Found.{SidesWithin};
 
 use crate::sides::Sides;
 use yaml_graph::graph::Graph;
-use yaml_graph::node::NodeId;
 use yaml_rank::ranks::Ranks;
+use yaml_tree::node::NodeId;
 
 /// Whether two nodes have the same tree, or neither is there.
 pub(crate) fn is_alike(

@@ -8,7 +8,8 @@ ghost use Rattle.yaml_conflicts.specs.Found.{SidesWithin, is_mapping};
 
 use crate::sides::Sides;
 use yaml_graph::graph::Graph;
-use yaml_graph::node::{NodeId, NodeKind};
+use yaml_graph::node::NodeKind;
+use yaml_tree::node::NodeId;
 
 fn are_mappings(left: &NodeKind<'_>, right: &NodeKind<'_>) -> bool
     ensures { result ≡ (is_mapping left.now && is_mapping right.now) }

@@ -16,9 +16,9 @@ use crate::sides::{Found, Room, Sides, Step};
 use crate::walk::conflicts;
 use std::alloc::Global;
 use yaml_graph::graph::Graph;
-use yaml_graph::node::NodeId;
 use yaml_rank::ranks::Ranks;
 use yaml_text::fault::Fault;
+use yaml_tree::node::NodeId;
 
 /// The roots of the documents of the base, of ours, of theirs and of the merge. Where no merge is given, those of the base stand in its
 /// place.

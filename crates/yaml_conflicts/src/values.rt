@@ -10,8 +10,8 @@ ghost use Rattle.yaml_conflicts.specs.Found.{IsBelow, SidesWithin, ValuesAre, Si
 use crate::sides::Sides;
 use yaml_diff::value_of;
 use yaml_graph::graph::Graph;
-use yaml_graph::node::NodeId;
 use yaml_rank::ranks::Ranks;
+use yaml_tree::node::NodeId;
 
 /// The value of this key in a node, if it is a mapping and has one.
 fn value_in(graph: &Graph<'_>, ranks: &Ranks, node: NodeId, key: NodeId) -> Option<NodeId>

@@ -3,7 +3,7 @@ use Rattle.std.proofs.Common.{◌≡◌, ℕ, suc, ◌+◌, ◌-◌, ◌<◌, Bo
 use Rattle.std.specs.Prelude.{Option, Some, None, Result, Ok, Err, IfOk, IfSome}
 use Rattle.yaml_text.specs.declared.fault.Fault.{Fault}
 use Rattle.yaml_diff.specs.declared.align.Aligned.{Aligned}
-use Rattle.yaml_graph.specs.declared.node.NodeId.{NodeId}
+use Rattle.yaml_tree.specs.declared.node.NodeId.{NodeId}
 use Rattle.yaml_rank.specs.declared.ranks.Ranks.{Ranks}
 use Rattle.yaml_path.specs.Ways.{turns}
 use Rattle.yaml_path.specs.declared.places.Places.{Places}

@@ -6,12 +6,12 @@ use Rattle.std.proofs.lemmas.Option.{slice_get_within}
 use Rattle.yaml_definitions.specs.model.Tree.{Tree, entry}
 use Rattle.yaml_definitions.specs.model.Same.{same}
 use Rattle.yaml_definitions.proofs.Equivalence.{same_sym}
-use Rattle.yaml_graph.specs.TreeLists.{pairs}
+use Rattle.yaml_tree.specs.TreeLists.{pairs}
 use Rattle.yaml_graph.specs.GraphModel.{Entries}
 use Rattle.yaml_graph.specs.GraphView.{nodes_of, tree}
-use Rattle.yaml_graph.specs.declared.node.NodeId.{NodeId}
+use Rattle.yaml_tree.specs.declared.node.NodeId.{NodeId}
 use Rattle.yaml_graph.specs.declared.graph.Graph.{Graph}
-use Rattle.yaml_graph.proofs.GraphLaws.{get-more}
+use Rattle.yaml_tree.proofs.Lists.{get-more}
 use Rattle.yaml_rank.specs.RanksView.{RanksAre}
 use Rattle.yaml_rank.specs.declared.ranks.Ranks.{Ranks}
 use Rattle.yaml_path.specs.Path.{part}

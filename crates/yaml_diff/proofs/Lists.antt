@@ -6,9 +6,9 @@ use Rattle.std.proofs.lemmas.List.{length-map}
 use Rattle.std.proofs.lemmas.Option.{slice_get_within}
 use Rattle.yaml_definitions.specs.model.Tree.{Tree}
 use Rattle.yaml_definitions.proofs.Members.{and_both}
-use Rattle.yaml_graph.specs.declared.node.NodeId.{NodeId}
+use Rattle.yaml_tree.specs.declared.node.NodeId.{NodeId}
 use Rattle.yaml_graph.specs.declared.graph.Graph.{Graph}
-use Rattle.yaml_graph.proofs.GraphLaws.{get-more}
+use Rattle.yaml_tree.proofs.Lists.{get-more}
 use Rattle.yaml_path.specs.Path.{head_of}
 use Rattle.yaml_path.specs.Ways.{Step, Way, Pairing, PairsAll, SettlesAll, InOrderAll, below, Allows, Differs, EndsPaired, EndsAlong, AlikeStep, alike_step, AlikeWay, StepBefore, WayBefore, left_part, right_part, left_end, right_end}
 use Rattle.yaml_diff.specs.declared.difference.Step as code

@@ -5,7 +5,7 @@ use Rattle.std.specs.List.{slice_get}
 use Rattle.yaml_definitions.specs.model.Tree.{Tree}
 use Rattle.yaml_definitions.proofs.Members.{and_both}
 use Rattle.yaml_graph.specs.declared.graph.Graph.{Graph}
-use Rattle.yaml_graph.proofs.GraphLaws.{get-more}
+use Rattle.yaml_tree.proofs.Lists.{get-more}
 use Rattle.yaml_path.specs.Path.{head_of}
 use Rattle.yaml_path.specs.Ways.{Step, Way, Pairing, PairsAll, Settles, SettlesAll, InOrderAll, Takes, Reaches, Allows, EndsPaired, EndsAlong, AlikeStep, alike_step, AlikeWay, at_places, count, left_part, right_part, left_end, right_end}
 use Rattle.yaml_path.specs.declared.places.Places.{Places}

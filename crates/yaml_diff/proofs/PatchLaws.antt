@@ -7,7 +7,7 @@ use lib.Pointwise.{bytes_decides}
 use Rattle.yaml_definitions.specs.model.Tree.{Tree, scalar, sequence, mapping, end, item}
 use Rattle.yaml_definitions.specs.model.Same.{same, same_trees, Same, Keyed, Alike}
 use Rattle.yaml_definitions.proofs.Members.{and_both, both_and}
-use Rattle.yaml_graph.specs.TreeLists.{trees}
+use Rattle.yaml_tree.specs.TreeLists.{trees}
 use Rattle.yaml_graph.specs.declared.graph.Graph.{Graph}
 use Rattle.yaml_path.specs.Path.{part_of, head, head_of, item_in}
 use Rattle.yaml_path.specs.Path as plain

@@ -10,11 +10,11 @@ use Rattle.yaml_definitions.specs.model.Tree.{Tree, Pairs, sequence, mapping}
 use Rattle.yaml_definitions.specs.model.Same.{same, keyed, keyed_pairs}
 use Rattle.yaml_definitions.proofs.Members.{In, all_in}
 use Rattle.yaml_definitions.proofs.SameLaws.{keyed_parts}
-use Rattle.yaml_graph.specs.TreeLists.{trees, pairs}
+use Rattle.yaml_tree.specs.TreeLists.{trees, pairs}
 use Rattle.yaml_graph.specs.GraphModel.{Entries, node_tree, kind_tree, entries_of}
 use Rattle.yaml_graph.specs.GraphView.{nodes_of, graph_trees, tree}
 use Rattle.yaml_graph.proofs.GraphLaws.{node-tree}
-use Rattle.yaml_graph.specs.declared.node.NodeId.{NodeId}
+use Rattle.yaml_tree.specs.declared.node.NodeId.{NodeId}
 use Rattle.yaml_graph.specs.declared.node.Node.{Node}
 use Rattle.yaml_graph.specs.declared.node.NodeKind.{NodeKind}
 use Rattle.yaml_graph.specs.declared.node.NodeKind.TheVariants as kinds

@@ -1,7 +1,7 @@
 -- How the items of two sequences are taken for each other.
 use Rattle.std.specs.Prelude.{◌≡◌, ℕ, suc, ◌+◌, ◌-◌, ◌<◌, ◌≤◌, List, ◌++◌, length, Some}
 use Rattle.std.specs.List.{slice_get}
-use Rattle.yaml_graph.specs.declared.node.NodeId.{NodeId}
+use Rattle.yaml_tree.specs.declared.node.NodeId.{NodeId}
 use Rattle.yaml_rank.specs.RanksView.{numbers_of}
 use Rattle.yaml_rank.specs.declared.ranks.Ranks.{Ranks}
 use Rattle.yaml_path.specs.Ways.{left_place, right_place, places_by, numbers}

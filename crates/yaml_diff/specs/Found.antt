@@ -6,7 +6,7 @@ use Rattle.yaml_graph.specs.GraphModel.{Entries}
 use Rattle.std.proofs.Common.{Global}
 use Rattle.std.specs.Cow.{cow_str_bytes}
 use Rattle.yaml_graph.specs.GraphView.{nodes_of}
-use Rattle.yaml_graph.specs.declared.node.NodeId.{NodeId}
+use Rattle.yaml_tree.specs.declared.node.NodeId.{NodeId}
 use Rattle.yaml_graph.specs.declared.node.Node.{Node}
 use Rattle.yaml_graph.specs.declared.node.NodeKind.{NodeKind}
 use Rattle.yaml_graph.specs.declared.node.NodeKind.TheVariants as kinds

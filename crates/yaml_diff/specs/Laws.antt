@@ -3,7 +3,7 @@ use Rattle.std.specs.Prelude.{◌≡◌, ◌↔◌, ◌⊎◌, ℕ, true, List, 
 use Rattle.std.specs.List.{slice_get}
 use Rattle.yaml_definitions.specs.model.Tree.{Tree, sequence}
 use Rattle.yaml_definitions.specs.model.Same.{Same, Keyed, Alike}
-use Rattle.yaml_graph.specs.TreeLists.{trees}
+use Rattle.yaml_tree.specs.TreeLists.{trees}
 use Rattle.yaml_graph.specs.declared.graph.Graph.{Graph}
 use Rattle.yaml_path.specs.Path.{head_of}
 use Rattle.yaml_path.specs.Ways.{Way, Step, Pairing, Differs, AllowsWay, left_end, right_end}

@@ -3,9 +3,9 @@ use Rattle.std.specs.Prelude.{◌≡◌, ℕ, ◌<◌, List, [], ◌∷◌, ◌+
 use Rattle.std.specs.Option.{option_map}
 use Rattle.std.specs.List.{slice_get}
 use Rattle.yaml_definitions.specs.model.Tree.{Tree, sequence}
-use Rattle.yaml_graph.specs.TreeLists.{trees}
+use Rattle.yaml_tree.specs.TreeLists.{trees}
 use Rattle.yaml_graph.specs.GraphView.{tree}
-use Rattle.yaml_graph.specs.declared.node.NodeId.{NodeId}
+use Rattle.yaml_tree.specs.declared.node.NodeId.{NodeId}
 use Rattle.yaml_graph.specs.declared.graph.Graph.{Graph}
 use Rattle.yaml_path.specs.Ways.{Way, Pairing, EndsAlong, Differs, AlikeWay, WayBefore, left_end, right_end, at_places, at_key}
 use Rattle.yaml_path.specs.Ways as ways

@@ -5,7 +5,7 @@ use Rattle.yaml_definitions.specs.model.Tree.{Tree}
 use Rattle.yaml_definitions.specs.model.Same.{Same}
 use Rattle.yaml_graph.specs.GraphModel.{Entries}
 use Rattle.yaml_graph.specs.GraphView.{tree}
-use Rattle.yaml_graph.specs.declared.node.NodeId.{NodeId}
+use Rattle.yaml_tree.specs.declared.node.NodeId.{NodeId}
 use Rattle.yaml_graph.specs.declared.graph.Graph.{Graph}
 use Rattle.yaml_path.specs.Path.{part}
 use Rattle.yaml_path.specs.Path as plain

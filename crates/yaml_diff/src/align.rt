@@ -10,11 +10,11 @@ use crate::anchors::anchors;
 use crate::look::{Step, are_right, moved_of, places_of};
 use std::alloc::Global;
 use yaml_graph::graph::Graph;
-use yaml_graph::node::NodeId;
 use yaml_pair::{Asked, middle};
 use yaml_path::places::Places;
 use yaml_rank::ranks::Ranks;
 use yaml_text::fault::Fault;
+use yaml_tree::node::NodeId;
 
 /// How the items of two sequences are taken for each other: steps with a place of both or of one, and the pairs among them that moved.
 #[derive(Drop)]

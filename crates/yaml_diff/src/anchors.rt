@@ -3,9 +3,9 @@ ghost use Rattle.std.specs.Prelude.{◌≡◌, ◌≤◌, length, IfOk, IfErr};
 ghost use Rattle.yaml_diff.specs.Aligning.{AllRanked, AllSameRanks};
 
 use std::alloc::Global;
-use yaml_graph::node::NodeId;
 use yaml_rank::ranks::Ranks;
 use yaml_text::fault::Fault;
+use yaml_tree::node::NodeId;
 
 /// The ranks that items have once, from the front to the back, each with the place of its item.
 fn lone_ranks(

@@ -8,16 +8,17 @@ use Rattle.yaml_definitions.specs.model.Unfold.{Outcome, and_then}
 use Rattle.yaml_definitions.specs.model.Tree.{Tree, mapping}
 use Rattle.yaml_text.specs.declared.fault.Fault.{Fault}
 use Rattle.yaml_text.specs.declared.fault.Fault.TheVariants as faults
-use Rattle.yaml_graph.specs.TreeLists.{pairs}
-use Rattle.yaml_graph.specs.GraphModel.{Entries, tree_at, trees_at, entries_at, kind_tree, trees_in}
-use Rattle.yaml_graph.specs.ComposerSteps.{State, paired, whole, collection_ended, collection_from}
-use Rattle.yaml_graph.specs.ComposerSteps as machine
-use Rattle.yaml_graph.specs.Refused.{RefusesUnfolding}
-use Rattle.yaml_graph.specs.ComposerModel.{Names, AllStand, Collects, Holds, Reached}
+use Rattle.yaml_tree.specs.TreeLists.{pairs, tree_at}
+use Rattle.yaml_graph.specs.GraphModel.{Entries, trees_at, entries_at, kind_tree, trees_in}
+use Rattle.yaml_tree.specs.ComposerSteps.{State, paired, whole, collection_ended, collection_from}
+use Rattle.yaml_tree.specs.ComposerSteps as machine
+use Rattle.yaml_tree.specs.Refused.{RefusesUnfolding}
+use Rattle.yaml_tree.specs.Anchors.{Names}
+use Rattle.yaml_graph.specs.ComposerModel.{AllStand, Collects, Holds, Reached}
 use Rattle.yaml_graph.specs.declared.composer.Composer.{Composer}
 use Rattle.yaml_graph.specs.declared.composer.Open.{Open}
 use Rattle.yaml_graph.specs.declared.node.Node.{Node}
-use Rattle.yaml_graph.specs.declared.node.NodeId.{NodeId}
+use Rattle.yaml_tree.specs.declared.node.NodeId.{NodeId}
 use Rattle.yaml_graph.specs.declared.node.NodeKind.{NodeKind}
 use Rattle.yaml_graph.proofs.ComposerLaws.{Leaves, trees-at}
 

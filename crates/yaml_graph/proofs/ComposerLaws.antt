@@ -14,17 +14,20 @@ use Rattle.yaml_definitions.specs.model.Tree.{Tree, scalar}
 use Rattle.yaml_definitions.specs.model.Event.{Anchor}
 use Rattle.yaml_definitions.specs.model.Unfold.{Table, closed, last_named, tree_named, and_then, placed}
 use Rattle.yaml_definitions.specs.model.Core.{undefined_alias, cyclic_alias}
-use Rattle.yaml_graph.specs.ComposerSteps.{State, initial_state, node_begun, whole, added}
-use Rattle.yaml_graph.specs.ComposerSteps as machine
+use Rattle.yaml_tree.specs.ComposerSteps.{State, initial_state, node_begun, whole, added}
+use Rattle.yaml_tree.specs.ComposerSteps as machine
 use Rattle.yaml_graph.specs.GraphModel.{trees_at, node_tree, trees_in, PartsBelow}
-use Rattle.yaml_graph.specs.ComposerModel.{Names, cut, place_named, last_place, names_of, TreeStands, AllStand, SlotStands, TableStands, Placed, OpenStands, OpensStand, Held, Holds, Reached}
+use Rattle.yaml_tree.specs.Anchors.{Names, place_named, last_place, names_of, Placed}
+use Rattle.yaml_tree.specs.TreeLists.{cut}
+use Rattle.yaml_graph.specs.ComposerModel.{TreeStands, AllStand, SlotStands, TableStands, OpenStands, OpensStand, Held, Holds, Reached}
 use Rattle.std.specs.Option.{IfSome}
 use Rattle.yaml_graph.specs.declared.composer.Composer.{Composer}
 use Rattle.yaml_graph.specs.declared.composer.Open.{Open}
 use Rattle.yaml_graph.specs.declared.node.Node.{Node}
-use Rattle.yaml_graph.specs.declared.node.NodeId.{NodeId}
-use Rattle.yaml_graph.proofs.GraphLaws.{get-more, get-end, get-push, trees-push, trees-length}
-use Rattle.yaml_graph.proofs.AnchorLaws.{named-push, placed-push, placed-opened, names-closed, names-length, Found, found}
+use Rattle.yaml_tree.specs.declared.node.NodeId.{NodeId}
+use Rattle.yaml_tree.proofs.Lists.{get-more, get-end, get-push}
+use Rattle.yaml_graph.proofs.GraphLaws.{trees-push, trees-length}
+use Rattle.yaml_tree.proofs.AnchorLaws.{named-push, placed-push, placed-opened, names-closed, names-length, Found, found}
 
 -- ---- what stands goes on standing
 

@@ -6,14 +6,15 @@ use Rattle.yaml_definitions.specs.model.Serial.{Document}
 use Rattle.yaml_definitions.specs.model.Unfold.{trees_of}
 use Rattle.yaml_text.specs.declared.fault.Fault.{Fault}
 use Rattle.yaml_text.specs.declared.fault.Fault.TheVariants as faults
-use Rattle.yaml_graph.specs.Closing.{stream_trees}
-use Rattle.yaml_graph.specs.Composed.{Composed, RefusesStream}
-use Rattle.yaml_graph.proofs.ClosingLaws.{low-stream}
-use Rattle.yaml_graph.specs.ComposerSteps.{State}
+use Rattle.yaml_tree.specs.Closing.{stream_trees}
+use Rattle.yaml_tree.specs.Refused.{RefusesStream}
+use Rattle.yaml_graph.specs.Composed.{Composed}
+use Rattle.yaml_tree.proofs.ClosingLaws.{low-stream}
+use Rattle.yaml_tree.specs.ComposerSteps.{State}
 use Rattle.yaml_graph.specs.Finished.{Finishes, RefusesHeight}
-use Rattle.yaml_graph.specs.GraphModel.{AreLow}
+use Rattle.yaml_tree.specs.TreeLists.{AreLow}
 use Rattle.yaml_graph.specs.declared.graph.Graph.{Graph}
-use Rattle.yaml_graph.proofs.LowLaws.{all-low, low-each}
+use Rattle.yaml_tree.proofs.LowLaws.{all-low, low-each}
 
 module _ (ds : List Document) (s : State) (unfolded : trees_of ds ≡ Ok s.inner) (all : s.done ≡ stream_trees ds s.inner) where
   -- no node is too high where no document is

@@ -5,8 +5,8 @@ use Rattle.yaml_definitions.specs.model.Unfold.{Outcome}
 use Rattle.yaml_text.specs.EventModel.{event_of}
 use Rattle.yaml_text.specs.declared.event.Event as code
 use Rattle.yaml_text.specs.declared.event.Event.TheVariants as events
-use Rattle.yaml_graph.specs.ComposerSteps.{State, cleared, step}
-use Rattle.yaml_graph.specs.ComposerSteps as machine
+use Rattle.yaml_tree.specs.ComposerSteps.{State, cleared, step}
+use Rattle.yaml_tree.specs.ComposerSteps as machine
 use Rattle.yaml_graph.specs.ComposerModel.{Holds, Reached}
 use Rattle.yaml_graph.specs.declared.composer.Composer.{Composer}
 

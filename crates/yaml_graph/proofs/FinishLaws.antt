@@ -4,13 +4,13 @@ use Rattle.std.specs.Prelude.{Some}
 use Rattle.std.specs.List.{All, slice_get}
 use Rattle.yaml_definitions.specs.model.Limits.{height_limit}
 use Rattle.yaml_definitions.specs.model.Tree.{Tree, height}
-use Rattle.yaml_graph.specs.ComposerSteps.{State}
-use Rattle.yaml_graph.specs.GraphModel.{AreLow, trees_in}
-use Rattle.yaml_graph.specs.ComposerModel.{cut, AllStand, Holds, IsBelow, AllBelow, IsFirstAbove}
-use Rattle.yaml_graph.specs.Finished.{IsFirstTooHigh}
+use Rattle.yaml_tree.specs.ComposerSteps.{State}
+use Rattle.yaml_tree.specs.TreeLists.{AreLow, cut, IsFirstTooHigh}
+use Rattle.yaml_graph.specs.GraphModel.{trees_in}
+use Rattle.yaml_graph.specs.ComposerModel.{AllStand, Holds, IsBelow, AllBelow, IsFirstAbove}
 use Rattle.yaml_graph.specs.declared.composer.Composer.{Composer}
-use Rattle.yaml_graph.specs.declared.node.NodeId.{NodeId}
-use Rattle.yaml_graph.proofs.LowLaws.{Low, uncut, all-low, heights-low, low-each}
+use Rattle.yaml_tree.specs.declared.node.NodeId.{NodeId}
+use Rattle.yaml_tree.proofs.LowLaws.{Low, uncut, all-low, heights-low, low-each}
 
 cut-of : (ts : List Tree) (i : ℕ) (t : Tree) → slice_get ts i ≡ Some t → get_or (map cut ts) i 0 ≡ cut t
 cut-of [] i t e = absurd (cc)

@@ -4,10 +4,9 @@ use Rattle.std.proofs.Math.Seq.{take-suc}
 use Rattle.std.proofs.lemmas.List.{take_all, map-append, length-map}
 use Rattle.yaml_definitions.specs.model.Limits.{height_limit}
 use Rattle.yaml_definitions.specs.model.Tree.{Tree, sequence, mapping, height, heights, heights_of_pairs}
-use Rattle.yaml_graph.specs.TreeLists.{trees, pairs}
-use Rattle.yaml_graph.specs.GraphModel.{Entries, tree_at, trees_at, entries_at}
-use Rattle.yaml_graph.specs.ComposerModel.{cut}
-use Rattle.yaml_graph.specs.declared.node.NodeId.{NodeId}
+use Rattle.yaml_tree.specs.TreeLists.{trees, pairs, tree_at, cut}
+use Rattle.yaml_graph.specs.GraphModel.{Entries, trees_at, entries_at}
+use Rattle.yaml_tree.specs.declared.node.NodeId.{NodeId}
 
 heights-push : (us : List Tree) (u : Tree) → heights (trees (us ++ (u ∷ []))) ≡ max (heights (trees us)) (suc (height u))
 heights-push [] u = omega arith

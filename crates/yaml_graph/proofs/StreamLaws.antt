@@ -9,13 +9,12 @@ use Rattle.yaml_text.specs.EventModel.{event_of}
 use Rattle.yaml_text.specs.declared.fault.Fault.{Fault}
 use Rattle.yaml_text.specs.declared.fault.Fault.TheVariants as faults
 use Rattle.yaml_text.specs.declared.event.Event as code
-use Rattle.yaml_graph.specs.Closing.{stream_trees}
-use Rattle.yaml_graph.specs.Composed.{RefusesStream}
-use Rattle.yaml_graph.specs.Refused.{RefusesUnfolding}
-use Rattle.yaml_graph.specs.ComposerSteps.{State, initial_state, step, on_outcome, next, steps}
+use Rattle.yaml_tree.specs.Closing.{stream_trees}
+use Rattle.yaml_tree.specs.Refused.{RefusesStream, RefusesUnfolding}
+use Rattle.yaml_tree.specs.ComposerSteps.{State, initial_state, step, on_outcome, next, steps}
 use Rattle.yaml_graph.specs.ComposerModel.{Reached}
 use Rattle.yaml_graph.specs.declared.composer.Composer.{Composer}
-use Rattle.yaml_graph.proofs.StepLaws.{comes_to, with_all, run-stream}
+use Rattle.yaml_tree.proofs.StepLaws.{comes_to, with_all, run-stream}
 
 -- what the steps come to tells the documents' trees: refused, or found with those of all nodes
 stream-refused : (ds : List Document) (o : Outcome (List Tree)) (x : Cause × ℕ) → Some (Err x) ≡ Some (and_then o (with_all [] [] ds)) → o ≡ Err x

@@ -1,23 +1,22 @@
 -- What the composer holds, as plain values.
-use Rattle.std.specs.Prelude.{◌≡◌, ◌<◌, ◌≤◌, ℕ, suc, min, slice_index, Bool, true, false, List, [], ◌∷◌, Option, Some, None, Ok, cond, bytes_eq, reverse, map, length}
+use Rattle.std.specs.Prelude.{◌≡◌, ◌<◌, ◌≤◌, ℕ, slice_index, Bool, true, false, List, [], ◌∷◌, Option, Some, None, Ok, reverse, map, length}
 use Rattle.std.specs.Global.{Global}
 use Rattle.std.specs.List.{slice_get}
 use Rattle.std.specs.Cow.{cow_str_bytes}
 use Rattle.std.specs.declared.borrow.CowStr.{CowStr}
 use Rattle.std.specs.Option.{option_map}
-use Rattle.std.specs.BTreeMap.{BTreeMap, get_by}
-use Rattle.std.specs.Cmp.Lexicographic.{slice_cmp}
-use Rattle.std.specs.Ordering.{nat_cmp}
 use Rattle.yaml_definitions.specs.model.Limits.{height_limit}
-use Rattle.yaml_definitions.specs.model.Tree.{Tree, height, a_sequence, a_mapping}
+use Rattle.yaml_definitions.specs.model.Tree.{Tree, a_sequence, a_mapping}
 use Rattle.yaml_definitions.specs.model.Event.{Anchor}
-use Rattle.yaml_definitions.specs.model.Unfold.{Outcome, Table, or_else}
-use Rattle.yaml_graph.specs.ComposerSteps as machine
+use Rattle.yaml_definitions.specs.model.Unfold.{Outcome, Table}
+use Rattle.yaml_tree.specs.Anchors.{Names, place_named, last_place, names_of, Placed}
+use Rattle.yaml_tree.specs.TreeLists.{cut}
+use Rattle.yaml_tree.specs.ComposerSteps as machine
+use Rattle.yaml_tree.specs.declared.node.NodeId.{NodeId}
 use Rattle.yaml_graph.specs.GraphModel.{kind_tree, trees_in, trees_at, PartsBelow, Grounded}
 use Rattle.yaml_graph.specs.declared.composer.Composer.{Composer}
 use Rattle.yaml_graph.specs.declared.composer.Open.{Open}
 use Rattle.yaml_graph.specs.declared.node.Node.{Node}
-use Rattle.yaml_graph.specs.declared.node.NodeId.{NodeId}
 use Rattle.yaml_graph.specs.declared.node.NodeKind.{NodeKind}
 use Rattle.yaml_graph.specs.declared.tag.Collection.{Collection}
 use Rattle.yaml_graph.specs.declared.tag.Collection.TheVariants as collections
@@ -33,27 +32,6 @@ kind_number collections.Mapping = a_mapping
 
 abbrev pub anchor_view : Option (CowStr Global) → Anchor
 anchor_view anchor = option_map cow_str_bytes anchor
-
--- the tree's height, cut just above the limit
-abbrev pub cut : Tree → ℕ
-cut t = min (height t) (suc height_limit)
-
--- places by names
-abbrev pub Names : Type 0
-Names = BTreeMap (CowStr Global) ℕ
-
--- where the map has this name
-abbrev pub place_named : Names → List ℕ → Option ℕ
-place_named names name = get_by (λ k. slice_cmp nat_cmp name (cow_str_bytes k)) names
-
--- the last place of this name
-unfoldable pub last_place : List ℕ → List (List ℕ) → Option ℕ
-last_place name [] = None
-last_place name (x ∷ xs) = or_else (option_map suc (last_place name xs)) (cond (bytes_eq x name) (Some 0) None)
-
--- the names of the anchors, in order
-abbrev pub names_of : Table → List (List ℕ)
-names_of table = map (λ o. o.0) table
 
 -- the tree stands at this place
 abbrev pub TreeStands : List Tree → NodeId → Tree → Type 0
@@ -73,12 +51,6 @@ abbrev pub TableStands : List Tree → List (Option NodeId) → Table → Type 0
 TableStands ts [] [] = Unit {0}
 TableStands ts (a ∷ anchored) (o ∷ table) = SlotStands ts a o.1 × TableStands ts anchored table
 TableStands ts _ _ = ⊥
-
--- a node with this anchor has this place, where its name stands
-abbrev pub Placed : List (List ℕ) → Option ℕ → Anchor → ℕ → Type 0
-Placed names None None slot = Unit {0}
-Placed names (Some place) (Some name) slot = (place ≡ slot) × (slice_get names slot ≡ Some name)
-Placed names _ _ slot = ⊥
 
 pub record OpenStands (ts : List Tree) (names : List (List ℕ)) (o : Open) (p : machine.Open) : Type 0 where
   pub place : Placed names o.place p.anchor p.slot

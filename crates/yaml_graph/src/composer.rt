@@ -8,19 +8,20 @@ ghost use Rattle.yaml_definitions.specs.model.Event.{Anchor};
 ghost use Rattle.yaml_definitions.specs.model.Core.{Resolved, resolve, collection_tag};
 ghost use Rattle.yaml_definitions.specs.model.Unfold.{Outcome, and_then, placed, tree_named, last_named};
 ghost use Rattle.yaml_text.specs.EventModel.{event_of, written_of, style_of};
-ghost use Rattle.yaml_graph.specs.GraphModel.{AreLow, node_tree, trees_in, PartsBelow};
-ghost use Rattle.yaml_graph.specs.Refused.{RefusesUnfolding};
-ghost use Rattle.yaml_graph.specs.ComposerSteps.{State, initial_state, node_begun, whole, collection_begun, collection_ended, added, step, scalar_added};
-ghost use Rattle.yaml_graph.specs.ComposerSteps.{paired as pairs_of};
-ghost use Rattle.yaml_graph.specs.ComposerModel.{is_mapping, kind_number, anchor_view, names_of, Placed, Collects, Holds, Reached};
+ghost use Rattle.yaml_tree.specs.TreeLists.{AreLow};
+ghost use Rattle.yaml_graph.specs.GraphModel.{node_tree, trees_in, PartsBelow};
+ghost use Rattle.yaml_tree.specs.Refused.{RefusesUnfolding};
+ghost use Rattle.yaml_tree.specs.ComposerSteps.{State, initial_state, node_begun, whole, collection_begun, collection_ended, added, step, scalar_added, paired as pairs_of};
+ghost use Rattle.yaml_tree.specs.Anchors.{names_of, Placed};
+ghost use Rattle.yaml_graph.specs.ComposerModel.{is_mapping, kind_number, anchor_view, Collects, Holds, Reached};
 ghost use Rattle.yaml_graph.specs.Finished.{Finishes, RefusesHeight};
 ghost use Rattle.yaml_graph.specs.declared.node.Node.{Node};
-ghost use Rattle.yaml_graph.specs.declared.node.NodeId.{NodeId};
+ghost use Rattle.yaml_tree.specs.declared.node.NodeId.{NodeId};
 
 use crate::graph::Graph;
 use crate::height;
 use crate::kept::scalar_of;
-use crate::node::{Node, NodeId, NodeKind};
+use crate::node::{Node, NodeKind};
 use crate::tag::Collection;
 use std::alloc::Global;
 use std::borrow::CowStr;
@@ -29,6 +30,7 @@ use std::mem;
 use yaml_core::scalar::CoreFault;
 use yaml_text::event::{Event, EventTag, Style};
 use yaml_text::fault::Fault;
+use yaml_tree::node::NodeId;
 
 /// A collection that is still open.
 #[derive(Drop)]

@@ -2,7 +2,8 @@
 ghost use Rattle.std.specs.Prelude.{◌≡◌, List, map, MatchResult};
 ghost use Rattle.yaml_definitions.specs.model.Serial.{Document, stream_events};
 ghost use Rattle.yaml_text.specs.EventModel.{event_of};
-ghost use Rattle.yaml_graph.specs.Composed.{Composable, Composed, RefusesStream};
+ghost use Rattle.yaml_tree.specs.Refused.{RefusesStream};
+ghost use Rattle.yaml_graph.specs.Composed.{Composable, Composed};
 
 use crate::composer::Composer;
 use crate::copied::copies;

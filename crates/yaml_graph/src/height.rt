@@ -3,12 +3,13 @@ ghost use Rattle.std.specs.Prelude.{◌≡◌, ◌<◌, ℕ, suc, min, max, List
 ghost use Rattle.std.specs.List.{All};
 ghost use Rattle.yaml_definitions.specs.model.Limits as limit;
 ghost use Rattle.yaml_definitions.specs.model.Tree.{Tree, sequence, mapping};
-ghost use Rattle.yaml_graph.specs.TreeLists.{trees, pairs};
+ghost use Rattle.yaml_tree.specs.TreeLists.{trees, pairs, cut};
 ghost use Rattle.yaml_graph.specs.GraphModel.{trees_at, entries_at, kind_tree, PartsBelow};
-ghost use Rattle.yaml_graph.specs.ComposerModel.{cut, AllBelow, IsFirstAbove};
+ghost use Rattle.yaml_graph.specs.ComposerModel.{AllBelow, IsFirstAbove};
 
-use crate::node::{NodeId, NodeKind};
+use crate::node::NodeKind;
 use yaml_text::limits::height_limit;
+use yaml_tree::node::NodeId;
 
 /// What stands for every height above the limit.
 fn too_high() -> u32

@@ -5,7 +5,7 @@ ghost use Rattle.yaml_definitions.specs.model.Tag.{default_tag, is_core};
 ghost use Rattle.yaml_definitions.specs.model.Core.{collection_tag};
 ghost use Rattle.yaml_definitions.specs.model.Unfold.{placed};
 ghost use Rattle.yaml_text.specs.EventModel.{written_of};
-ghost use Rattle.yaml_graph.specs.Refused.{RefusesUnfolding};
+ghost use Rattle.yaml_tree.specs.Refused.{RefusesUnfolding};
 ghost use Rattle.yaml_graph.specs.ComposerModel.{kind_number};
 
 use std::borrow::CowStr;

@@ -10,11 +10,11 @@ use Rattle.yaml_definitions.specs.model.Tree.{Tree}
 use Rattle.yaml_definitions.specs.model.Same.{same}
 use Rattle.yaml_graph.specs.GraphModel.{trees_at}
 use Rattle.yaml_graph.specs.GraphView.{nodes_of, graph_trees, tree}
-use Rattle.yaml_graph.specs.declared.node.NodeId.{NodeId}
+use Rattle.yaml_tree.specs.declared.node.NodeId.{NodeId}
 use Rattle.yaml_graph.specs.declared.graph.Graph.{Graph}
 use Rattle.yaml_rank.specs.RanksView.{rank_of, RanksAre}
 use Rattle.yaml_rank.specs.declared.ranks.Ranks.{Ranks}
-use Rattle.yaml_rank.proofs.GraphOf.{get-map, get-unmap}
+use Rattle.yaml_tree.proofs.Lists.{get-map, get-unmap}
 use Rattle.yaml_pair.specs.declared.partners.Partners.{Partners}
 use Rattle.yaml_pair.specs.Names.{EqualPair}
 use Rattle.yaml_pair.specs.Named.{AllWithin, Within, AreRanks, Name, is_one, IsCount, AreCounts, LoneNames, OnlyFree, JoinsTo, IsNone, HasPairs, EqualPairs}

@@ -8,9 +8,9 @@ use Rattle.std.proofs.lemmas.List.{length_push, map_more}
 use Rattle.std.proofs.lemmas.List.Sums.{count_by_more_yes, count_by_more_no}
 use Rattle.std.proofs.lemmas.Option.{slice_get-get_or}
 use Rattle.std.proofs.lemmas.Result.{IfOk-weaker}
-use Rattle.yaml_graph.proofs.GraphLaws.{get-more, get-end, get-push}
+use Rattle.yaml_tree.proofs.Lists.{get-more, get-end, get-push}
 use Rattle.yaml_graph.specs.GraphView.{nodes_of, tree}
-use Rattle.yaml_graph.specs.declared.node.NodeId.{NodeId}
+use Rattle.yaml_tree.specs.declared.node.NodeId.{NodeId}
 use Rattle.yaml_graph.specs.declared.graph.Graph.{Graph}
 use Rattle.yaml_rank.specs.RanksView.{rank_of}
 use Rattle.yaml_rank.specs.declared.ranks.Ranks.{Ranks}

@@ -16,7 +16,7 @@ use Rattle.yaml_graph.specs.GraphView.{nodes_of, tree}
 use Rattle.yaml_graph.specs.declared.graph.Graph.{Graph}
 use Rattle.yaml_rank.specs.RanksView.{rank_of, RanksAre}
 use Rattle.yaml_rank.specs.declared.ranks.Ranks.{Ranks}
-use Rattle.yaml_rank.proofs.Numbers.{equal-cmp}
+use Rattle.yaml_tree.proofs.Numbers.{equal-cmp}
 use Rattle.yaml_pair.specs.Names.{Naming, by_object, by_path, scalar_at, group_of, both_same, same_if_any, both_equal, same_object, same_name}
 use Rattle.yaml_pair.specs.Named.{Name, name_cmp, is_one, IsScalarRank, IsObjectName, IsPathName, IsName}
 use Rattle.yaml_pair.proofs.Parts.{same-test}

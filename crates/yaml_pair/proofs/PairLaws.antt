@@ -6,11 +6,11 @@ use Rattle.std.proofs.lemmas.Option.{slice_get_within}
 use Rattle.yaml_definitions.specs.model.Tree.{Tree}
 use Rattle.yaml_graph.specs.GraphModel.{trees_at}
 use Rattle.yaml_graph.specs.GraphView.{graph_trees, tree}
-use Rattle.yaml_graph.specs.declared.node.NodeId.{NodeId}
+use Rattle.yaml_tree.specs.declared.node.NodeId.{NodeId}
 use Rattle.yaml_graph.specs.declared.graph.Graph.{Graph}
 use Rattle.yaml_rank.specs.RanksView.{RanksAre}
 use Rattle.yaml_rank.specs.declared.ranks.Ranks.{Ranks}
-use Rattle.yaml_rank.proofs.GraphOf.{get-map, get-unmap}
+use Rattle.yaml_tree.proofs.Lists.{get-map, get-unmap}
 use Rattle.yaml_pair.specs.declared.partners.Partners.{Partners}
 use Rattle.yaml_pair.specs.Names.{Naming, same_name, LeftFree, RightFree, LonePair, NamedPairs}
 use Rattle.yaml_pair.specs.Named.{AllWithin, Within, Name, is_one, IsName, AreNames, LoneNames, JoinsTo, HasPairs}

@@ -10,11 +10,11 @@ use Rattle.std.proofs.lemmas.List.{at_drop_more, at_drop_all, length-map}
 use Rattle.yaml_definitions.specs.model.Tag.{str_tag}
 use Rattle.yaml_definitions.specs.model.Tree.{Tree, scalar}
 use Rattle.yaml_definitions.specs.model.Same.{same}
-use Rattle.yaml_graph.specs.TreeLists.{trees, pairs}
+use Rattle.yaml_tree.specs.TreeLists.{trees, pairs}
 use Rattle.yaml_graph.specs.GraphModel.{Entries, trees_at, entries_at, kind_tree, entries_of}
 use Rattle.yaml_graph.specs.GraphView.{nodes_of, graph_trees, tree}
 use Rattle.yaml_graph.proofs.GraphLaws.{node-tree}
-use Rattle.yaml_graph.specs.declared.node.NodeId.{NodeId}
+use Rattle.yaml_tree.specs.declared.node.NodeId.{NodeId}
 use Rattle.yaml_graph.specs.declared.node.Node.{Node}
 use Rattle.yaml_graph.specs.declared.node.NodeKind.{NodeKind}
 use Rattle.yaml_graph.specs.declared.node.NodeKind.TheVariants as kinds

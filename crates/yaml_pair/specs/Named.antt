@@ -9,7 +9,7 @@ use Rattle.std.specs.Option.{option_map, option_cmp}
 use Rattle.yaml_definitions.specs.model.Tree.{Tree, Trees, Pairs, scalar, sequence, mapping, end, item, done, entry}
 use Rattle.yaml_graph.specs.GraphModel.{Entries, trees_at}
 use Rattle.yaml_graph.specs.GraphView.{nodes_of, graph_trees, tree}
-use Rattle.yaml_graph.specs.declared.node.NodeId.{NodeId}
+use Rattle.yaml_tree.specs.declared.node.NodeId.{NodeId}
 use Rattle.yaml_graph.specs.declared.graph.Graph.{Graph}
 use Rattle.yaml_rank.specs.RanksView.{rank_of}
 use Rattle.yaml_rank.specs.declared.ranks.Ranks.{Ranks}

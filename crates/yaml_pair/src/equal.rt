@@ -9,8 +9,8 @@ use crate::partners::{Name, Partners, join};
 use crate::view::View;
 use std::alloc::Global;
 use std::collections::BTreeMap;
-use yaml_graph::node::NodeId;
 use yaml_text::fault::Fault;
+use yaml_tree::node::NodeId;
 
 /// The ranks of items.
 fn ranks_of(alloc: Global, view: View<'_>, items: &[NodeId]) -> Result<Vec<usize>, Fault>

@@ -5,8 +5,8 @@ ghost use Rattle.yaml_pair.specs.Named.{Keeps};
 use crate::partners::{Partners, is_free};
 use crate::view::View;
 use std::alloc::Global;
-use yaml_graph::node::NodeId;
 use yaml_text::fault::Fault;
+use yaml_tree::node::NodeId;
 
 /// An entry that more items of a side have says nothing.
 const WIDE: usize = 32;

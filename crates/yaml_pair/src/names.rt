@@ -10,8 +10,8 @@ use crate::asked::{Asked, TABLE};
 use crate::partners::{Name, Partners, is_free, join};
 use crate::view::View;
 use std::alloc::Global;
-use yaml_graph::node::NodeId;
 use yaml_text::fault::Fault;
+use yaml_tree::node::NodeId;
 
 /// Where a name is looked for.
 #[derive(Clone, Copy)]

@@ -15,10 +15,10 @@ use crate::turn::pair_in_turn;
 use crate::view::View;
 use std::alloc::Global;
 use yaml_graph::graph::Graph;
-use yaml_graph::node::NodeId;
 use yaml_path::places::Places;
 use yaml_rank::ranks::Ranks;
 use yaml_text::fault::Fault;
+use yaml_tree::node::NodeId;
 
 /// So many entries are looked at, however few nodes there are.
 const ENTRIES: usize = 1_048_576;

@@ -6,8 +6,8 @@ use crate::names::{Column, own_name};
 use crate::partners::{Name, Partners, is_free};
 use crate::view::View;
 use std::alloc::Global;
-use yaml_graph::node::NodeId;
 use yaml_text::fault::Fault;
+use yaml_tree::node::NodeId;
 
 /// How many items of the right an item of the left looks at.
 const LOOKS: usize = 64;

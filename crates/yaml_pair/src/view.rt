@@ -7,15 +7,16 @@ ghost use Rattle.yaml_definitions.specs.model.Tree.{scalar};
 ghost use Rattle.yaml_definitions.specs.model.Same.{same};
 ghost use Rattle.yaml_graph.specs.GraphModel.{entries_at};
 ghost use Rattle.yaml_graph.specs.GraphView.{nodes_of, graph_trees, tree};
-ghost use Rattle.yaml_graph.specs.TreeLists.{pairs};
+ghost use Rattle.yaml_tree.specs.TreeLists.{pairs};
 ghost use Rattle.yaml_path.specs.Path.{part, value_in};
 ghost use Rattle.yaml_rank.specs.RanksView.{numbers_of, sorted_of, rank_of, RanksAre};
 ghost use Rattle.yaml_pair.specs.Names.{to_key, scalar_of, content_of};
 ghost use Rattle.yaml_pair.specs.Named.{AllWithin, EntriesWithin, IsFound, IsScalarRank, width};
 
 use yaml_graph::graph::Graph;
-use yaml_graph::node::{Node, NodeId, NodeKind};
+use yaml_graph::node::{Node, NodeKind};
 use yaml_rank::ranks::Ranks;
+use yaml_tree::node::NodeId;
 
 /// The tag of the core schema for texts.
 const STR: &str = "tag:yaml.org,2002:str";

@@ -3,7 +3,8 @@ ghost use Rattle.std.specs.Prelude.{◌≡◌, ◌<◌, ◌^◌, ◌+◌, length
 ghost use Rattle.std.specs.List.{All};
 ghost use Rattle.yaml_definitions.specs.model.Tree.{height};
 ghost use Rattle.yaml_graph.specs.GraphView.{nodes_of, tree};
-ghost use Rattle.yaml_rank.specs.TagModel.{Texts, TagAt};
+ghost use Rattle.yaml_tree.specs.Tags.{Texts};
+ghost use Rattle.yaml_rank.specs.TagModel.{TagAt};
 ghost use Rattle.yaml_rank.specs.RankModel.{Settled, KeyMade, RefusesKeys, Arranges, RefusesEntries};
 
 use crate::entries::{arranged, entry_ranks, item_ranks, key_ranks};
@@ -12,8 +13,9 @@ use crate::order::{first_equal, in_order};
 use crate::prefix::{prefix, rest};
 use std::alloc::Global;
 use yaml_graph::graph::Graph;
-use yaml_graph::node::{NodeId, NodeKind};
+use yaml_graph::node::NodeKind;
 use yaml_text::fault::Fault;
+use yaml_tree::node::NodeId;
 
 /// The key of a node of which all parts are ranked and whose tag has this number, and the entries of
 /// a mapping in the order of their keys. Two equal keys are refused.

@@ -10,11 +10,11 @@ ghost use Rattle.yaml_rank.specs.LevelModel.{KeysMade, RefusesLevel};
 use crate::key::Key;
 use crate::key_of::key_of;
 use crate::tags::{place, tag_of};
-use crate::visits::Visits;
 use std::alloc::Global;
 use yaml_graph::graph::Graph;
-use yaml_graph::node::NodeId;
 use yaml_text::fault::Fault;
+use yaml_tree::node::NodeId;
+use yaml_tree::visits::Visits;
 
 /// The keys of the nodes of these numbers. The entries of their mappings are put in order, and kept
 /// where there is a place for them; two equal keys are refused.

@@ -5,7 +5,7 @@ use Rattle.std.proofs.Math.ListN.{drop_of_length-le}
 use Rattle.std.proofs.lemmas.List.{append_assoc}
 use Rattle.yaml_definitions.specs.model.Tag.{core_tag, seq_tag, map_tag}
 use Rattle.yaml_definitions.specs.model.Tree.{Tree, Trees, Pairs, scalar, sequence, mapping}
-use Rattle.yaml_graph.specs.TreeLists.{trees, pairs}
+use Rattle.yaml_tree.specs.TreeLists.{trees, pairs}
 use Rattle.yaml_show_scalar.specs.Scalars.{scalar_text}
 use Rattle.yaml_show_scalar.specs.Tags.{tag_before}
 use Rattle.yaml_show_scalar.specs.declared.scalar.Quotes.TheVariants.{Always}

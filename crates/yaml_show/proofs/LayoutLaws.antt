@@ -8,9 +8,9 @@ use Rattle.std.proofs.lemmas.List.{append_assoc, append-nil}
 use Rattle.yaml_definitions.specs.model.Tag.{seq_tag, map_tag}
 use Rattle.yaml_definitions.specs.model.Tree.{Tree, Trees, Pairs, scalar, sequence, mapping}
 use Rattle.yaml_definitions.specs.model.Order.{arranged}
-use Rattle.yaml_graph.specs.TreeLists.{trees, pairs}
+use Rattle.yaml_tree.specs.TreeLists.{trees, pairs}
 use Rattle.yaml_graph.specs.GraphView.{roots_of, tree, forest}
-use Rattle.yaml_graph.specs.declared.node.NodeId.{NodeId}
+use Rattle.yaml_tree.specs.declared.node.NodeId.{NodeId}
 use Rattle.yaml_graph.specs.declared.graph.Graph.{Graph}
 use Rattle.yaml_spell.proofs.ShownLaws.{map-twice}
 use Rattle.yaml_show_scalar.specs.Scalars.{scalar_text, scalar_lines}

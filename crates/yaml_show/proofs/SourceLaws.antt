@@ -11,10 +11,10 @@ use Rattle.yaml_definitions.proofs.SameLaws.{same_to, same_from}
 use Rattle.yaml_graph.specs.GraphView.{nodes_of, tree}
 use Rattle.yaml_graph.specs.declared.node.Node.{Node}
 use Rattle.yaml_graph.specs.declared.graph.Graph.{Graph}
-use Rattle.yaml_rank.specs.View.{Inside, items_in, entries_in, inside_tree, InsideBelow}
+use Rattle.yaml_tree.specs.View.{Inside, items_in, entries_in, inside_tree, InsideBelow}
 use Rattle.yaml_rank.specs.RanksView.{RanksAre}
 use Rattle.yaml_rank.specs.declared.ranks.Ranks.{Ranks}
-use Rattle.yaml_rank.proofs.GraphOf.{kind_inside, tag_at, inside_at, graph-made, graph-below}
+use Rattle.yaml_graph.proofs.GraphOf.{kind_inside, tag_at, inside_at, graph-made, graph-below}
 use Rattle.yaml_spell.specs.RankView.{rank_in}
 use Rattle.yaml_spell.specs.RankedNodes.{RanksTell}
 

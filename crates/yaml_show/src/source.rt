@@ -1,11 +1,12 @@
 //! A graph whose mappings have their entries in the order of the source.
 use yaml_graph::graph::Graph;
-use yaml_graph::node::{NodeId, NodeKind};
+use yaml_graph::node::NodeKind;
 use yaml_rank::ranks::Ranks;
 use yaml_spell::node::short_len;
 use yaml_spell::ranked::RankedNodes;
 use yaml_spell::ranked_graph::RankedGraph;
 use yaml_spell::shown::{Inside, Shown};
+use yaml_tree::node::NodeId;
 
 /// A graph whose mappings have their entries in the order of the source. The ranks are those of its nodes.
 #[derive(Clone, Copy)]

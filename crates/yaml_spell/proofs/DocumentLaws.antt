@@ -14,11 +14,11 @@ use Rattle.yaml_definitions.specs.model.Same.{same}
 use Rattle.yaml_definitions.specs.model.Serial.{SerialNode}
 use Rattle.yaml_definitions.specs.canonical.NodeText.{node_text}
 use Rattle.yaml_definitions.specs.canonical.Spell.{serial_of, serial_of_arranged, spell, spell_bytes}
-use Rattle.yaml_graph.specs.TreeLists.{trees, pairs}
+use Rattle.yaml_tree.specs.TreeLists.{trees, pairs}
 use Rattle.yaml_graph.specs.GraphView.{roots_of, tree, forest}
-use Rattle.yaml_graph.specs.declared.node.NodeId.{NodeId}
+use Rattle.yaml_tree.specs.declared.node.NodeId.{NodeId}
 use Rattle.yaml_graph.specs.declared.graph.Graph.{Graph}
-use Rattle.yaml_rank.specs.View.{Inside, content, items, entries, InsideBelow, inside_tree}
+use Rattle.yaml_tree.specs.View.{Inside, content, items, entries, InsideBelow, inside_tree}
 use Rattle.yaml_spell.specs.declared.names.State.TheVariants.{Unseen}
 use Rattle.yaml_spell.specs.NamesView.{Given}
 use Rattle.yaml_spell.specs.Pieces.{Began, TakesPiece, Puts, Misses, Fails}

@@ -7,16 +7,16 @@ use Rattle.yaml_definitions.specs.model.Tree.{Tree, sequence, mapping}
 use Rattle.yaml_definitions.specs.model.Order.{arranged}
 use Rattle.yaml_definitions.specs.model.Same.{same}
 use Rattle.yaml_definitions.proofs.Equivalence.{same_refl}
-use Rattle.yaml_graph.specs.TreeLists.{trees, pairs}
+use Rattle.yaml_tree.specs.TreeLists.{trees, pairs}
 use Rattle.yaml_graph.specs.GraphModel.{Entries, items_of}
 use Rattle.yaml_graph.specs.GraphView.{nodes_of, tree}
-use Rattle.yaml_graph.specs.declared.node.NodeId.{NodeId}
+use Rattle.yaml_tree.specs.declared.node.NodeId.{NodeId}
 use Rattle.yaml_graph.specs.declared.node.Node.{Node}
 use Rattle.yaml_graph.specs.declared.node.NodeKind.{NodeKind}
 use Rattle.yaml_graph.specs.declared.node.NodeKind.TheVariants as kinds
 use Rattle.yaml_graph.specs.declared.graph.Graph.{Graph}
-use Rattle.yaml_rank.specs.View.{Inside, content, items, entries, InsideBelow, inside_tree}
-use Rattle.yaml_rank.specs.Insides.{Held}
+use Rattle.yaml_tree.specs.View.{Inside, content, items, entries, InsideBelow, inside_tree}
+use Rattle.yaml_tree.specs.Insides.{Held}
 use Rattle.yaml_rank.specs.RanksView.{RanksAre, sorted_of}
 use Rattle.yaml_rank.specs.Laws.{arranged_kind}
 use Rattle.yaml_rank.specs.declared.ranks.Ranks.{Ranks}

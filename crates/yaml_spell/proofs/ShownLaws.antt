@@ -8,8 +8,8 @@ use Rattle.std.proofs.lemmas.Bool.{cond_both}
 use Rattle.yaml_definitions.specs.model.Tree.{Tree, scalar, sequence, mapping, height, heights, heights_of_pairs}
 use Rattle.yaml_definitions.specs.canonical.NodeText.{node_text}
 use Rattle.yaml_definitions.specs.canonical.Spell.{short, text_len}
-use Rattle.yaml_graph.specs.TreeLists.{trees, pairs}
-use Rattle.yaml_rank.specs.View.{InsideBelow, inside_tree, items_in, entries_in}
+use Rattle.yaml_tree.specs.TreeLists.{trees, pairs}
+use Rattle.yaml_tree.specs.View.{InsideBelow, inside_tree, items_in, entries_in}
 use Rattle.yaml_spell.specs.declared.shown.Inside.{Inside}
 use Rattle.yaml_spell.specs.declared.shown.Inside.TheVariants.{Scalar, Sequence, Mapping}
 use Rattle.yaml_spell.specs.RankedNodes.{inside_shown}

@@ -9,7 +9,7 @@ use Rattle.std.proofs.lemmas.Str.{encodes-append}
 use Rattle.yaml_definitions.specs.model.Tree.{Tree, Trees, Pairs, scalar, sequence, mapping}
 use Rattle.yaml_definitions.specs.canonical.Spell.{short}
 use Rattle.yaml_definitions.specs.canonical.TagText.{tag_text, written_tag}
-use Rattle.yaml_graph.specs.TreeLists.{trees, pairs}
+use Rattle.yaml_tree.specs.TreeLists.{trees, pairs}
 use Rattle.yaml_spell.specs.Known.{is_unseen}
 use Rattle.yaml_spell.specs.NamesView.{RankStates, met_at}
 use Rattle.yaml_spell.specs.Walked.{entered, noticed, noticed_all, noticed_pairs}

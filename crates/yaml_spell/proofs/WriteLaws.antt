@@ -10,7 +10,7 @@ use Rattle.yaml_definitions.specs.canonical.Serialize.{anchor_name}
 use Rattle.yaml_definitions.specs.model.Serial.{alias_at}
 use Rattle.yaml_definitions.specs.canonical.NodeText.{node_text, anchor_text, items_text, pairs_text, quoted}
 use Rattle.yaml_definitions.specs.canonical.TagText.{tag_text, written_tag}
-use Rattle.yaml_graph.specs.TreeLists.{trees, pairs}
+use Rattle.yaml_tree.specs.TreeLists.{trees, pairs}
 use Rattle.yaml_spell.specs.Pieces.{Began, TakesPiece, Puts, Misses, Fails}
 use Rattle.yaml_spell.specs.NamesView.{Given}
 use Rattle.yaml_spell.specs.declared.names.Opening.{Opening}

@@ -3,10 +3,10 @@ use Rattle.std.specs.Prelude.{◌≡◌, ◌↔◌, ℕ, ◌<◌, List, map}
 use Rattle.std.specs.List.{All}
 use Rattle.yaml_definitions.specs.model.Tree.{Tree, Trees, Pairs}
 use Rattle.yaml_definitions.specs.model.Same.{Same}
-use Rattle.yaml_graph.specs.TreeLists.{trees, pairs}
-use Rattle.yaml_rank.specs.View.{InsideBelow, inside_tree, content, items, entries}
-use Rattle.yaml_rank.specs.View as view
-use Rattle.yaml_rank.specs.Insides.{Held}
+use Rattle.yaml_tree.specs.TreeLists.{trees, pairs}
+use Rattle.yaml_tree.specs.View.{InsideBelow, inside_tree, content, items, entries}
+use Rattle.yaml_tree.specs.View as view
+use Rattle.yaml_tree.specs.Insides.{Held}
 use Rattle.yaml_spell.specs.declared.names.Names.{Names}
 use Rattle.yaml_spell.specs.declared.shown.Inside.{Inside}
 use Rattle.yaml_spell.specs.declared.shown.Inside.TheVariants as shown

@@ -1,7 +1,7 @@
 //! Nodes that are ranked, whichever store they lie in.
 ghost use Rattle.std.specs.Prelude.{◌≡◌, ◌<◌, ℕ};
 ghost use Rattle.yaml_definitions.specs.model.Tree.{Tree};
-ghost use Rattle.yaml_rank.specs.View.{inside_tree, InsideBelow};
+ghost use Rattle.yaml_tree.specs.View.{inside_tree, InsideBelow};
 ghost use Rattle.yaml_spell.specs.RankedNodes.{inside_shown, RanksTell};
 ghost use Rattle.yaml_spell.specs.ShortNodes.{short_len};
 

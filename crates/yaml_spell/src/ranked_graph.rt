@@ -3,8 +3,9 @@ use crate::node::short_len;
 use crate::ranked::RankedNodes;
 use crate::shown::{Inside, Shown};
 use yaml_graph::graph::Graph;
-use yaml_graph::node::{NodeId, NodeKind};
+use yaml_graph::node::NodeKind;
 use yaml_rank::ranks::Ranks;
+use yaml_tree::node::NodeId;
 
 /// A graph with its ranks.
 #[derive(Clone, Copy)]

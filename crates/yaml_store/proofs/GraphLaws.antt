@@ -9,14 +9,14 @@ use Rattle.yaml_definitions.specs.model.Limits.{height_limit}
 use Rattle.yaml_definitions.specs.model.Tree.{scalar, height}
 use Rattle.yaml_graph.specs.GraphModel.{trees_in, PartsBelow, Grounded}
 use Rattle.yaml_graph.specs.declared.node.Node as graph
-use Rattle.yaml_graph.specs.declared.node.NodeId.{NodeId}
+use Rattle.yaml_tree.specs.declared.node.NodeId.{NodeId}
 use Rattle.yaml_graph.specs.declared.node.NodeKind.{NodeKind}
 use Rattle.yaml_graph.specs.declared.node.NodeKind.TheVariants as kinds
-use Rattle.yaml_rank.specs.View.{InsideBelow}
-use Rattle.yaml_rank.specs.Insides.{Held, trees_held}
-use Rattle.yaml_rank.proofs.GraphOf.{number, numbers, kind_inside, node_held as held_of, more-trees, get-map, get-unmap}
-use Rattle.yaml_rank.proofs.Numbering.{get-within}
-use Rattle.yaml_rank.proofs.LevelLaws.{get-some}
+use Rattle.yaml_tree.specs.View.{InsideBelow}
+use Rattle.yaml_tree.specs.Insides.{Held, trees_held}
+use Rattle.yaml_graph.proofs.GraphOf.{number, numbers, kind_inside, node_held as held_of, more-trees}
+use Rattle.yaml_tree.proofs.Lists.{get-map, get-unmap, get-some}
+use Rattle.yaml_tree.proofs.Numbering.{get-within}
 use Rattle.yaml_store.specs.declared.nodes.Node.{Node}
 use Rattle.yaml_store.specs.declared.store.Store.{Store}
 use Rattle.yaml_store.specs.TextModel.{text_of}

@@ -6,15 +6,13 @@ use Rattle.std.proofs.lemmas.List.{take_all, take-append-le, drop-append-le, dro
 use Rattle.std.proofs.lemmas.Option.{get_or_from_slice_get}
 use Rattle.yaml_definitions.specs.model.Limits.{height_limit}
 use Rattle.yaml_definitions.specs.model.Tree.{Tree, scalar, height}
-use Rattle.yaml_graph.specs.GraphModel.{tree_at}
-use Rattle.yaml_graph.specs.ComposerModel.{cut}
-use Rattle.yaml_graph.proofs.GraphLaws.{get-end}
-use Rattle.yaml_rank.specs.View.{Inside, content, items, entries, items_in, entries_in, InsideBelow, inside_tree}
-use Rattle.yaml_rank.specs.Insides.{Held, held_tree, more_held, trees_held}
-use Rattle.yaml_rank.proofs.InsideLaws.{held-length}
-use Rattle.yaml_rank.proofs.Numbers.{below_or}
-use Rattle.yaml_rank.proofs.Numbering.{get-there, get-within}
-use Rattle.yaml_rank.proofs.LevelLaws.{push-get, get-some}
+use Rattle.yaml_tree.specs.TreeLists.{tree_at, cut}
+use Rattle.yaml_tree.proofs.Lists.{get-end, push-get, get-some}
+use Rattle.yaml_tree.specs.View.{Inside, content, items, entries, items_in, entries_in, InsideBelow, inside_tree}
+use Rattle.yaml_tree.specs.Insides.{Held, held_tree, more_held, trees_held}
+use Rattle.yaml_tree.proofs.InsideLaws.{held-length}
+use Rattle.yaml_tree.proofs.Numbers.{below_or}
+use Rattle.yaml_tree.proofs.Numbering.{get-there, get-within}
 use Rattle.yaml_store.specs.declared.nodes.Node.{Node}
 use Rattle.yaml_store.specs.declared.nodes.Place.{Place}
 use Rattle.yaml_store.specs.declared.nodes.Place.TheVariants.{Scalar, Sequence, Mapping}

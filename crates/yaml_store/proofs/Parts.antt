@@ -4,9 +4,8 @@ use Rattle.std.specs.List.{slice_get, All}
 use Rattle.std.proofs.lemmas.List.{at_drop_more, at_drop_all}
 use Rattle.yaml_definitions.specs.model.Limits.{height_limit}
 use Rattle.yaml_definitions.specs.model.Tree.{Tree, height, heights, heights_of_pairs}
-use Rattle.yaml_graph.specs.GraphModel.{tree_at}
-use Rattle.yaml_graph.specs.TreeLists.{trees, pairs}
-use Rattle.yaml_graph.specs.ComposerSteps.{paired}
+use Rattle.yaml_tree.specs.TreeLists.{tree_at, trees, pairs}
+use Rattle.yaml_tree.specs.ComposerSteps.{paired}
 use Rattle.yaml_store.specs.declared.nodes.Node.{Node}
 use Rattle.yaml_store.specs.StoreModel.{parts_at, AllMeasured}
 

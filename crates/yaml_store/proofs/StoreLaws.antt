@@ -7,13 +7,11 @@ use Rattle.std.proofs.lemmas.List.{length-map, get_or_append_left}
 use Rattle.std.proofs.lemmas.Option.{slice_get_within, get_or_from_slice_get}
 use Rattle.yaml_definitions.specs.model.Limits.{height_limit}
 use Rattle.yaml_definitions.specs.model.Tree.{Tree, scalar, sequence, mapping, heights}
-use Rattle.yaml_graph.specs.GraphModel.{tree_at}
-use Rattle.yaml_graph.specs.ComposerModel.{cut}
-use Rattle.yaml_graph.specs.TreeLists.{trees as part_list, pairs}
-use Rattle.yaml_graph.specs.ComposerSteps.{paired, collection_from}
-use Rattle.yaml_graph.proofs.GraphLaws.{get-end}
-use Rattle.yaml_rank.specs.View.{content, items, entries, inside_tree}
-use Rattle.yaml_rank.specs.Insides.{trees_held}
+use Rattle.yaml_tree.specs.TreeLists.{tree_at, cut, trees as part_list, pairs}
+use Rattle.yaml_tree.specs.ComposerSteps.{paired, collection_from}
+use Rattle.yaml_tree.proofs.Lists.{get-end}
+use Rattle.yaml_tree.specs.View.{content, items, entries, inside_tree}
+use Rattle.yaml_tree.specs.Insides.{trees_held}
 use Rattle.yaml_store.specs.declared.memo.Memo.{Memo}
 use Rattle.yaml_store.specs.declared.nodes.Node.{Node}
 use Rattle.yaml_store.specs.declared.nodes.Span.{Span}

@@ -4,7 +4,7 @@ use Rattle.std.specs.List.{slice_get, All}
 use Rattle.std.specs.Str.{IsUtf8}
 use Rattle.yaml_definitions.specs.model.Limits.{height_limit}
 use Rattle.yaml_definitions.specs.model.Tree.{Tree, height}
-use Rattle.yaml_rank.specs.View.{Inside, content, items, entries}
+use Rattle.yaml_tree.specs.View.{Inside, content, items, entries}
 use Rattle.yaml_store.specs.declared.nodes.Node.{Node}
 use Rattle.yaml_store.specs.declared.store.Store.{Store}
 use Rattle.yaml_store.specs.TextModel.{text_of}

@@ -2,10 +2,9 @@
 use Rattle.std.specs.Prelude.{◌≡◌, ◌⊎◌, ℕ, ◌<◌, ◌≤◌, Bool, true, false, List, [], map, Option, Some, None}
 use Rattle.std.specs.List.{slice_get, slice_index_or, slice_range}
 use Rattle.yaml_definitions.specs.model.Tree.{Tree}
-use Rattle.yaml_graph.specs.GraphModel.{tree_at}
-use Rattle.yaml_graph.specs.ComposerModel.{cut}
-use Rattle.yaml_rank.specs.View.{Inside, content, items, entries, InsideBelow}
-use Rattle.yaml_rank.specs.Insides.{Held, trees_held}
+use Rattle.yaml_tree.specs.TreeLists.{tree_at, cut}
+use Rattle.yaml_tree.specs.View.{Inside, content, items, entries, InsideBelow}
+use Rattle.yaml_tree.specs.Insides.{Held, trees_held}
 use Rattle.yaml_store.specs.declared.nodes.Span.{Span}
 use Rattle.yaml_store.specs.declared.nodes.Node.{Node}
 use Rattle.yaml_store.specs.declared.nodes.Kind.{Kind}

@@ -3,12 +3,11 @@ use Rattle.std.specs.Prelude.{◌≡◌, ℕ, ◌<◌, List, [], length, map, Op
 use Rattle.std.proofs.Common.{sym, subst}
 use Rattle.std.specs.List.{slice_get}
 use Rattle.yaml_definitions.specs.model.Tree.{Tree}
-use Rattle.yaml_graph.specs.GraphModel.{tree_at}
-use Rattle.yaml_rank.specs.View.{View, Inside, content, InsideBelow, inside_tree}
-use Rattle.yaml_rank.specs.Insides.{Held, HeldBelow}
-use Rattle.yaml_rank.proofs.InsideLaws.{held-tree}
-use Rattle.yaml_rank.proofs.GraphOf.{get-map, get-unmap}
-use Rattle.yaml_rank.proofs.LevelLaws.{get-some}
+use Rattle.yaml_tree.specs.TreeLists.{tree_at}
+use Rattle.yaml_tree.specs.View.{View, Inside, content, InsideBelow, inside_tree}
+use Rattle.yaml_tree.specs.Insides.{Held, HeldBelow}
+use Rattle.yaml_tree.proofs.InsideLaws.{held-tree}
+use Rattle.yaml_tree.proofs.Lists.{get-map, get-unmap, get-some}
 use Rattle.yaml_store.specs.declared.nodes.Node.{Node}
 use Rattle.yaml_store.specs.declared.nodes.Place.{Place}
 use Rattle.yaml_store.specs.declared.nodes.Place.TheVariants.{Scalar, Sequence, Mapping}

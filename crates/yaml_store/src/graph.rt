@@ -3,7 +3,7 @@ ghost use Rattle.std.specs.Prelude.{◌≡◌, ◌<◌, ℕ, length, map, Some, 
 ghost use Rattle.std.specs.String.{string_bytes};
 ghost use Rattle.std.specs.List.{slice_get, All};
 ghost use Rattle.yaml_graph.specs.GraphView.{graph_trees, roots_of};
-ghost use Rattle.yaml_rank.proofs.GraphOf.{kind_inside, node_held as held_of};
+ghost use Rattle.yaml_graph.proofs.GraphOf.{kind_inside, node_held as held_of};
 ghost use Rattle.yaml_store.specs.StoreModel.{Within, inside_of, node_held};
 ghost use Rattle.yaml_store.specs.StoreGrows.{Good, IsLow, IsText, tags_of, trees_of};
 ghost use Rattle.yaml_store.specs.TextModel.{text_of};
@@ -14,7 +14,8 @@ use crate::store::Store;
 use std::alloc::Global;
 use std::borrow::CowStr;
 use yaml_graph::graph::Graph;
-use yaml_graph::node::{Node as GraphNode, NodeId, NodeKind};
+use yaml_graph::node::{Node as GraphNode, NodeKind};
+use yaml_tree::node::NodeId;
 
 /// Nodes of a graph by these numbers.
 fn items(alloc: Global, parts: &[u32]) -> Result<Vec<NodeId>, NoMemory>

@@ -5,9 +5,8 @@ ghost use Rattle.std.specs.Cow.{cow_str_bytes};
 ghost use Rattle.std.specs.List.{slice_get, slice_range, All};
 ghost use Rattle.yaml_definitions.specs.model.Tree.{Tree, scalar, heights};
 ghost use Rattle.yaml_definitions.specs.model.Limits as limit;
-ghost use Rattle.yaml_graph.specs.TreeLists.{trees as part_list};
-ghost use Rattle.yaml_graph.specs.ComposerModel.{cut};
-ghost use Rattle.yaml_graph.specs.ComposerSteps.{collection_from, paired};
+ghost use Rattle.yaml_tree.specs.TreeLists.{trees as part_list, cut};
+ghost use Rattle.yaml_tree.specs.ComposerSteps.{collection_from, paired};
 ghost use Rattle.yaml_store.specs.StoreModel.{SpanWithin, AllMeasured, tag_at, parts_at, is_mapping};
 ghost use Rattle.yaml_store.specs.StoreGrows.{AtMostOne, Good, IsLow, Fits, Keeps, tags_of, trees_of, Stands};
 

@@ -11,7 +11,7 @@ ghost use Rattle.yaml_sink.specs.SinkModel.{start_of, end_of};
 ghost use Rattle.yaml_tree_builder.specs.Reached.{UnfoldTo};
 ghost use Rattle.yaml_tree_builder.specs.BuilderModel.{IsForest, AreForests};
 ghost use Rattle.yaml_store_composer.specs.KeeperModel.{Composes, MakesRoom, CountsOn, DressesOne};
-ghost use Rattle.yaml_graph.specs.Composed.{RefusesStream};
+ghost use Rattle.yaml_tree.specs.Refused.{RefusesStream};
 
 use crate::event_buffer::{Buffered, EventBuffer};
 use crate::pending::PendingProperties;

@@ -15,7 +15,7 @@ ghost use Rattle.yaml_tree_builder.specs.Reached.{UnfoldTo};
 ghost use Rattle.yaml_tree_builder.specs.BuilderModel.{IsForest, AreForests};
 ghost use Rattle.yaml_tree_builder.specs.TagModel.{kind_in};
 ghost use Rattle.yaml_store_composer.specs.PendingModel.{settled, Tells, IsPaid, Settles, GoesOn};
-ghost use Rattle.yaml_graph.specs.Composed.{RefusesStream};
+ghost use Rattle.yaml_tree.specs.Refused.{RefusesStream};
 
 use crate::copies::{are_both, are_same};
 use std::alloc::Global;

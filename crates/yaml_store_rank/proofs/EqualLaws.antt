@@ -9,10 +9,10 @@ use Rattle.std.proofs.lemmas.Cmp.{nat_cmp_total, tied_itself}
 use Rattle.std.proofs.lemmas.List.{length-map}
 use Rattle.std.proofs.lemmas.List.Sorted.{ranks_by, sorted_far}
 use Rattle.std.proofs.lemmas.Map.Keys.{IsDistinct-from_apart, IsDistinct-IsPermutation, apart_from_distinct}
-use Rattle.yaml_rank.specs.KeyModel.{pair_cmp}
-use Rattle.yaml_rank.specs.Places.{at, InOrder, AllRise, IsFirstEqual}
-use Rattle.yaml_rank.proofs.Numbers.{pair_cmp-total, pair-upto, less-cmp, equal-cmp, greater-cmp}
-use Rattle.yaml_rank.proofs.Lists.{get_or-any, get_or-map}
+use Rattle.yaml_tree.specs.Numbered.{pair_cmp}
+use Rattle.yaml_tree.specs.Places.{at, InOrder, AllRise, IsFirstEqual}
+use Rattle.yaml_tree.proofs.Numbers.{pair_cmp-total, pair-upto, less-cmp, equal-cmp, greater-cmp}
+use Rattle.yaml_tree.proofs.Lists.{get_or-any, get_or-map}
 use Rattle.yaml_store_rank.specs.PartsModel.{KeysRise, Differ}
 
 -- numbers that rise strictly in order differ

@@ -3,11 +3,9 @@ use Rattle.std.proofs.Common.{◌≡◌, inl, inr, ℕ, zero, suc, ◌+◌, ◌<
 use Rattle.std.specs.Prelude.{Some}
 use Rattle.std.specs.List.{slice_get}
 use Rattle.yaml_definitions.specs.model.Tree.{Tree}
-use Rattle.yaml_graph.proofs.GraphLaws.{get-more}
-use Rattle.yaml_rank.specs.Numbered.{AgreeBy}
-use Rattle.yaml_rank.proofs.Numbering.{Numbering, Goes, more, at-new, keeps, finished}
-use Rattle.yaml_rank.proofs.LevelLaws.{push-get}
-use Rattle.yaml_rank.proofs.Numbering.{get-within}
+use Rattle.yaml_tree.proofs.Lists.{get-more, push-get}
+use Rattle.yaml_tree.specs.Numbered.{AgreeBy}
+use Rattle.yaml_tree.proofs.Numbering.{Numbering, Goes, more, at-new, keeps, finished, get-within}
 use Rattle.yaml_store_rank.specs.KeyModel.{Key, key_cmp, Keys, Rises}
 use Rattle.yaml_store_rank.specs.LevelModel.{Told, NumberedOn}
 

@@ -1,7 +1,7 @@
 -- The first fifteen bytes of a text, from its first eight and the next eight.
 use Rattle.std.proofs.Common.{◌≡◌, ℕ, ◌+◌, ◌*◌, ◌/◌, ◌<◌, ◌≤◌, min, List, drop, length, slice_index, sym, ◌∙◌, subst, arith}
 use Rattle.std.proofs.lemmas.List.{get_or-drop, at_drop_all}
-use Rattle.yaml_rank.specs.PrefixModel.{front, IsPrefix}
+use Rattle.yaml_tree.specs.PrefixModel.{front, IsPrefix}
 use Rattle.yaml_store_rank.specs.NumberKeys.{joined}
 
 -- the next eight bytes, with zeros for those that it lacks

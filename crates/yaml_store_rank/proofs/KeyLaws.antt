@@ -8,12 +8,12 @@ use Rattle.std.specs.Cmp.Lexicographic.{slice_cmp}
 use Rattle.yaml_definitions.specs.model.Tree.{Tree, height}
 use Rattle.yaml_definitions.specs.model.Order.{bytes_cmp, tree_cmp}
 use Rattle.yaml_definitions.proofs.OrderLaws.{then_assoc}
-use Rattle.yaml_rank.specs.KeyModel.{pair_cmp}
+use Rattle.yaml_tree.specs.Numbered.{pair_cmp}
 use Rattle.yaml_store_rank.specs.NumberKeys.{behind, joined, four_of, flat}
-use Rattle.yaml_rank.specs.View.{View, Inside, content, items, entries, Ranks}
+use Rattle.yaml_tree.specs.View.{View, Inside, content, items, entries, Ranks}
 use Rattle.yaml_store_rank.proofs.NumberKeyLaws.{Fit, digits-cmp, joined-cmp, four-cmp, flat-cmp}
-use Rattle.yaml_rank.proofs.PrefixLaws.{prefixed-cmp}
-use Rattle.yaml_rank.proofs.RankOrder.{tail, same-high, items-cmp, entries-cmp}
+use Rattle.yaml_tree.proofs.PrefixLaws.{prefixed-cmp}
+use Rattle.yaml_tree.proofs.RankOrder.{tail, same-high, items-cmp, entries-cmp}
 use Rattle.yaml_store_rank.specs.KeyModel.{inside_cmp, Key, key_cmp, RanksFit, kind_number, IsFrontOf, IsRestOf, KeyIs}
 use Rattle.yaml_store_rank.proofs.NodeLaws.{Low, Fitted}
 

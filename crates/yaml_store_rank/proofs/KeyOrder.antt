@@ -7,9 +7,9 @@ use Rattle.std.specs.Cmp.Lexicographic.{slice_cmp}
 use Rattle.std.proofs.lemmas.Cmp.{nat_cmp_total, nat_list_cmp_total, lists_total, on_total, then_total}
 use Rattle.yaml_definitions.specs.model.Order.{bytes_cmp}
 use Rattle.yaml_definitions.proofs.OrderLaws.{then_equal}
-use Rattle.yaml_rank.specs.KeyModel.{pair_cmp}
-use Rattle.yaml_rank.specs.View.{Inside, content, items, entries, items_in, entries_in}
-use Rattle.yaml_rank.proofs.Numbers.{pair_cmp-total}
+use Rattle.yaml_tree.specs.Numbered.{pair_cmp}
+use Rattle.yaml_tree.specs.View.{Inside, content, items, entries, items_in, entries_in}
+use Rattle.yaml_tree.proofs.Numbers.{pair_cmp-total}
 use Rattle.yaml_store_rank.specs.KeyModel.{inside_cmp, kind_number, key_cmp}
 
 content_in : Inside → List ℕ

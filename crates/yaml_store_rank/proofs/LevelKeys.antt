@@ -7,8 +7,8 @@ use Rattle.std.specs.List.Sorted.{IsPermutation}
 use Rattle.std.proofs.lemmas.List.{take_all}
 use Rattle.std.proofs.lemmas.List.Sorted.{Contains-permutation, IsPermutation-sym, length_permutation}
 use Rattle.std.proofs.lemmas.Option.{slice_get_read, get_or_from_slice_get}
-use Rattle.yaml_rank.proofs.Numbering.{get-within}
-use Rattle.yaml_rank.proofs.LevelLaws.{push-get, get-some}
+use Rattle.yaml_tree.proofs.Numbering.{get-within}
+use Rattle.yaml_tree.proofs.Lists.{push-get, get-some}
 use Rattle.yaml_store.specs.declared.nodes.Node.{Node}
 use Rattle.yaml_store.specs.StoreModel.{place_of, inside_of}
 use Rattle.yaml_store_rank.specs.KeyModel.{Key, Keys, Rises, KeyIs}

@@ -13,11 +13,11 @@ use Rattle.yaml_definitions.specs.model.Tree.{Tree, scalar, sequence, mapping, h
 use Rattle.yaml_definitions.specs.model.Order.{arranged}
 use Rattle.yaml_definitions.specs.model.Same.{keyed, keyed_trees}
 use Rattle.yaml_definitions.proofs.Members.{both_and}
-use Rattle.yaml_graph.specs.TreeLists.{trees, pairs}
-use Rattle.yaml_rank.specs.View.{View, Inside, content, items, entries, inside_tree, InsideBelow, Lower, Ranks}
-use Rattle.yaml_rank.proofs.Numbers.{cmp-less}
-use Rattle.yaml_rank.proofs.Lists.{contains-has, has-contains}
-use Rattle.yaml_rank.proofs.RankOrder.{Has, AllLow, PairsLow, Rising, Distinct, low-in, arranged-items, keyed-entries, entries-arranged}
+use Rattle.yaml_tree.specs.TreeLists.{trees, pairs}
+use Rattle.yaml_tree.specs.View.{View, Inside, content, items, entries, inside_tree, InsideBelow, Lower, Ranks}
+use Rattle.yaml_tree.proofs.Numbers.{cmp-less}
+use Rattle.yaml_tree.proofs.Lists.{contains-has, has-contains, Has}
+use Rattle.yaml_tree.proofs.RankOrder.{AllLow, PairsLow, Rising, Distinct, low-in, arranged-items, keyed-entries, entries-arranged}
 use Rattle.yaml_store_rank.specs.KeyModel.{RanksFit}
 use Rattle.yaml_store_rank.specs.PartsModel.{two_ranks, KeysRise, PartsRanked}
 

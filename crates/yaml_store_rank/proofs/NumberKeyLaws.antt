@@ -6,9 +6,9 @@ use Rattle.std.specs.Ordering.{nat_cmp, ordering_then}
 use Rattle.std.specs.Cmp.Lexicographic.{slice_cmp}
 use Rattle.std.proofs.lemmas.Cmp.{tied_itself, nat_cmp_total}
 use Rattle.yaml_definitions.proofs.OrderLaws.{then_assoc}
-use Rattle.yaml_rank.specs.KeyModel.{pair_cmp}
+use Rattle.yaml_tree.specs.Numbered.{pair_cmp}
 use Rattle.yaml_store_rank.specs.NumberKeys.{one_of, behind, two_of, joined, four_of, flat}
-use Rattle.yaml_rank.proofs.Numbers.{cmp-less, cmp-greater, less-cmp, equal-cmp, greater-cmp}
+use Rattle.yaml_tree.proofs.Numbers.{cmp-less, cmp-greater, less-cmp, equal-cmp, greater-cmp}
 
 -- a number of two digits stands as its digits do
 pub digits-cmp : (b x y z w : ℕ) → y < b → w < b → nat_cmp (x * b + y) (z * b + w) ≡ ordering_then (nat_cmp x z) (nat_cmp y w)

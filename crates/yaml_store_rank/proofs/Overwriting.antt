@@ -1,7 +1,7 @@
 -- Parts overwritten one after the other, and keys that rise.
 use Rattle.std.proofs.Common.{◌≡◌, ◌⊎◌, inl, inr, ℕ, zero, suc, ◌+◌, ◌-◌, ◌<◌, ◌≤◌, List, [], ◌∷◌, ◌++◌, length, map, take, drop, get_or, refl, ◌∙◌, ap, subst, arith}
-use Rattle.yaml_rank.proofs.Numbers.{below_or}
-use Rattle.yaml_rank.proofs.Lists.{get_or-any}
+use Rattle.yaml_tree.proofs.Numbers.{below_or}
+use Rattle.yaml_tree.proofs.Lists.{get_or-any}
 use Rattle.yaml_store_rank.specs.PartsModel.{KeysRise}
 
 at-front : {X : Type 0} (f : X → X) (old : List X) (i : ℕ) (d : X) → i < length old → get_or (map f (take i old) ++ drop i old) i d ≡ get_or old i d

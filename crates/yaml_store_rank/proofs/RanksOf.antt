@@ -13,12 +13,12 @@ use Rattle.yaml_definitions.proofs.OrderLaws.{tree_cmp-total, tree_same}
 use Rattle.yaml_definitions.proofs.SameLaws.{same_from}
 use Rattle.yaml_definitions.proofs.MeansLaws.{height_arranged}
 use Rattle.yaml_definitions.proofs.Arranged.{neat_fixed, arranged_neat}
-use Rattle.yaml_graph.specs.TreeLists.{trees, pairs}
-use Rattle.yaml_rank.specs.View.{View, Inside, content, items, entries, inside_tree, InsideBelow, Lower, Ranks, Ranked}
-use Rattle.yaml_rank.proofs.Numbers.{cmp-less}
-use Rattle.yaml_rank.proofs.Numbering.{get-there}
-use Rattle.yaml_rank.proofs.LevelLaws.{get-some}
-use Rattle.yaml_rank.proofs.ViewLaws.{lower-less}
+use Rattle.yaml_tree.specs.TreeLists.{trees, pairs}
+use Rattle.yaml_tree.specs.View.{View, Inside, content, items, entries, inside_tree, InsideBelow, Lower, Ranks, Ranked}
+use Rattle.yaml_tree.proofs.Numbers.{cmp-less}
+use Rattle.yaml_tree.proofs.Numbering.{get-there}
+use Rattle.yaml_tree.proofs.Lists.{get-some}
+use Rattle.yaml_tree.proofs.ViewLaws.{lower-less}
 use Rattle.yaml_store.specs.declared.nodes.Node.{Node}
 use Rattle.yaml_store.specs.StoreModel.{place_of, inside_of}
 use Rattle.yaml_store_rank.specs.PartsModel.{two_ranks}

@@ -1,7 +1,7 @@
 -- The view of ranks.
 use Rattle.std.proofs.Common.{◌≡◌, ℕ, ◌<◌, length, sym, ◌∙◌, ap}
 use Rattle.std.specs.List.{slice_get}
-use Rattle.yaml_rank.specs.View.{View, inside_tree, InsideBelow}
+use Rattle.yaml_tree.specs.View.{View, inside_tree, InsideBelow}
 use Rattle.yaml_store.specs.declared.store.Store.{Store}
 use Rattle.yaml_store_rank.specs.declared.ranking.Ranked.{Ranked}
 use Rattle.yaml_store.specs.StoreGrows.{Good}

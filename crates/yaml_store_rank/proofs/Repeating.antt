@@ -12,14 +12,13 @@ use Rattle.yaml_definitions.specs.model.Order.{tree_cmp, arranged}
 use Rattle.yaml_definitions.specs.model.Same.{Same, keyed}
 use Rattle.yaml_definitions.proofs.OrderLaws.{tree_cmp-total, tree_same}
 use Rattle.yaml_definitions.proofs.SameLaws.{same_to, same_from}
-use Rattle.yaml_rank.specs.LevelsModel.{Levels, level_of, LevelsBy}
-use Rattle.yaml_rank.specs.Places.{IsFirstEqual}
-use Rattle.yaml_rank.specs.View.{View, Inside, content, items, entries, entries_in, inside_tree, InsideBelow, Lower, Ranks, IsFirst}
-use Rattle.yaml_rank.proofs.Lists.{get_or-map}
-use Rattle.yaml_rank.proofs.Numbers.{equal-cmp}
-use Rattle.yaml_rank.proofs.Numbering.{get-there, get-within}
-use Rattle.yaml_rank.proofs.LevelLaws.{take-get}
-use Rattle.yaml_rank.proofs.ViewLaws.{first-one}
+use Rattle.yaml_tree.specs.Levels.{Levels, level_of, LevelsBy}
+use Rattle.yaml_tree.specs.Places.{IsFirstEqual}
+use Rattle.yaml_tree.specs.View.{View, Inside, content, items, entries, entries_in, inside_tree, InsideBelow, Lower, Ranks, IsFirst}
+use Rattle.yaml_tree.proofs.Lists.{get_or-map, take-get}
+use Rattle.yaml_tree.proofs.Numbers.{equal-cmp}
+use Rattle.yaml_tree.proofs.Numbering.{get-there, get-within}
+use Rattle.yaml_tree.proofs.ViewLaws.{first-one}
 use Rattle.yaml_store.specs.declared.nodes.Node.{Node}
 use Rattle.yaml_store.specs.declared.nodes.Place.{Place}
 use Rattle.yaml_store.specs.declared.nodes.Place.TheVariants.{Scalar, Sequence, Mapping}

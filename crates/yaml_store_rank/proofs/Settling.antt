@@ -9,11 +9,10 @@ use Rattle.std.proofs.lemmas.List.Sorted.{length_permutation}
 use Rattle.std.proofs.lemmas.List.Edits.{length-between}
 use Rattle.std.proofs.lemmas.Slice.{between_is, take-put_mid_below, drop-put_mid, between-put_mid}
 use borrow.Rule.Slice.PartMut.{put_mid}
-use Rattle.yaml_graph.proofs.GraphLaws.{get-more}
-use Rattle.yaml_rank.proofs.Numbering.{get-there, get-within, one-there}
-use Rattle.yaml_rank.proofs.LevelLaws.{push-get, take-get}
-use Rattle.yaml_rank.specs.View.{items, entries}
-use Rattle.yaml_rank.specs.Places.{IsFirstEqual}
+use Rattle.yaml_tree.proofs.Lists.{get-more, push-get, take-get}
+use Rattle.yaml_tree.proofs.Numbering.{get-there, get-within, one-there}
+use Rattle.yaml_tree.specs.View.{items, entries}
+use Rattle.yaml_tree.specs.Places.{IsFirstEqual}
 use Rattle.yaml_store.specs.declared.nodes.Span.{Span}
 use Rattle.yaml_store.specs.declared.nodes.Node.{Node}
 use Rattle.yaml_store.specs.declared.nodes.Place.{Place}

@@ -7,13 +7,13 @@ use Rattle.std.specs.Ordering.{nat_cmp}
 use Rattle.yaml_definitions.specs.model.Tree.{Tree, height}
 use Rattle.yaml_definitions.specs.model.Order.{tree_cmp, arranged}
 use Rattle.yaml_definitions.proofs.MeansLaws.{height_arranged}
-use Rattle.yaml_rank.specs.LevelsModel.{Levels, level_of, LevelsBy}
-use Rattle.yaml_rank.specs.Numbered.{AgreeBy}
-use Rattle.yaml_rank.specs.View.{View, Inside, content, items, entries, InsideBelow, Lower, Ranks, IsLevel, LevelDone, Stands}
-use Rattle.yaml_rank.proofs.Numbers.{below_or}
-use Rattle.yaml_rank.proofs.Numbering.{get-there, get-within, one-there}
-use Rattle.yaml_rank.proofs.LevelLaws.{get-some}
-use Rattle.yaml_rank.proofs.ViewLaws.{here-or, stands-more, stands-none, all-ranked}
+use Rattle.yaml_tree.specs.Levels.{Levels, level_of, LevelsBy}
+use Rattle.yaml_tree.specs.Numbered.{AgreeBy}
+use Rattle.yaml_tree.specs.View.{View, Inside, content, items, entries, InsideBelow, Lower, Ranks, IsLevel, LevelDone, Stands}
+use Rattle.yaml_tree.proofs.Numbers.{below_or}
+use Rattle.yaml_tree.proofs.Numbering.{get-there, get-within, one-there}
+use Rattle.yaml_tree.proofs.Lists.{get-some}
+use Rattle.yaml_tree.proofs.ViewLaws.{here-or, stands-more, stands-none, all-ranked}
 use Rattle.yaml_store.specs.declared.nodes.Node.{Node}
 use Rattle.yaml_store.specs.declared.nodes.Place.{Place}
 use Rattle.yaml_store.specs.declared.nodes.Place.TheVariants.{Scalar, Sequence, Mapping}
@@ -65,7 +65,7 @@ module _ (v : View) (rank new : ℕ → ℕ) (h : ℕ) (right : Ranks v rank h) 
   pub parts-still : (i : ℕ) → i < v.count → height (v.tree i) ≤ h → (inside : Inside) → PartsRanked rank (v.inside i) inside → PartsRanked new (v.inside i) inside
   parts-still i within low inside p = by (v.inside i) inside (v.made i within) (v.below i within) p
     where
-      by : (old made : Inside) → v.tree i ≡ Rattle.yaml_rank.specs.View.inside_tree v.tree (v.tag i) old → InsideBelow i old → PartsRanked rank old made → PartsRanked new old made
+      by : (old made : Inside) → v.tree i ≡ Rattle.yaml_tree.specs.View.inside_tree v.tree (v.tag i) old → InsideBelow i old → PartsRanked rank old made → PartsRanked new old made
       by (content x) (content y) e b p = p
       by (items is) (items rs) e b p = p ∙ sym (items-still is (items-low v rank h right i is within b.0 (let f = ap height e in omega arith)))
       by (entries es) (entries rs) e b p = (subst (λ z. IsPermutation z rs) (sym (entries-still es (pairs-low v rank h right es (pairs-all v rank h right i es within b.1 (let f = ap height e in omega arith))))) p.0, p.1)

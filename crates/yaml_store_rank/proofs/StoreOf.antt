@@ -6,9 +6,9 @@ use Rattle.std.specs.Ordering.{nat_cmp}
 use Rattle.std.specs.Vec.{with_items}
 use Rattle.std.proofs.lemmas.List.{with_items_is}
 use Rattle.yaml_definitions.specs.model.Order.{bytes_cmp}
-use Rattle.yaml_rank.specs.View.{View}
-use Rattle.yaml_rank.specs.declared.visits.Visits.{Visits}
-use Rattle.yaml_rank.proofs.Numbers.{less-cmp, equal-cmp, greater-cmp}
+use Rattle.yaml_tree.specs.View.{View}
+use Rattle.yaml_tree.specs.declared.visits.Visits.{Visits}
+use Rattle.yaml_tree.proofs.Numbers.{less-cmp, equal-cmp, greater-cmp}
 use Rattle.yaml_store.specs.declared.nodes.Place.{Place}
 use Rattle.yaml_store.specs.declared.nodes.Place.TheVariants.{Scalar, Sequence, Mapping}
 use Rattle.yaml_store.specs.declared.nodes.Node.{Node}

@@ -7,9 +7,9 @@ use Rattle.std.specs.declared.cmp.Ordering.TheVariants.{Equal}
 use Rattle.std.proofs.lemmas.Cmp.{nat_list_cmp_total, tied_itself}
 use Rattle.std.proofs.lemmas.List.Elements.{All-push, All-weaker}
 use Rattle.yaml_definitions.specs.model.Order.{bytes_cmp}
-use Rattle.yaml_rank.specs.TagModel.{Texts, text_cmp, TagsRise, IsTagAt, IsListed}
-use Rattle.yaml_rank.proofs.Numbering.{get-within}
-use Rattle.yaml_rank.proofs.TagLaws.{tags-agree, found-place}
+use Rattle.yaml_tree.specs.Tags.{Texts, text_cmp, TagsRise, IsTagAt, IsListed}
+use Rattle.yaml_tree.proofs.Numbering.{get-within}
+use Rattle.yaml_tree.proofs.TagLaws.{tags-agree, found-place}
 use Rattle.yaml_store.specs.StoreModel.{tag_at}
 use Rattle.yaml_store_rank.specs.TagPlaces.{IsFound, PlacesAmong, PlacesAre}
 

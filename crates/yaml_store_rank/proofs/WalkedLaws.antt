@@ -11,11 +11,11 @@ use Rattle.yaml_definitions.specs.model.Same.{same}
 use Rattle.yaml_definitions.proofs.SameLaws.{same_from}
 use Rattle.yaml_definitions.proofs.Arranged.{neat_same, arranged_neat}
 use Rattle.yaml_definitions.proofs.Equivalence.{same_refl}
-use Rattle.yaml_rank.specs.View.{View, InsideBelow, inside_tree}
-use Rattle.yaml_rank.specs.Insides.{Held, HeldBelow}
-use Rattle.yaml_rank.proofs.GraphOf.{get-map, get-unmap}
-use Rattle.yaml_rank.proofs.InsideLaws.{held-length, inside-same, held-tree}
-use Rattle.yaml_rank.proofs.Numbering.{get-there, get-within}
+use Rattle.yaml_tree.specs.View.{View, InsideBelow, inside_tree}
+use Rattle.yaml_tree.specs.Insides.{Held, HeldBelow}
+use Rattle.yaml_tree.proofs.Lists.{get-map, get-unmap}
+use Rattle.yaml_tree.proofs.InsideLaws.{held-length, inside-same, held-tree}
+use Rattle.yaml_tree.proofs.Numbering.{get-there, get-within}
 use Rattle.yaml_spell.specs.declared.shown.Inside.{Inside}
 use Rattle.yaml_spell.specs.RankedNodes.{RanksTell, inside_shown}
 use Rattle.yaml_spell.specs.ShortNodes.{short_len, shown_len}

@@ -6,11 +6,10 @@ use Rattle.std.specs.declared.cmp.Ordering.TheVariants.{Less, Greater}
 use Rattle.std.specs.Ordering.{ordering_then, nat_cmp}
 use Rattle.std.specs.Cmp.Lexicographic.{slice_cmp}
 use Rattle.yaml_definitions.specs.model.Order.{bytes_cmp}
-use Rattle.yaml_rank.specs.PrefixModel.{IsPrefix, IsRest}
-use Rattle.yaml_rank.specs.KeyModel.{pair_cmp}
+use Rattle.yaml_tree.specs.PrefixModel.{IsPrefix, IsRest}
+use Rattle.yaml_tree.specs.Numbered.{pair_cmp, RisesBy}
 use Rattle.yaml_store_rank.specs.NumberKeys.{joined, four_of, flat}
-use Rattle.yaml_rank.specs.Numbered.{RisesBy}
-use Rattle.yaml_rank.specs.View.{Inside, content, items, entries}
+use Rattle.yaml_tree.specs.View.{Inside, content, items, entries}
 
 -- contents stand before items, and these before entries
 abbrev pub inside_cmp : Inside → Inside → Ordering

@@ -2,7 +2,7 @@
 use Rattle.std.specs.Prelude.{◌≡◌, ℕ, ◌<◌, ◌≤◌, List, Some, length, slice_index}
 use Rattle.std.specs.List.{slice_get}
 use Rattle.yaml_definitions.specs.model.Tree.{Tree}
-use Rattle.yaml_rank.specs.Numbered.{AgreeBy, Among, NumberedUpto}
+use Rattle.yaml_tree.specs.Numbered.{AgreeBy, Among, NumberedUpto}
 use Rattle.yaml_store.specs.declared.nodes.Node.{Node}
 use Rattle.yaml_store.specs.StoreModel.{place_of, inside_of}
 use Rattle.yaml_store_rank.specs.KeyModel.{Key, key_cmp, Keys, Rises, KeyIs, RanksFit}

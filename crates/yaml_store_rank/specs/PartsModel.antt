@@ -2,8 +2,8 @@
 use Rattle.std.specs.Prelude.{◌≡◌, ℕ, ◌<◌, List, [], length, map, take, slice_index, Some}
 use Rattle.std.specs.List.{slice_get, slice_index_or}
 use Rattle.std.specs.List.Sorted.{IsPermutation}
-use Rattle.yaml_rank.specs.View.{Inside, content, items, entries, entries_in, InsideBelow}
-use Rattle.yaml_rank.specs.Places.{IsFirstEqual}
+use Rattle.yaml_tree.specs.View.{Inside, content, items, entries, entries_in, InsideBelow}
+use Rattle.yaml_tree.specs.Places.{IsFirstEqual}
 use Rattle.yaml_store.specs.declared.nodes.Node.{Node}
 use Rattle.yaml_store.specs.declared.nodes.Place.{Place}
 use Rattle.yaml_text.specs.declared.fault.Fault.{Fault}

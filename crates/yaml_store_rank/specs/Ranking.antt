@@ -5,7 +5,7 @@ use Rattle.std.specs.Ordering.{nat_cmp}
 use Rattle.yaml_definitions.specs.model.Tree.{height}
 use Rattle.yaml_definitions.specs.model.Order.{bytes_cmp}
 use Rattle.yaml_definitions.specs.model.Same.{Keyed}
-use Rattle.yaml_rank.specs.View.{View, Ranked}
+use Rattle.yaml_tree.specs.View.{View, Ranked}
 use Rattle.yaml_store.specs.declared.nodes.Node.{Node}
 use Rattle.yaml_store.specs.StoreModel.{place_of, inside_of, Within, NodesWithin, Apart}
 use Rattle.yaml_store_rank.specs.PartsModel.{PartsRanked}

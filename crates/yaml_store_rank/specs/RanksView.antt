@@ -4,7 +4,7 @@ use Rattle.std.specs.List.{slice_get}
 use Rattle.std.specs.declared.cmp.Ordering.TheVariants.{Less}
 use Rattle.yaml_definitions.specs.model.Tree.{Tree}
 use Rattle.yaml_definitions.specs.model.Order.{tree_cmp, arranged}
-use Rattle.yaml_rank.specs.View.{View, Inside}
+use Rattle.yaml_tree.specs.View.{View, Inside}
 use Rattle.yaml_store.specs.declared.store.Store.{Store}
 use Rattle.yaml_store_rank.specs.declared.ranking.Ranked.{Ranked}
 use Rattle.yaml_store.specs.StoreGrows.{Good}

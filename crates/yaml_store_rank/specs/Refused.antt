@@ -2,7 +2,7 @@
 use Rattle.std.specs.Prelude.{◌≡◌, ◌⊎◌, ℕ, ◌<◌, ◌≤◌}
 use Rattle.yaml_text.specs.declared.fault.Fault.{Fault}
 use Rattle.yaml_text.specs.declared.fault.Fault.TheVariants.{EqualKeys, OutOfMemory}
-use Rattle.yaml_rank.specs.View.{View, Repeats, IsFirst}
+use Rattle.yaml_tree.specs.View.{View, Repeats, IsFirst}
 use Rattle.yaml_store.specs.declared.store.Store.{Store}
 use Rattle.yaml_store.specs.StoreGrows.{Good}
 use Rattle.yaml_store.specs.StoreView.{view_of}

@@ -1,7 +1,7 @@
 -- The nodes of a store, ranked.
 use Rattle.std.specs.Prelude.{◌≡◌, ℕ, length, map}
 use Rattle.yaml_definitions.specs.model.Order.{arranged}
-use Rattle.yaml_rank.specs.Visited.{count_of}
+use Rattle.yaml_tree.specs.Visited.{count_of}
 use Rattle.yaml_spell.specs.ShortNodes.{short_len}
 use Rattle.yaml_store.specs.declared.store.Store.{Store}
 use Rattle.yaml_store_rank.specs.declared.ranking.Ranked.{Ranked}

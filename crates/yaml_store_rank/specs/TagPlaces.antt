@@ -5,7 +5,7 @@ use Rattle.std.specs.BTreeSet.{BTreeSet, contains}
 use Rattle.std.specs.List.{All, AllZip}
 use Rattle.std.specs.Ordering.{nat_cmp}
 use Rattle.yaml_definitions.specs.model.Order.{bytes_cmp}
-use Rattle.yaml_rank.specs.TagModel.{Texts, text_cmp, IsTagAt}
+use Rattle.yaml_tree.specs.Tags.{Texts, text_cmp, IsTagAt}
 use Rattle.yaml_store.specs.StoreModel.{tag_at}
 
 -- this tag was found

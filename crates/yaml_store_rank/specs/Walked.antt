@@ -4,8 +4,8 @@ use Rattle.std.specs.List.{All, position_or_len}
 use Rattle.yaml_definitions.specs.model.Tree.{Tree}
 use Rattle.yaml_definitions.specs.model.Order.{arranged}
 use Rattle.yaml_definitions.specs.model.Same.{same}
-use Rattle.yaml_graph.specs.GraphModel.{tree_at}
-use Rattle.yaml_rank.specs.Insides.{Held, trees_held}
+use Rattle.yaml_tree.specs.TreeLists.{tree_at}
+use Rattle.yaml_tree.specs.Insides.{Held, trees_held}
 use Rattle.yaml_store.specs.declared.store.Store.{Store}
 use Rattle.yaml_store_rank.specs.declared.ranking.Ranked.{Ranked}
 use Rattle.yaml_store.specs.StoreGrows.{Good}

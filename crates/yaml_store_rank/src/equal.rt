@@ -1,6 +1,6 @@
 //! Equal keys by their places.
 ghost use Rattle.std.specs.Prelude.{◌≡◌, ℕ, List, map, IfOk, MatchOption};
-ghost use Rattle.yaml_rank.specs.Places.{InOrder, AllRise, IsFirstEqual, Earlier};
+ghost use Rattle.yaml_tree.specs.Places.{InOrder, AllRise, IsFirstEqual, Earlier};
 ghost use Rattle.yaml_store_rank.specs.PartsModel.{Differ};
 
 use std::alloc::Global;

@@ -1,7 +1,7 @@
 //! The nodes of one height, in order.
 ghost use Rattle.std.specs.Prelude.{◌≡◌, ◌+◌, ◌<◌, ◌^◌, length, IfOk, OnOk};
 ghost use Rattle.std.specs.List.{All};
-ghost use Rattle.yaml_rank.specs.Visited.{count_of};
+ghost use Rattle.yaml_tree.specs.Visited.{count_of};
 ghost use Rattle.yaml_store_rank.specs.LevelModel.{LevelFits, KeysMade, KeysSorted};
 ghost use Rattle.yaml_store_rank.specs.SlotModel.{InRange, keys_of};
 ghost use Rattle.yaml_store.specs.TextModel.{text_of};
@@ -9,8 +9,8 @@ ghost use Rattle.yaml_store.specs.TextModel.{text_of};
 use crate::lists::Lists;
 use crate::slot::Slot;
 use std::alloc::Global;
-use yaml_rank::visits::Visits;
 use yaml_store::no_memory::NoMemory;
+use yaml_tree::visits::Visits;
 
 /// The slots of the nodes of these numbers, whose parts are ranks. Each node is visited once.
 fn slots(

@@ -1,6 +1,6 @@
 //! The nodes of a store by height.
 ghost use Rattle.std.specs.Prelude.{◌≡◌, ◌<◌, ◌^◌, length, IfOk};
-ghost use Rattle.yaml_rank.specs.LevelsModel.{LevelsBy, Reaches};
+ghost use Rattle.yaml_tree.specs.Levels.{LevelsBy, Reaches};
 ghost use Rattle.yaml_store.specs.StoreModel.{height_at};
 
 use std::alloc::Global;

@@ -1,7 +1,7 @@
 //! The place of each tag in the order of tags.
 ghost use Rattle.std.specs.Prelude.{◌≡◌, ◌<◌, length, IfOk};
 ghost use Rattle.std.specs.List.{All};
-ghost use Rattle.yaml_rank.specs.TagModel.{TagsRise, IsTagAt, IsListed};
+ghost use Rattle.yaml_tree.specs.Tags.{TagsRise, IsTagAt, IsListed};
 ghost use Rattle.yaml_store_rank.specs.TagPlaces.{PlacesAre};
 
 use std::alloc::Global;

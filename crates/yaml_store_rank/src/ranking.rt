@@ -1,8 +1,8 @@
 //! Ranking nodes by number.
 ghost use Rattle.std.specs.Prelude.{◌≡◌, length, IfOk, IfErr};
 ghost use Rattle.std.specs.Bool.{OnTrue};
-ghost use Rattle.yaml_rank.specs.View.{View};
-ghost use Rattle.yaml_rank.specs.Visited.{count_of};
+ghost use Rattle.yaml_tree.specs.View.{View};
+ghost use Rattle.yaml_tree.specs.Visited.{count_of};
 ghost use Rattle.yaml_store_rank.specs.Ranking.{Stored, AllRanked};
 ghost use Rattle.yaml_store.specs.StoreGrows.{Good, IsLow};
 ghost use Rattle.yaml_store_rank.specs.StoreRanks.{StoreRanked};
@@ -18,13 +18,13 @@ use crate::places::places;
 use crate::settle::settle;
 use crate::shorts::shorts;
 use std::alloc::Global;
-use yaml_rank::visits::Visits;
 use yaml_store::no_memory::NoMemory;
 use yaml_store::nodes::{Kind, Node};
 use yaml_store::store::Store;
 use yaml_store::tags::Tags;
 use yaml_store::text::Text;
 use yaml_text::fault::Fault;
+use yaml_tree::visits::Visits;
 
 /// The nodes of a store with their ranks. Parts are ranks, and the entries of a mapping stand in the order
 /// of their keys.

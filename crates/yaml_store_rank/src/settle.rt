@@ -2,8 +2,8 @@
 ghost use Rattle.std.specs.Prelude.{◌≡◌, [], ◌<◌, true, map, length, slice_index, IfOk, IfErr, MatchOption};
 ghost use Rattle.std.specs.List.{All};
 ghost use Rattle.std.specs.List.Sorted.{IsPermutation};
-ghost use Rattle.yaml_rank.specs.View.{InsideBelow};
-ghost use Rattle.yaml_rank.specs.Places.{IsFirstEqual};
+ghost use Rattle.yaml_tree.specs.View.{InsideBelow};
+ghost use Rattle.yaml_tree.specs.Places.{IsFirstEqual};
 ghost use Rattle.yaml_store.specs.StoreModel.{place_of, inside_of, PartsWithin, Apart};
 ghost use Rattle.yaml_store_rank.specs.PartsModel.{two_ranks, key_ranks, KeysRise, PlaceSettled, Rising, AllPartsWithin, LevelBelow, LevelSettled, RefusesLevel};
 

@@ -1,7 +1,7 @@
 //! What nodes of one height are compared by.
 ghost use Rattle.std.specs.Prelude.{◌≡◌, ◌+◌, ◌*◌, ◌<◌, ◌≤◌};
 ghost use Rattle.std.specs.List.{All};
-ghost use Rattle.yaml_rank.specs.PrefixModel.{front, IsPrefix};
+ghost use Rattle.yaml_tree.specs.PrefixModel.{front, IsPrefix};
 ghost use Rattle.yaml_store_rank.specs.NumberKeys.{joined, four_of, flat};
 ghost use Rattle.yaml_store_rank.specs.KeyModel.{inside_cmp, kind_number, IsFrontOf, RanksFit};
 ghost use Rattle.yaml_store_rank.specs.SlotModel.{held, is_whole};

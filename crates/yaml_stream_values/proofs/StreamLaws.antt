@@ -14,7 +14,7 @@ use Rattle.yaml_definitions.specs.model.Same.{Keyed}
 use Rattle.yaml_definitions.specs.model.Proper.{Admitted}
 use Rattle.yaml_definitions.specs.model.Means.{Means}
 use Rattle.yaml_text.specs.declared.fault.Fault.{Fault}
-use Rattle.yaml_graph.specs.GraphModel.{tree_at}
+use Rattle.yaml_tree.specs.TreeLists.{tree_at}
 use Rattle.yaml_store.specs.TextModel.{text_of}
 use Rattle.yaml_store_rank.specs.declared.ranking.Ranked.{Ranked}
 use Rattle.yaml_store.specs.StoreGrows.{tags_of, trees_of}

@@ -5,7 +5,7 @@ use Rattle.yaml_definitions.specs.model.Tree.{scalar}
 use Rattle.yaml_definitions.specs.model.Event.{Event, Anchor, WrittenTag, Style, scalar_event, alias_event}
 use Rattle.yaml_definitions.specs.model.Core.{Cause, resolve, collection_tag}
 use Rattle.yaml_definitions.specs.model.Unfold.{Outcome, and_then, placed, last_named, tree_named}
-use Rattle.yaml_graph.specs.ComposerSteps.{State, Open, initial_state, node_begun, whole, added, collection_begun, collection_ended, step, next, steps}
+use Rattle.yaml_tree.specs.ComposerSteps.{State, Open, initial_state, node_begun, whole, added, collection_begun, collection_ended, step, next, steps}
 use Rattle.yaml_store.specs.declared.nodes.Collection.{Collection}
 use Rattle.yaml_store.specs.declared.nodes.Collection.TheVariants as kinds
 use Rattle.yaml_tree_builder.specs.Reached.{Reaches}

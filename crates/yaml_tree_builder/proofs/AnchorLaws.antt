@@ -13,7 +13,7 @@ use Rattle.std.proofs.lemmas.Slice.Eq.{bytes_eq-Decides}
 use Rattle.std.proofs.lemmas.Option.{slice_get_within, get_or_from_slice_get, same_Some, none-some}
 use Rattle.std.proofs.lemmas.List.{take_all, take_more, take-append-le, drop-append-le}
 use Rattle.yaml_definitions.specs.model.Unfold.{or_else}
-use Rattle.yaml_graph.specs.ComposerModel.{last_place}
+use Rattle.yaml_tree.specs.Anchors.{last_place}
 use Rattle.yaml_store.specs.StoreModel.{SpanWithin}
 use Rattle.yaml_store.specs.declared.nodes.Span.{Span}
 use Rattle.yaml_store.specs.declared.text.Text.{Text}

@@ -10,12 +10,12 @@ use Rattle.yaml_definitions.specs.model.Tree.{Tree, scalar}
 use Rattle.yaml_definitions.specs.model.Event.{Anchor, WrittenTag}
 use Rattle.yaml_definitions.specs.model.Core.{collection_tag}
 use Rattle.yaml_definitions.specs.model.Unfold.{Table, closed, last_named, and_then, placed}
-use Rattle.yaml_graph.specs.ComposerModel.{last_place, names_of, Placed}
-use Rattle.yaml_graph.specs.ComposerSteps as machine
-use Rattle.yaml_graph.specs.GraphModel.{AreLow}
-use Rattle.yaml_graph.proofs.GraphLaws.{get-more}
-use Rattle.yaml_graph.proofs.LowLaws.{Low, all-low}
-use Rattle.yaml_graph.proofs.AnchorLaws.{names-length, names-closed, placed-push, placed-opened, Found, found}
+use Rattle.yaml_tree.specs.Anchors.{last_place, names_of, Placed}
+use Rattle.yaml_tree.specs.ComposerSteps as machine
+use Rattle.yaml_tree.specs.TreeLists.{AreLow}
+use Rattle.yaml_tree.proofs.Lists.{get-more}
+use Rattle.yaml_tree.proofs.LowLaws.{Low, all-low}
+use Rattle.yaml_tree.proofs.AnchorLaws.{names-length, names-closed, placed-push, placed-opened, Found, found}
 use Rattle.yaml_store.specs.StoreModel.{parts_at, is_mapping}
 use Rattle.yaml_store.specs.StoreGrows.{Keeps, IsLow, tags_of, trees_of}
 use Rattle.yaml_tree_builder.specs.TagModel.{collection_number}

@@ -4,9 +4,9 @@ use Rattle.std.specs.Prelude.{Some}
 use Rattle.std.specs.List.{slice_get}
 use Rattle.yaml_store.specs.TextModel.{text_of}
 use Rattle.yaml_definitions.specs.model.Tree.{Tree}
-use Rattle.yaml_graph.proofs.GraphLaws.{get-end}
-use Rattle.law_store_keys.specs.Numbers.{Numbers}
-use Rattle.law_store_keys.proofs.NumberLaws.{closes-again, closes-first}
+use Rattle.yaml_tree.proofs.Lists.{get-end}
+use Rattle.yaml_tree.specs.Numbers.{Numbers}
+use Rattle.yaml_tree.proofs.NumberLaws.{closes-again, closes-first}
 use Rattle.yaml_store.specs.StoreGrows.{Keeps, Stands, AtMostOne, tags_of, trees_of}
 use Rattle.yaml_store.specs.declared.store.Store.{Store}
 use Rattle.yaml_store.proofs.Growing.{trees-count}

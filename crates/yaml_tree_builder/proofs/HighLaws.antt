@@ -5,9 +5,8 @@ use Rattle.std.specs.List.{slice_get}
 use Rattle.std.proofs.lemmas.Bool.{cases_lt}
 use Rattle.yaml_definitions.specs.model.Limits.{height_limit}
 use Rattle.yaml_definitions.specs.model.Tree.{Tree, height}
-use Rattle.yaml_graph.specs.Finished.{IsFirstTooHigh}
-use Rattle.yaml_graph.specs.GraphModel.{AreLow}
-use Rattle.yaml_graph.proofs.LowLaws.{Low, all-low}
+use Rattle.yaml_tree.specs.TreeLists.{IsFirstTooHigh, AreLow}
+use Rattle.yaml_tree.proofs.LowLaws.{Low, all-low}
 use Rattle.yaml_tree_builder.specs.BuilderModel.{AllAt}
 
 -- the tree of a root

@@ -5,17 +5,16 @@ use Rattle.std.specs.List.{slice_get}
 use Rattle.std.proofs.lemmas.List.{length-map}
 use Rattle.yaml_definitions.specs.model.Tree.{Tree}
 use Rattle.yaml_definitions.specs.model.Serial.{Document}
-use Rattle.yaml_graph.specs.ComposerSteps.{State}
-use Rattle.yaml_graph.specs.GraphModel.{tree_at}
-use Rattle.yaml_graph.specs.TreeLists.{trees, pairs}
-use Rattle.yaml_graph.specs.Closing.{stream_trees}
-use Rattle.yaml_rank.specs.View.{Inside, content, items, entries, items_in, entries_in, inside_tree}
-use Rattle.yaml_rank.proofs.LevelLaws.{get-some}
-use Rattle.yaml_rank.proofs.Numbering.{get-within}
-use Rattle.law_store_keys.specs.Keys.{listed, pairs_listed}
+use Rattle.yaml_tree.specs.ComposerSteps.{State}
+use Rattle.yaml_tree.specs.TreeLists.{tree_at, trees, pairs}
+use Rattle.yaml_tree.specs.Closing.{stream_trees}
+use Rattle.yaml_tree.specs.View.{Inside, content, items, entries, items_in, entries_in, inside_tree}
+use Rattle.yaml_tree.proofs.Lists.{get-some}
+use Rattle.yaml_tree.proofs.Numbering.{get-within}
+use Rattle.yaml_tree.specs.Keys.{listed, pairs_listed}
 use Rattle.law_store_keys.specs.Laws.{Holdable, PartsHoldable, AreHoldable}
-use Rattle.law_store_keys.specs.Numbers.{Numbers}
-use Rattle.law_store_keys.proofs.NumberLaws.{holdable}
+use Rattle.yaml_tree.specs.Numbers.{Numbers}
+use Rattle.law_store_keys.proofs.Holding.{holdable}
 use Rattle.yaml_store.specs.TextModel.{text_of}
 use Rattle.yaml_store.specs.StoreModel.{inside_of, place_of, tag_at}
 use Rattle.yaml_store.specs.StoreGrows.{Good, tags_of, trees_of}

@@ -6,14 +6,14 @@ use Rattle.yaml_definitions.specs.model.Event.{Event, untagged, mapping_start, s
 use Rattle.yaml_definitions.specs.grammar.Events.{Props}
 use Rattle.yaml_definitions.specs.model.Serial.{Document, stream_events}
 use Rattle.yaml_sink.specs.Held.{Puts}
-use Rattle.yaml_graph.specs.ComposerSteps.{State, initial_state, steps}
+use Rattle.yaml_tree.specs.ComposerSteps.{State, initial_state, steps}
 use Rattle.yaml_store.specs.declared.nodes.Collection.{Collection}
 use Rattle.yaml_tree_builder.specs.Reached.{Reaches}
 use Rattle.yaml_tree_builder.specs.Nodes.{AreNodes}
 use Rattle.yaml_tree_builder.specs.TagModel.{collection_number}
 use Rattle.yaml_tree_builder.specs.BuilderModel.{Holds, Stepped, start_of}
 use Rattle.yaml_tree_builder.specs.BuilderLog.{Follows, SettlesAlone, SettlesKey, keyed}
-use Rattle.yaml_graph.specs.Composed.{RefusesStream}
+use Rattle.yaml_tree.specs.Refused.{RefusesStream}
 use Rattle.yaml_tree_builder.specs.Refusals.{cause_of, fault_of, Stops, IsRefusal}
 use Rattle.yaml_tree_builder.specs.JudgedModel.{IsFirstRefused, FollowsUnless, Judges, Takes, IsBefore, IsNoneBefore}
 use Rattle.yaml_tree_builder.specs.declared.builder.TreeBuilder.{TreeBuilder}

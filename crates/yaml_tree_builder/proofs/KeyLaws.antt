@@ -9,9 +9,9 @@ use Rattle.yaml_definitions.specs.model.Event.{Event, Anchor, WrittenTag, untagg
 use Rattle.yaml_definitions.specs.model.Core.{Cause, collection_tag}
 use Rattle.yaml_definitions.specs.model.Unfold.{Table, opened}
 use Rattle.yaml_definitions.specs.grammar.Events.{Props}
-use Rattle.yaml_graph.specs.ComposerModel.{names_of, Placed}
-use Rattle.yaml_graph.specs.ComposerSteps as machine
-use Rattle.yaml_graph.specs.ComposerSteps.{State, initial_state, collection_begun, steps}
+use Rattle.yaml_tree.specs.Anchors.{names_of, Placed}
+use Rattle.yaml_tree.specs.ComposerSteps as machine
+use Rattle.yaml_tree.specs.ComposerSteps.{State, initial_state, collection_begun, steps}
 use Rattle.yaml_store.specs.declared.nodes.Collection.{Collection}
 use Rattle.yaml_store.specs.declared.nodes.Collection.TheVariants as kinds
 use Rattle.yaml_tree_builder.specs.Reached.{Reaches}

@@ -2,7 +2,7 @@
 use Rattle.std.proofs.Common.{◌≡◌, List, [], ◌∷◌, ◌++◌, refl, ap, Ok}
 use Rattle.std.specs.Prelude.{Some}
 use Rattle.yaml_definitions.specs.model.Event.{Event, stream_start, stream_end, document_end}
-use Rattle.yaml_graph.specs.ComposerSteps.{State, initial_state, step, next, steps}
+use Rattle.yaml_tree.specs.ComposerSteps.{State, initial_state, step, next, steps}
 use Rattle.yaml_tree_builder.specs.Reached.{Reaches}
 use Rattle.yaml_tree_builder.specs.BuilderModel.{Holds}
 use Rattle.yaml_tree_builder.specs.BuilderLog.{Follows, FollowsNone, FollowsStep, FollowsRest}

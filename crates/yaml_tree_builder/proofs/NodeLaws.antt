@@ -5,7 +5,7 @@ use Rattle.yaml_definitions.specs.model.Tree.{Tree, scalar}
 use Rattle.yaml_definitions.specs.model.Event.{Event, Anchor, WrittenTag, Style, untagged, stream_start, stream_end, document_end, mapping_start, scalar_event, alias_event}
 use Rattle.yaml_definitions.specs.model.Core.{Resolved, Cause, resolve, collection_tag}
 use Rattle.yaml_definitions.specs.model.Unfold.{Table, and_then, placed, opened, closed, last_named, tree_named}
-use Rattle.yaml_graph.specs.ComposerSteps.{State, initial_state, scalar_added, added, collection_begun, collection_from, step, steps}
+use Rattle.yaml_tree.specs.ComposerSteps.{State, initial_state, scalar_added, added, collection_begun, collection_from, step, steps}
 use Rattle.yaml_store.specs.StoreModel.{is_mapping}
 use Rattle.yaml_store.specs.declared.nodes.Collection.{Collection}
 use Rattle.yaml_store.specs.declared.nodes.Collection.TheVariants as kinds

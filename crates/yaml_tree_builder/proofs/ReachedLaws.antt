@@ -6,9 +6,9 @@ use Rattle.yaml_definitions.specs.model.Event.{Event, stream_start, stream_end, 
 use Rattle.yaml_definitions.specs.model.Serial.{Document, stream_events}
 use Rattle.yaml_definitions.specs.model.Core.{Cause, resolve, collection_tag}
 use Rattle.yaml_definitions.specs.model.Unfold.{Outcome, Table, and_then, placed, last_named, tree_named, trees_from, trees_of}
-use Rattle.yaml_graph.specs.Closing.{stream_trees}
-use Rattle.yaml_graph.specs.ComposerSteps.{State, Open, initial_state, scalar_added, added, collection_begun, step, next, steps}
-use Rattle.yaml_graph.proofs.StepLaws.{comes_to, with_all, run-documents}
+use Rattle.yaml_tree.specs.Closing.{stream_trees}
+use Rattle.yaml_tree.specs.ComposerSteps.{State, Open, initial_state, scalar_added, added, collection_begun, step, next, steps}
+use Rattle.yaml_tree.proofs.StepLaws.{comes_to, with_all, run-documents}
 use Rattle.yaml_tree_builder.specs.Reached.{Reaches, StreamIsForest, StreamCloses, TwoStreamsAreForests}
 
 -- ---- numbers of events

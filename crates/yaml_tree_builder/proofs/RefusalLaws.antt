@@ -6,14 +6,14 @@ use Rattle.yaml_definitions.specs.model.Event.{Event, Anchor, WrittenTag, Style,
 use Rattle.yaml_definitions.specs.model.Serial.{Document, stream_events}
 use Rattle.yaml_definitions.specs.model.Core.{Cause, resolve, collection_tag}
 use Rattle.yaml_definitions.specs.model.Unfold.{Outcome, and_then, placed, last_named, tree_named, trees_of}
-use Rattle.yaml_graph.specs.ComposerSteps.{State, Open, initial_state, node_begun, whole, scalar_added, added, collection_begun, collection_ended, cleared, step, next, steps}
-use Rattle.yaml_graph.proofs.StepLaws.{comes_to, with_all, run-stream}
+use Rattle.yaml_tree.specs.ComposerSteps.{State, Open, initial_state, node_begun, whole, scalar_added, added, collection_begun, collection_ended, cleared, step, next, steps}
+use Rattle.yaml_tree.proofs.StepLaws.{comes_to, with_all, run-stream}
 use Rattle.yaml_store.specs.declared.nodes.Collection.{Collection}
 use Rattle.yaml_store.specs.declared.nodes.Collection.TheVariants as kinds
 use Rattle.yaml_tree_builder.specs.Reached.{Reaches}
 use Rattle.yaml_tree_builder.specs.TagModel.{collection_number}
 use Rattle.yaml_tree_builder.specs.BuilderModel.{start_of}
-use Rattle.yaml_graph.specs.Composed.{RefusesStream}
+use Rattle.yaml_tree.specs.Refused.{RefusesStream}
 use Rattle.yaml_tree_builder.specs.Refusals.{cause_of, fault_of, Blames, Stops}
 use Rattle.yaml_tree_builder.specs.JudgedModel.{IsFirstRefused}
 use Rattle.yaml_tree_builder.specs.declared.stop.Cause as code

@@ -9,7 +9,7 @@ use Rattle.yaml_definitions.specs.model.Core.{Value, Resolved, null_of, float_of
 use Rattle.yaml_text.specs.EventModel.{written_of}
 use Rattle.yaml_text.specs.declared.event.EventTag.{EventTag}
 use Rattle.yaml_text.specs.declared.event.EventTag.TheVariants as tags
-use Rattle.yaml_graph.proofs.GraphLaws.{get-more}
+use Rattle.yaml_tree.proofs.Lists.{get-more}
 use Rattle.yaml_core.specs.Form.{form_kind, form_of}
 use Rattle.yaml_core.specs.Kind.{kind_tag, of_kind, use_of}
 use Rattle.yaml_core.specs.Values.{HasValues}

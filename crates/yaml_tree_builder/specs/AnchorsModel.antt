@@ -2,7 +2,7 @@
 use Rattle.std.specs.Prelude.{◌≡◌, ℕ, ◌≤◌, ◌+◌, ◌*◌, ◌%◌, ◌/◌, ◌^◌, List, [], ◌∷◌, length, take, drop, ◌-◌, Option, Some}
 use Rattle.std.specs.List.{slice_get, slice_range}
 use Rattle.std.specs.BTreeMap.{get_by_text}
-use Rattle.yaml_graph.specs.ComposerModel.{last_place}
+use Rattle.yaml_tree.specs.Anchors.{last_place}
 use Rattle.yaml_store.specs.StoreModel.{SpanWithin}
 use Rattle.yaml_store.specs.TextModel.{text_of}
 use Rattle.yaml_store.specs.declared.nodes.Span.{Span}

@@ -3,7 +3,7 @@ use Rattle.std.specs.Prelude.{◌≡◌, ◌⊎◌, ℕ, List, [], ◌∷◌, �
 use Rattle.yaml_definitions.specs.model.Event.{Event, Anchor, WrittenTag, untagged, stream_start, stream_end, document_end, mapping_start}
 use Rattle.yaml_definitions.specs.grammar.Events.{Props}
 use Rattle.yaml_store.specs.declared.nodes.Collection.{Collection}
-use Rattle.yaml_graph.specs.ComposerSteps.{State, initial_state}
+use Rattle.yaml_tree.specs.ComposerSteps.{State, initial_state}
 use Rattle.yaml_tree_builder.specs.Reached.{Reaches}
 use Rattle.yaml_tree_builder.specs.Nodes.{AreNodes}
 use Rattle.yaml_tree_builder.specs.BuilderModel.{Holds, Stepped, start_of}

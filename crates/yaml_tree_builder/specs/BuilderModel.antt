@@ -7,11 +7,11 @@ use Rattle.yaml_definitions.specs.model.Serial.{Document}
 use Rattle.yaml_definitions.specs.model.Tag.{default_tag}
 use Rattle.yaml_definitions.specs.model.Core.{collection_tag}
 use Rattle.yaml_definitions.specs.model.Unfold.{Table, trees_of as trees_unfolded}
-use Rattle.yaml_graph.specs.ComposerSteps as machine
-use Rattle.yaml_graph.specs.ComposerModel.{names_of, Placed}
-use Rattle.yaml_graph.specs.GraphModel.{AreLow}
-use Rattle.yaml_graph.specs.Closing.{stream_trees}
-use Rattle.law_store_keys.specs.Numbers.{Numbers}
+use Rattle.yaml_tree.specs.ComposerSteps as machine
+use Rattle.yaml_tree.specs.Anchors.{names_of, Placed}
+use Rattle.yaml_tree.specs.TreeLists.{AreLow}
+use Rattle.yaml_tree.specs.Closing.{stream_trees}
+use Rattle.yaml_tree.specs.Numbers.{Numbers}
 use Rattle.yaml_store.specs.StoreGrows.{tags_of, Good, IsLow, trees_of}
 use Rattle.yaml_store.specs.declared.store.Store.{Store}
 use Rattle.yaml_store.specs.declared.nodes.Collection.{Collection}

@@ -2,7 +2,7 @@
 use Rattle.std.specs.Prelude.{◌≡◌, ◌⊎◌, ◌<◌, ℕ, List, [], ◌∷◌, ◌++◌, length, Some}
 use Rattle.std.specs.List.{slice_get}
 use Rattle.yaml_definitions.specs.model.Tree.{Tree}
-use Rattle.law_store_keys.specs.Numbers.{Numbers}
+use Rattle.yaml_tree.specs.Numbers.{Numbers}
 use Rattle.yaml_tree_builder.specs.declared.firsts.Firsts.{Firsts}
 
 -- The nodes that stand for the trees have these places among the closed nodes, and so many closed.

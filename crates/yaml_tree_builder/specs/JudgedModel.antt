@@ -1,7 +1,7 @@
 -- What a builder was told up to the first event that is refused, and behind it.
 use Rattle.std.specs.Prelude.{◌≡◌, ◌<◌, ◌≤◌, ℕ, List, [], ◌∷◌, ◌++◌, length, Option, Some, None, Err}
 use Rattle.yaml_definitions.specs.model.Event.{Event}
-use Rattle.yaml_graph.specs.ComposerSteps.{initial_state, steps}
+use Rattle.yaml_tree.specs.ComposerSteps.{initial_state, steps}
 use Rattle.yaml_tree_builder.specs.BuilderLog.{Follows}
 use Rattle.yaml_tree_builder.specs.Refusals.{cause_of}
 use Rattle.yaml_tree_builder.specs.declared.stop.Refusal.{Refusal}

@@ -4,7 +4,7 @@ use Rattle.yaml_definitions.specs.model.Tree.{Tree}
 use Rattle.yaml_definitions.specs.model.Event.{Event}
 use Rattle.yaml_definitions.specs.model.Core.{Cause}
 use Rattle.yaml_definitions.specs.model.Unfold.{Table}
-use Rattle.yaml_graph.specs.ComposerSteps.{State, steps}
+use Rattle.yaml_tree.specs.ComposerSteps.{State, steps}
 use Rattle.yaml_tree_builder.specs.Reached.{Reaches}
 
 -- more whole nodes where a state stands, the trees of all that closed in them, and the anchors after them

@@ -4,11 +4,11 @@ use Rattle.yaml_definitions.specs.model.Tree.{Tree}
 use Rattle.yaml_definitions.specs.model.Event.{Event}
 use Rattle.yaml_definitions.specs.model.Serial.{Document, stream_events}
 use Rattle.yaml_definitions.specs.model.Unfold.{trees_of}
-use Rattle.yaml_graph.specs.Closing.{stream_trees}
+use Rattle.yaml_tree.specs.Closing.{stream_trees}
 use Rattle.yaml_graph.specs.Composed.{Composed}
-use Rattle.yaml_graph.specs.GraphModel.{AreLow}
+use Rattle.yaml_tree.specs.TreeLists.{AreLow}
 use Rattle.yaml_graph.specs.declared.graph.Graph.{Graph}
-use Rattle.yaml_graph.specs.ComposerSteps.{State, initial_state, steps}
+use Rattle.yaml_tree.specs.ComposerSteps.{State, initial_state, steps}
 use Rattle.yaml_tree_builder.specs.declared.size.StreamSize.{StreamSize}
 
 -- From this state the events come to that one, and nothing is refused. The events' numbers tell nothing then.

@@ -4,7 +4,7 @@ use Rattle.yaml_definitions.specs.model.Event.{Event}
 use Rattle.yaml_definitions.specs.model.Core as core
 use Rattle.yaml_text.specs.declared.fault.Fault.{Fault}
 use Rattle.yaml_text.specs.declared.fault.Fault.TheVariants as faults
-use Rattle.yaml_graph.specs.ComposerSteps.{State, step}
+use Rattle.yaml_tree.specs.ComposerSteps.{State, step}
 use Rattle.yaml_tree_builder.specs.declared.stop.Cause.{Cause}
 use Rattle.yaml_tree_builder.specs.declared.stop.Cause.TheVariants as causes
 use Rattle.yaml_tree_builder.specs.declared.stop.Stop.{Stop}

@@ -1,6 +1,6 @@
 //! The names of a document's anchors.
 ghost use Rattle.std.specs.Prelude.{◌≡◌, ℕ, ◌+◌, [], ◌∷◌, ◌++◌, List, Some, length, slice_get, IfOk, IfSome};
-ghost use Rattle.yaml_graph.specs.ComposerModel.{last_place};
+ghost use Rattle.yaml_tree.specs.Anchors.{last_place};
 ghost use Rattle.yaml_tree_builder.specs.AnchorsModel.{table_place, Names};
 
 use std::alloc::Global;

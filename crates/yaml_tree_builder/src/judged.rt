@@ -10,7 +10,7 @@ ghost use Rattle.yaml_sink.specs.PropertyRules.{props_of};
 ghost use Rattle.yaml_tree_builder.specs.Reached.{UnfoldTo};
 ghost use Rattle.yaml_tree_builder.specs.Nodes.{AreNodes};
 ghost use Rattle.yaml_tree_builder.specs.BuilderModel.{IsForest, AreForests, start_of, end_of};
-ghost use Rattle.yaml_graph.specs.Composed.{RefusesStream};
+ghost use Rattle.yaml_tree.specs.Refused.{RefusesStream};
 ghost use Rattle.yaml_tree_builder.specs.BuilderLog.{SettlesAlone, SettlesKey};
 ghost use Rattle.yaml_tree_builder.specs.JudgedModel.{Judges, Takes, IsBefore, IsNoneBefore};
 

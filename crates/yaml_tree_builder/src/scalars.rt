@@ -6,8 +6,8 @@ ghost use Rattle.yaml_definitions.specs.model.Event.{Anchor, Style as PlainStyle
 ghost use Rattle.yaml_text.specs.EventModel.{style_of};
 ghost use Rattle.yaml_core.specs.Kind.{kind_tag};
 ghost use Rattle.yaml_sink.specs.PropertyRules.{props_of, props_in};
-ghost use Rattle.yaml_graph.specs.ComposerModel.{names_of, Placed};
-ghost use Rattle.yaml_graph.specs.ComposerSteps.{State, whole};
+ghost use Rattle.yaml_tree.specs.Anchors.{names_of, Placed};
+ghost use Rattle.yaml_tree.specs.ComposerSteps.{State, whole};
 ghost use Rattle.yaml_tree_builder.specs.TagModel.{KeepsTexts};
 ghost use Rattle.yaml_tree_builder.specs.BuilderModel.{Holds, Stepped, FromBegun};
 ghost use Rattle.yaml_tree_builder.specs.Refusals.{Stops};

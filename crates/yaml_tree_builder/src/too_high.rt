@@ -2,8 +2,7 @@
 ghost use Rattle.std.specs.Prelude.{◌<◌, ◌↔◌, List, IsTrue, MatchOption};
 ghost use Rattle.yaml_definitions.specs.model.Limits as limit;
 ghost use Rattle.yaml_definitions.specs.model.Tree.{Tree, height};
-ghost use Rattle.yaml_graph.specs.GraphModel.{AreLow};
-ghost use Rattle.yaml_graph.specs.Finished.{IsFirstTooHigh};
+ghost use Rattle.yaml_tree.specs.TreeLists.{AreLow, IsFirstTooHigh};
 ghost use Rattle.yaml_store.specs.StoreGrows.{Good, Stands, trees_of};
 ghost use Rattle.yaml_tree_builder.specs.BuilderModel.{AllAt};
 

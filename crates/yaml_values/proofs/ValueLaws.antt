@@ -4,9 +4,9 @@ use Rattle.std.specs.Prelude.{Some}
 use Rattle.std.specs.List.{slice_get, All}
 use Rattle.std.proofs.Math.Seq.{take-append_seam}
 use Rattle.yaml_definitions.specs.model.Tree.{Tree}
-use Rattle.yaml_rank.specs.View.{Inside, content, items, entries, inside_tree, InsideBelow}
-use Rattle.yaml_rank.specs.Insides.{Held}
-use Rattle.yaml_rank.proofs.LevelLaws.{push-get}
+use Rattle.yaml_tree.specs.View.{Inside, content, items, entries, inside_tree, InsideBelow}
+use Rattle.yaml_tree.specs.Insides.{Held}
+use Rattle.yaml_tree.proofs.Lists.{push-get}
 use Rattle.yaml_store_rank.specs.declared.ranking.Ranked.{Ranked}
 use Rattle.yaml_store_rank.specs.Walked.{walked_tree}
 use Rattle.yaml_values.specs.Ranges.{Grows, Puts, in_turn}

@@ -2,8 +2,8 @@
 use Rattle.std.specs.Prelude.{◌≡◌, ◌<◌, ◌≤◌, ℕ, List, length, map, take, Some}
 use Rattle.std.specs.List.{slice_get, All}
 use Rattle.yaml_definitions.specs.model.Tree.{Tree}
-use Rattle.yaml_rank.specs.View.{Inside, content, items, entries, inside_tree, InsideBelow}
-use Rattle.yaml_rank.specs.Insides.{Held}
+use Rattle.yaml_tree.specs.View.{Inside, content, items, entries, inside_tree, InsideBelow}
+use Rattle.yaml_tree.specs.Insides.{Held}
 use Rattle.yaml_values.specs.Kinds.{scalar_kind, a_sequence, a_mapping}
 use Rattle.yaml_values.specs.Ranges.{IsRange, in_turn}
 use Rattle.yaml_values.specs.declared.value.Value.{Value}

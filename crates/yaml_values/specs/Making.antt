@@ -1,7 +1,7 @@
 -- What putting a value behind others makes of the lists.
 use Rattle.std.specs.Prelude.{ℕ, List, length, ◌≡◌, Some}
 use Rattle.std.specs.List.{slice_get}
-use Rattle.yaml_rank.specs.View.{Inside, InsideBelow}
+use Rattle.yaml_tree.specs.View.{Inside, InsideBelow}
 use Rattle.yaml_store_rank.specs.declared.ranking.Ranked.{Ranked}
 use Rattle.yaml_store_rank.specs.Walked.{walked_tree}
 use Rattle.yaml_values.specs.Ranges.{Grows}

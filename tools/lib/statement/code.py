@@ -57,16 +57,17 @@ class Declared:
         self.comment = [line.replace("///", "--", 1) for line in found[1].splitlines()]
         self.lines = [line for line in found[3].split("\n") if not re.match(r"\s*(///|#\[)", line)]
         self.imports = Imports(text.split("\n"))
-        uses = dict(re.findall(r"^use crate::([\w:]+)::\{?([^}\n]*)\}?;", text, re.M))
+        uses = re.findall(r"^(?:pub )?use (crate|(?:yaml|law)_\w+)::([\w:]+)::\{?([^}\n]*)\}?;", text, re.M)
         self.others: dict[str, str] = {}
-        for path, names in uses.items():
+        for crate, path, names in uses:
             for it in (it for it in re.split(r",\s*", names) if it[:1].isupper()):
-                self.others[it] = f"Rattle.{parts[1]}.specs.declared.{path.replace('::', '.')}.{it}"
+                crate = parts[1] if crate == "crate" else crate
+                self.others[it] = f"Rattle.{crate}.specs.declared.{path.replace('::', '.')}.{it}"
         for it in re.findall(r"^pub (?:enum|struct) (\w+)", text, re.M):
             self.others.setdefault(it, ".".join([*parts[:-1], it]))
 
     def types(self) -> set[str]:
-        """The types of its own crate that it is made of."""
+        """The types of the tree's own crates that it is made of."""
         text = "\n".join(self.lines)
         return {module for name, module in self.others.items() if name != self.name and re.search(rf"\b{name}\b", text)}
 

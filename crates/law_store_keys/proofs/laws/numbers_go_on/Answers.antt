@@ -1,4 +1,5 @@
-use Rattle.law_store_keys.proofs.NumberLaws.{closes-again, closes-first, holdable}
+use Rattle.yaml_tree.proofs.NumberLaws.{closes-again, closes-first}
+use Rattle.law_store_keys.proofs.Holding.{holdable}
 use Rattle.law_store_keys.proofs.laws.numbers_go_on.Goals as goal
 
 pub returns-clause-stay : goal.returns-clause-stay

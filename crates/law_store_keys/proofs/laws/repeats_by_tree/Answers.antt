@@ -1,4 +1,5 @@
-use Rattle.law_store_keys.proofs.Repeats.{graph-to, graph-from, view-to, view-from}
+use Rattle.yaml_tree.proofs.Repeats.{view-to, view-from}
+use Rattle.law_store_keys.proofs.Repeats.{graph-to, graph-from}
 use Rattle.law_store_keys.proofs.laws.repeats_by_tree.Goals as goal
 
 pub returns-clause-graph : goal.returns-clause-graph

@@ -2,7 +2,7 @@ use Rattle.std.proofs.Common.{◌≡◌, rules, ℕ, List, ◌<◌, length, sym,
 use Rattle.std.specs.Prelude.{Some, slice_get, option_and_then}
 use Rattle.std.proofs.lemmas.Option.{option_and_then_some, slice_get-get_or, slice_get_within}
 use Rattle.std.proofs.lemmas.List.Sorted.{IsNonDecreasingBy-from_sort_by_key}
-use Rattle.yaml_graph.specs.declared.node.NodeId.{NodeId}
+use Rattle.yaml_tree.specs.declared.node.NodeId.{NodeId}
 use Rattle.review_text.specs.declared.both.Both.{Both}
 use Rattle.yaml_rank.specs.RanksView.{numbers_of}
 use Rattle.review_places.specs.Tables.{rank_at}

@@ -1,12 +1,12 @@
 use Rattle.std.proofs.Common.{refl, sym, ap, ◌∙◌, arith, subst, map, length, ◌<◌}
-use Rattle.yaml_graph.specs.TreeLists.{trees, pairs}
+use Rattle.yaml_tree.specs.TreeLists.{trees, pairs}
 use Rattle.yaml_definitions.specs.model.Tree.{sequence, mapping}
 use Rattle.yaml_definitions.specs.model.Order.{arranged}
 use Rattle.review_text.specs.NodeText.{text_of}
 use Rattle.yaml_definitions.specs.model.Tag.{core_tag}
 use Rattle.yaml_graph.specs.GraphView.{tree}
 use Rattle.yaml_rank.specs.RankModel.{key_pair}
-use Rattle.yaml_graph.specs.declared.node.NodeId.{NodeId}
+use Rattle.yaml_tree.specs.declared.node.NodeId.{NodeId}
 use Rattle.review_text.proofs.NodeLaws.{items_first, items_step, items_end, entries_first, entries_step, entries_end, left_full, fills_full, fills_as, scalar_text_of, sequence_filled, mapping_filled}
 use Rattle.review_text.proofs.GraphShapes.{none-there, scalar-there, sequence-there, mapping-there, entries-below}
 use Rattle.review_text.proofs.Pieces.{on_ok}

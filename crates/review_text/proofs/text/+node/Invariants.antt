@@ -2,7 +2,7 @@ use Rattle.std.proofs.Common.{◌+◌, ◌*◌, ◌++◌}
 use Rattle.std.specs.String.{string_bytes}
 use Rattle.yaml_definitions.specs.model.Order.{arranged}
 use Rattle.yaml_graph.specs.GraphView.{tree}
-use Rattle.yaml_graph.specs.declared.node.NodeId.{NodeId}
+use Rattle.yaml_tree.specs.declared.node.NodeId.{NodeId}
 use Rattle.yaml_rank.specs.RankModel.{key_pair}
 use Rattle.review_text.proofs.NodeLaws.{Alike, items_left, items_whole, entries_left, entries_whole}
 use Rattle.review_text.proofs.text.+node.Given as goal

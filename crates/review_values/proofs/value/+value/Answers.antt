@@ -2,7 +2,7 @@ use Rattle.std.proofs.Common.{[], inl, refl, sym, ◌∙◌, arith}
 use Rattle.std.proofs.lemmas.Result.{IfErr-weaker, err_from_is_err_and}
 use Rattle.yaml_definitions.specs.model.Order.{arranged}
 use Rattle.yaml_graph.specs.GraphView.{tree}
-use Rattle.yaml_graph.specs.declared.node.NodeId.{NodeId}
+use Rattle.yaml_tree.specs.declared.node.NodeId.{NodeId}
 use Rattle.yaml_rank.specs.RankModel.{key_pair}
 use Rattle.review_text.proofs.Pieces.{on_ok}
 use Rattle.review_text.proofs.GraphShapes.{none-there, scalar-there, sequence-there, mapping-there}

@@ -1,7 +1,7 @@
 use Rattle.std.proofs.Common.{◌≡◌, ◌+◌, ◌*◌}
 use Rattle.yaml_definitions.specs.model.Order.{arranged}
 use Rattle.yaml_graph.specs.GraphView.{tree}
-use Rattle.yaml_graph.specs.declared.node.NodeId.{NodeId}
+use Rattle.yaml_tree.specs.declared.node.NodeId.{NodeId}
 use Rattle.yaml_rank.specs.RankModel.{key_pair}
 use Rattle.yaml_show_scalar.specs.Stops.{limit_of}
 use Rattle.yaml_show_scalar.specs.Texts.{written}

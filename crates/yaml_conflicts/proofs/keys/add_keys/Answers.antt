@@ -1,6 +1,6 @@
 use Rattle.std.proofs.Common.{◌<◌, length, get_or, arith}
 use Rattle.std.proofs.lemmas.Option.{slice_get-get_or}
-use Rattle.yaml_graph.specs.declared.node.NodeId.{NodeId}
+use Rattle.yaml_tree.specs.declared.node.NodeId.{NodeId}
 use Rattle.yaml_conflicts.proofs.KeyLaws.{keys-first, keys-next, covers-kept}
 use Rattle.yaml_conflicts.proofs.keys.add_keys.Goals as goal
 

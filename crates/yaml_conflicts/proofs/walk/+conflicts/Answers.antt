@@ -1,6 +1,6 @@
 use Rattle.std.proofs.Common.{◌<◌, length, get_or, sym, ◌∙◌, subst, arith}
 use Rattle.std.proofs.lemmas.Option.{slice_get-get_or}
-use Rattle.yaml_graph.specs.declared.node.NodeId.{NodeId}
+use Rattle.yaml_tree.specs.declared.node.NodeId.{NodeId}
 use Rattle.yaml_diff.specs.Found.{AllWithin}
 use Rattle.yaml_conflicts.specs.Keys.{Covers}
 use Rattle.yaml_conflicts.proofs.WalkLaws.{settled-found, cut-found, none-spends, cut-spends, one-found, one-spends, walked-first, walked-next, walked-done, spends-some, total-less, parts-within}

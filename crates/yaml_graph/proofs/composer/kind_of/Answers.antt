@@ -1,6 +1,6 @@
 use Rattle.std.proofs.Common.{◌≡◌, ◌<◌, ap, ◌∙◌, subst, sym, length, true}
 use Rattle.std.proofs.lemmas.List.Elements.{All-nil}
-use Rattle.yaml_graph.specs.ComposerSteps.{paired}
+use Rattle.yaml_tree.specs.ComposerSteps.{paired}
 use Rattle.yaml_graph.specs.GraphModel.{trees_in}
 use Rattle.yaml_graph.specs.ComposerModel.{is_mapping, Collects}
 use Rattle.yaml_graph.specs.declared.node.NodeKind.TheVariants as kinds

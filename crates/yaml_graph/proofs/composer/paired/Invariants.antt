@@ -1,5 +1,5 @@
 use Rattle.std.proofs.Common.{◌≡◌, ◌++◌, length}
-use Rattle.yaml_graph.specs.ComposerSteps.{paired}
+use Rattle.yaml_tree.specs.ComposerSteps.{paired}
 use Rattle.yaml_graph.proofs.composer.paired.Given as goal
 
 abbrev pub invariant-loop-left : goal.invariant-loop-left

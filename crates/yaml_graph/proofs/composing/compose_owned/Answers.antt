@@ -2,10 +2,10 @@ use Rattle.std.proofs.Common.{rules, arith, ◌≡◌, ◌+◌, length, map, sym
 use Rattle.std.specs.Vec.Iter.{into_iter_items}
 use Rattle.std.specs.Iterator.Adapters.{enumerate_source, enumerate_count}
 use Rattle.yaml_text.specs.EventModel.{event_of}
-use Rattle.yaml_graph.specs.Composed.{RefusesStream}
+use Rattle.yaml_tree.specs.Refused.{RefusesStream}
 use Rattle.yaml_graph.proofs.StreamLaws.{Stepped, stepped, goes-on, refused, ended}
 use Rattle.yaml_graph.proofs.EndLaws.{nodes-low, finished}
-use Rattle.yaml_graph.specs.ComposerSteps.{steps}
+use Rattle.yaml_tree.specs.ComposerSteps.{steps}
 use Rattle.yaml_graph.specs.ComposerModel.{Reached}
 use Rattle.yaml_graph.proofs.composing.compose_owned.Goals as goal
 

@@ -2,7 +2,7 @@ use Rattle.std.proofs.Common.{◌≡◌, map, length}
 use Rattle.std.specs.Vec.Iter.{into_iter_items, into_iter_len}
 use Rattle.std.specs.Iterator.Adapters.{enumerate_source, enumerate_count}
 use Rattle.yaml_text.specs.EventModel.{event_of}
-use Rattle.yaml_graph.specs.ComposerSteps.{State, initial_state, steps}
+use Rattle.yaml_tree.specs.ComposerSteps.{State, initial_state, steps}
 use Rattle.yaml_graph.specs.ComposerModel.{Holds}
 use Rattle.yaml_graph.proofs.composing.compose_owned.Given as goal
 

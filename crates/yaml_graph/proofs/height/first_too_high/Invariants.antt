@@ -2,7 +2,7 @@ use Rattle.std.proofs.Common.{◌≡◌, ℕ, ◌<◌}
 use Rattle.std.specs.Prelude.{Some}
 use Rattle.std.specs.List.{slice_get}
 use Rattle.yaml_graph.specs.ComposerModel.{IsBelow}
-use Rattle.yaml_graph.specs.declared.node.NodeId.{NodeId}
+use Rattle.yaml_tree.specs.declared.node.NodeId.{NodeId}
 use Rattle.yaml_graph.proofs.height.first_too_high.Given as goal
 
 abbrev pub invariant-loop-document : goal.invariant-loop-document

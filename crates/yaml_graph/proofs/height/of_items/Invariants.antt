@@ -1,8 +1,7 @@
 use Rattle.std.proofs.Common.{◌≡◌, ℕ, List, map, take}
 use Rattle.yaml_definitions.specs.model.Tree.{Tree, sequence}
-use Rattle.yaml_graph.specs.TreeLists.{trees}
+use Rattle.yaml_tree.specs.TreeLists.{trees, cut}
 use Rattle.yaml_graph.specs.GraphModel.{trees_at}
-use Rattle.yaml_graph.specs.ComposerModel.{cut}
 use Rattle.yaml_graph.proofs.height.of_items.Given as goal
 
 abbrev pub invariant-loop-item : goal.invariant-loop-item

@@ -1,8 +1,7 @@
 use Rattle.std.proofs.Common.{◌∙◌, ap, sym}
 use Rattle.yaml_definitions.specs.model.Tree.{sequence, mapping}
-use Rattle.yaml_graph.specs.TreeLists.{trees, pairs}
+use Rattle.yaml_tree.specs.TreeLists.{trees, pairs, cut}
 use Rattle.yaml_graph.specs.GraphModel.{trees_at, entries_at, kind_tree}
-use Rattle.yaml_graph.specs.ComposerModel.{cut}
 use Rattle.yaml_graph.proofs.height.of_kind.Goals as goal
 
 pub returns-in-Sequence : goal.returns-in-Sequence

@@ -1,5 +1,5 @@
 use Rattle.yaml_graph.specs.JoinModel.{raised}
-use Rattle.yaml_graph.proofs.JoinLaws.{raise-more}
+use Rattle.yaml_tree.proofs.Lists.{raise-more}
 use Rattle.yaml_graph.proofs.joining.raise.Goals as goal
 
 pub loop-item-preserved : goal.loop-item-preserved

@@ -1,5 +1,5 @@
 use Rattle.yaml_graph.specs.JoinModel.{raised_pair}
-use Rattle.yaml_graph.proofs.JoinLaws.{raise-more}
+use Rattle.yaml_tree.proofs.Lists.{raise-more}
 use Rattle.yaml_graph.proofs.joining.raise_entries.Goals as goal
 
 pub loop-entry-preserved : goal.loop-entry-preserved

@@ -1,7 +1,7 @@
 use Rattle.std.proofs.Common.{◌-◌, ◌<◌, true, false, length, sym, subst, inl, inr, refl, arith}
 use Rattle.std.proofs.lemmas.Option.{slice_get_read}
 use Rattle.yaml_rank.specs.KeyModel.{key_cmp}
-use Rattle.yaml_rank.proofs.Numbering.{Goes, numbering-more, tested, finished}
+use Rattle.yaml_tree.proofs.Numbering.{Goes, numbering-more, tested, finished}
 use Rattle.yaml_rank.proofs.key_numbers.number.Goals as goal
 use Rattle.yaml_rank.proofs.key_numbers.number.Goals.{then-place-gt0+then-is_below, else-place-gt0, else-place-gt0-via-then-place-gt0+else-is_below, else-place-gt0-via-else-place-gt0}
 

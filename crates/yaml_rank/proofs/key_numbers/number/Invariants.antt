@@ -1,5 +1,5 @@
 use Rattle.yaml_rank.specs.KeyModel.{key_cmp}
-use Rattle.yaml_rank.proofs.Numbering.{Numbering}
+use Rattle.yaml_tree.proofs.Numbering.{Numbering}
 use Rattle.yaml_rank.proofs.key_numbers.number.Given as goal
 
 abbrev pub invariant-loop-place : goal.invariant-loop-place

@@ -1,7 +1,7 @@
 use Rattle.std.proofs.Common.{◌<◌, length, map, slice_index, subst, sym, ◌∙◌, ap}
 use Rattle.std.specs.List.{All, slice_index_or}
-use Rattle.yaml_graph.specs.declared.node.NodeId.{NodeId}
-use Rattle.yaml_rank.specs.Places.{InOrder, AllRise}
+use Rattle.yaml_tree.specs.declared.node.NodeId.{NodeId}
+use Rattle.yaml_tree.specs.Places.{InOrder, AllRise}
 use Rattle.yaml_rank.proofs.Arranging.{all-sorted, arranges}
 use Rattle.yaml_rank.proofs.key_of.entries_of.Goals as goal
 

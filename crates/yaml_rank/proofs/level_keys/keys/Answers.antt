@@ -1,6 +1,7 @@
 use Rattle.std.proofs.Common.{◌≡◌, ◌+◌, take, set, get_or, sym, ◌∙◌, subst, arith, rules}
 use Rattle.yaml_rank.specs.LevelModel.{KeysMade, RefusesLevel}
-use Rattle.yaml_rank.proofs.LevelLaws.{set-past, keys-more, level-refused}
+use Rattle.yaml_tree.proofs.Lists.{set-past}
+use Rattle.yaml_rank.proofs.LevelLaws.{keys-more, level-refused}
 use Rattle.yaml_rank.proofs.TagLaws.{tag-at, tag-among}
 use Rattle.yaml_rank.proofs.level_keys.keys.Goals as goal
 use Rattle.yaml_rank.proofs.level_keys.keys.Goals.{then-number-sorted, else-number-sorted}

@@ -1,7 +1,7 @@
 use Rattle.std.proofs.Common.{[], ◌∷◌, ◌++◌, ◌∙◌, ap}
 use Rattle.yaml_definitions.specs.model.Tree.{height}
 use Rattle.yaml_graph.specs.GraphView.{tree}
-use Rattle.yaml_rank.proofs.LevelsLaws.{levels-none, levels-more}
+use Rattle.yaml_tree.proofs.LevelsLaws.{levels-none, levels-more}
 use Rattle.yaml_rank.proofs.levels.levels.Goals as goal
 
 pub loop-number-init : goal.loop-number-init

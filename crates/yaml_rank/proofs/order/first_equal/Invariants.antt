@@ -1,5 +1,5 @@
 use Rattle.std.proofs.Common.{◌<◌, ◌≤◌, max, length}
-use Rattle.yaml_rank.proofs.PlaceLaws.{SoFar}
+use Rattle.yaml_tree.proofs.PlaceLaws.{SoFar}
 use Rattle.yaml_rank.proofs.order.first_equal.Given as goal
 
 abbrev pub invariant-loop-at : goal.invariant-loop-at

@@ -1,7 +1,7 @@
 use Rattle.std.proofs.Common.{subst, get_or, [], ◌∷◌, ◌++◌, ◌∙◌, ap, refl}
 use Rattle.std.specs.List.Sorted.{IsPermutation}
 use Rattle.std.proofs.lemmas.List.{take_all}
-use Rattle.yaml_rank.proofs.PlaceLaws.{placed, placed-more, in-order}
+use Rattle.yaml_tree.proofs.PlaceLaws.{placed, placed-more, in-order}
 use Rattle.yaml_rank.proofs.order.in_order.Goals as goal
 
 pub loop-place-preserved : goal.loop-place-preserved

@@ -1,7 +1,7 @@
 use Rattle.std.proofs.Common.{◌++◌, ◌∙◌, sym, ap, map}
 use Rattle.yaml_definitions.specs.model.Order.{arranged}
 use Rattle.yaml_graph.specs.GraphView.{tree}
-use Rattle.yaml_graph.specs.declared.node.NodeId.{NodeId}
+use Rattle.yaml_tree.specs.declared.node.NodeId.{NodeId}
 use Rattle.yaml_show.specs.Layout.{shown_text}
 use Rattle.std.proofs.lemmas.Result.{err_from_is_err_and}
 use Rattle.yaml_show_scalar.proofs.StopLaws.{stops_same}

@@ -1,7 +1,7 @@
 use Rattle.std.proofs.Common.{◌<◌, ◌∙◌, length, ap, subst, sym, rules}
 use Rattle.std.specs.List.{All}
 use Rattle.yaml_graph.specs.GraphView.{nodes_of, forest}
-use Rattle.yaml_graph.specs.declared.node.NodeId.{NodeId}
+use Rattle.yaml_tree.specs.declared.node.NodeId.{NodeId}
 use Rattle.yaml_spell.proofs.PieceLaws.{if_one, if_err}
 use Rattle.yaml_spell.proofs.DocumentLaws.{graph_text, arranged_refused}
 use Rattle.yaml_spell.proofs.spell.canonical_len.Goals as goal

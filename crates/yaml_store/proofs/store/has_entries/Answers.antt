@@ -1,7 +1,7 @@
 use Rattle.std.proofs.Common.{◌≡◌, ◌*◌, ◌+◌, ◌/◌, ◌<◌, inl, inr, ℕ, get_or, length, ◌∙◌, ap, subst, arith}
 use Rattle.std.specs.List.{slice_range}
-use Rattle.yaml_rank.proofs.Numbers.{below_or}
-use Rattle.yaml_rank.proofs.Lists.{get_or-any}
+use Rattle.yaml_tree.proofs.Numbers.{below_or}
+use Rattle.yaml_tree.proofs.Lists.{get_or-any}
 use Rattle.yaml_store.proofs.Parts.{paired-same}
 use Rattle.yaml_store.proofs.store.has_entries.Goals as goal
 

@@ -1,7 +1,7 @@
 use Rattle.std.proofs.Common.{◌≡◌, suc, min, max, List, drop}
 use Rattle.yaml_definitions.specs.model.Limits.{height_limit}
 use Rattle.yaml_definitions.specs.model.Tree.{Tree, heights}
-use Rattle.yaml_graph.specs.TreeLists.{trees}
+use Rattle.yaml_tree.specs.TreeLists.{trees}
 use Rattle.yaml_store.specs.StoreModel.{parts_at, AllMeasured}
 use Rattle.yaml_store.proofs.store.height_over.Given as goal
 

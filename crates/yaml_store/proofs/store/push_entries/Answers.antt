@@ -1,5 +1,5 @@
 use Rattle.std.proofs.Common.{◌*◌, ◌+◌, ◌++◌, ℕ, [], ◌∷◌, get_or, take, sym, ◌∙◌, ap, arith, append_assoc}
-use Rattle.yaml_graph.specs.ComposerSteps.{paired}
+use Rattle.yaml_tree.specs.ComposerSteps.{paired}
 use Rattle.yaml_store.proofs.Parts.{paired-more, paired-all}
 use Rattle.yaml_store.proofs.store.push_entries.Goals as goal
 

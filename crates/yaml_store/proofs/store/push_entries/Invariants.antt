@@ -1,5 +1,5 @@
 use Rattle.std.proofs.Common.{◌≡◌, ◌*◌, ◌++◌, take}
-use Rattle.yaml_graph.specs.ComposerSteps.{paired}
+use Rattle.yaml_tree.specs.ComposerSteps.{paired}
 use Rattle.yaml_store.proofs.store.push_entries.Given as goal
 
 abbrev pub invariant-loop-place : goal.invariant-loop-place

@@ -1,5 +1,5 @@
 use Rattle.std.proofs.Common.{arith}
-use Rattle.yaml_rank.proofs.PlaceLaws.{first-equal}
+use Rattle.yaml_tree.proofs.PlaceLaws.{first-equal}
 use Rattle.yaml_store_rank.proofs.equal.equal_neighbours.Goals as goal
 
 pub returns : goal.returns

@@ -1,5 +1,5 @@
 use Rattle.std.proofs.Common.{subst, sym}
-use Rattle.yaml_rank.specs.Places.{InOrder}
+use Rattle.yaml_tree.specs.Places.{InOrder}
 use Rattle.yaml_store_rank.proofs.EqualLaws.{equal-or-differ}
 use Rattle.yaml_store_rank.proofs.equal.first_equal.Goals as goal
 

@@ -1,5 +1,5 @@
 use Rattle.std.proofs.Common.{◌≡◌, take}
-use Rattle.yaml_rank.proofs.PlaceLaws.{placed}
+use Rattle.yaml_tree.proofs.PlaceLaws.{placed}
 use Rattle.yaml_store_rank.proofs.equal.in_order.Given as goal
 
 abbrev pub invariant-loop-place : goal.invariant-loop-place

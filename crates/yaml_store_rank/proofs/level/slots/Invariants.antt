@@ -1,5 +1,5 @@
 use Rattle.std.proofs.Common.{◌≡◌, ◌+◌, take}
-use Rattle.yaml_rank.specs.Visited.{count_of}
+use Rattle.yaml_tree.specs.Visited.{count_of}
 use Rattle.yaml_store_rank.specs.LevelModel.{KeysMade}
 use Rattle.yaml_store_rank.specs.SlotModel.{keys_of}
 use Rattle.yaml_store.specs.TextModel.{text_of}

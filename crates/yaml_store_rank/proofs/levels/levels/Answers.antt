@@ -1,6 +1,6 @@
 use Rattle.std.proofs.Common.{[], ◌∷◌, ◌++◌, ◌∙◌, ap, sym}
-use Rattle.yaml_rank.proofs.LevelsLaws.{levels-more}
-use Rattle.yaml_rank.proofs.Numbering.{get-there}
+use Rattle.yaml_tree.proofs.LevelsLaws.{levels-more}
+use Rattle.yaml_tree.proofs.Numbering.{get-there}
 use Rattle.yaml_store.specs.StoreModel.{height_at, node_height}
 use Rattle.yaml_store_rank.proofs.levels.levels.Goals as goal
 

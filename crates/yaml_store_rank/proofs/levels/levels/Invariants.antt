@@ -1,4 +1,4 @@
-use Rattle.yaml_rank.specs.LevelsModel.{LevelsBy}
+use Rattle.yaml_tree.specs.Levels.{LevelsBy}
 use Rattle.yaml_store.specs.StoreModel.{height_at}
 use Rattle.yaml_store_rank.proofs.levels.levels.Given as goal
 

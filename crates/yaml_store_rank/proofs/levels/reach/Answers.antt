@@ -1,6 +1,6 @@
 use Rattle.std.proofs.Common.{◌+◌, [], ◌∷◌, length, length-append, ◌∙◌, ap}
-use Rattle.yaml_rank.specs.LevelsModel.{level_of, total}
-use Rattle.yaml_rank.proofs.LevelsLaws.{level-empty, total-empty}
+use Rattle.yaml_tree.specs.Levels.{level_of, total}
+use Rattle.yaml_tree.proofs.LevelsLaws.{level-empty, total-empty}
 use Rattle.yaml_store_rank.proofs.levels.reach.Goals as goal
 
 pub loop-preserved : goal.loop-preserved

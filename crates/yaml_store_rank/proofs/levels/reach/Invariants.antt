@@ -1,5 +1,5 @@
 use Rattle.std.proofs.Common.{◌≡◌, ℕ, length}
-use Rattle.yaml_rank.specs.LevelsModel.{level_of, total}
+use Rattle.yaml_tree.specs.Levels.{level_of, total}
 use Rattle.yaml_store_rank.proofs.levels.reach.Given as goal
 
 abbrev pub invariant-loop : goal.invariant-loop

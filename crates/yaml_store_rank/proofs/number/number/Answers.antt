@@ -2,8 +2,8 @@ use Rattle.std.proofs.Common.{◌≡◌, subst, ℕ, ◌+◌, ◌-◌, ◌<◌, 
 use Rattle.std.specs.Prelude.{Some}
 use Rattle.std.specs.List.{slice_get}
 use Rattle.std.proofs.lemmas.List.{length-map}
-use Rattle.yaml_rank.proofs.GraphOf.{get-map}
-use Rattle.yaml_rank.proofs.Numbering.{Goes, more, get-there, numbering-more}
+use Rattle.yaml_tree.proofs.Lists.{get-map}
+use Rattle.yaml_tree.proofs.Numbering.{Goes, more, get-there, numbering-more}
 use Rattle.yaml_store_rank.specs.declared.slot.Slot.{Slot}
 use Rattle.yaml_store_rank.specs.KeyModel.{Key, Keys, key_cmp}
 use Rattle.yaml_store_rank.specs.SlotModel.{keyed, keys_of}

@@ -1,5 +1,5 @@
 use Rattle.std.proofs.Common.{length}
-use Rattle.yaml_rank.proofs.Numbering.{Numbering}
+use Rattle.yaml_tree.proofs.Numbering.{Numbering}
 use Rattle.yaml_store_rank.specs.KeyModel.{key_cmp}
 use Rattle.yaml_store_rank.specs.SlotModel.{keys_of}
 use Rattle.yaml_store_rank.proofs.Firsts.{Firsts}

@@ -1,8 +1,8 @@
 use Rattle.std.proofs.Common.{◌≡◌, [], ◌∷◌, ◌++◌, take, append-nil, ◌∙◌, ap, sym, subst, arith}
 use Rattle.std.specs.List.{All}
 use Rattle.std.proofs.lemmas.List.{take_all, take_more}
-use Rattle.yaml_rank.specs.TagModel.{TagsRise}
-use Rattle.yaml_rank.proofs.TagLaws.{tags-rise}
+use Rattle.yaml_tree.specs.Tags.{TagsRise}
+use Rattle.yaml_tree.proofs.TagLaws.{tags-rise}
 use Rattle.yaml_store_rank.specs.TagPlaces.{IsFound}
 use Rattle.yaml_store_rank.proofs.TagOrder.{found-more, all-listed}
 use Rattle.yaml_store_rank.proofs.places.in_order.Goals as goal

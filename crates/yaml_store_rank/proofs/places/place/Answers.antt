@@ -1,7 +1,7 @@
 use Rattle.std.proofs.Common.{get_or}
 use Rattle.std.proofs.lemmas.Map.Lookups.{exact_bytes}
-use Rattle.yaml_rank.proofs.Numbering.{get-there}
-use Rattle.yaml_rank.proofs.TagLaws.{never-missed}
+use Rattle.yaml_tree.proofs.Numbering.{get-there}
+use Rattle.yaml_tree.proofs.TagLaws.{never-missed}
 use Rattle.yaml_store_rank.proofs.places.place.Goals as goal
 
 pub returns-in-Ok-clause-at : goal.returns-in-Ok-clause-at

@@ -1,6 +1,6 @@
 use Rattle.std.proofs.Common.{◌+◌, [], ◌∷◌, ◌++◌, take, sym, subst, arith}
 use Rattle.std.proofs.lemmas.List.{take_all, take_more}
-use Rattle.yaml_rank.specs.TagModel.{IsTagAt, IsListed}
+use Rattle.yaml_tree.specs.Tags.{IsTagAt, IsListed}
 use Rattle.yaml_store.specs.StoreModel.{tag_at}
 use Rattle.yaml_store_rank.specs.TagPlaces.{PlacesAmong}
 use Rattle.yaml_store_rank.proofs.TagOrder.{among-more, places-are}

@@ -2,8 +2,8 @@ use Rattle.std.proofs.Common.{◌≡◌, ◌<◌, suc, length, slice_index, add-
 use Rattle.std.specs.List.{All}
 use Rattle.std.specs.Vec.{with_items}
 use Rattle.std.proofs.lemmas.List.{with_items_is, drop_more, drop_all}
-use Rattle.yaml_rank.specs.LevelsModel.{level_of, total, LevelsBy}
-use Rattle.yaml_rank.proofs.LevelsLaws.{level-there}
+use Rattle.yaml_tree.specs.Levels.{level_of, total, LevelsBy}
+use Rattle.yaml_tree.proofs.LevelsLaws.{level-there}
 use Rattle.yaml_store.specs.StoreModel.{height_at}
 use Rattle.yaml_store.specs.TextModel.{text_of}
 use Rattle.yaml_store_rank.specs.PartsModel.{LevelBelow, LevelSettled, RefusesLevel}

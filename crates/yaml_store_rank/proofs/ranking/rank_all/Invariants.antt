@@ -1,7 +1,7 @@
 use Rattle.std.proofs.Common.{◌≡◌, ◌+◌, length, drop}
-use Rattle.yaml_rank.specs.LevelsModel.{total}
-use Rattle.yaml_rank.specs.View.{View}
-use Rattle.yaml_rank.specs.Visited.{count_of}
+use Rattle.yaml_tree.specs.Levels.{total}
+use Rattle.yaml_tree.specs.View.{View}
+use Rattle.yaml_tree.specs.Visited.{count_of}
 use Rattle.yaml_store.specs.TextModel.{text_of}
 use Rattle.yaml_store_rank.specs.Ranking.{Stored}
 use Rattle.yaml_store_rank.proofs.Standing.{Standing}

@@ -1,5 +1,5 @@
 use Rattle.std.proofs.Common.{◌<◌, length, slice_index, sym, subst, refl}
-use Rattle.yaml_graph.proofs.JoinLaws.{raise-more}
+use Rattle.yaml_tree.proofs.Lists.{raise-more}
 use Rattle.yaml_store_rank.proofs.Overwriting.{not-yet}
 use Rattle.yaml_store_rank.proofs.settle.overwrite.Goals as goal
 

@@ -1,5 +1,5 @@
 use Rattle.std.proofs.Common.{ℕ, ◌<◌, length, slice_index, sym, subst, refl}
-use Rattle.yaml_graph.proofs.JoinLaws.{raise-more}
+use Rattle.yaml_tree.proofs.Lists.{raise-more}
 use Rattle.yaml_store_rank.specs.PartsModel.{two_ranks}
 use Rattle.yaml_store_rank.proofs.Overwriting.{not-yet}
 use Rattle.yaml_store_rank.proofs.settle.overwrite_entries.Goals as goal

@@ -1,7 +1,7 @@
 use Rattle.std.proofs.Common.{length, slice_index, get_or, [], sym, subst}
-use Rattle.yaml_rank.specs.View.{InsideBelow}
-use Rattle.yaml_rank.specs.Places.{IsFirstEqual}
-use Rattle.yaml_rank.proofs.Numbering.{get-there}
+use Rattle.yaml_tree.specs.View.{InsideBelow}
+use Rattle.yaml_tree.specs.Places.{IsFirstEqual}
+use Rattle.yaml_tree.proofs.Numbering.{get-there}
 use Rattle.yaml_store.specs.declared.nodes.Node.{Node}
 use Rattle.yaml_store.specs.declared.nodes.Kind.TheVariants.{Scalar}
 use Rattle.yaml_store.specs.StoreModel.{inside_of, PartsWithin}

@@ -1,7 +1,7 @@
 use Rattle.std.proofs.Common.{◌≡◌, ◌∙◌, ◌+◌, ◌<◌, ℕ, List, sym, ap, subst, length, slice_index, arith}
 use Rattle.std.proofs.lemmas.List.{length-set}
 use Rattle.std.proofs.lemmas.Grind.{get_or_default_zero}
-use Rattle.yaml_rank.proofs.Numbering.{get-there}
+use Rattle.yaml_tree.proofs.Numbering.{get-there}
 use Rattle.yaml_store.specs.declared.store.Store.{Store}
 use Rattle.yaml_store.specs.StoreGrows.{Good}
 use Rattle.yaml_store_rank.specs.StoreRanks.{short_at, StoreListed}

@@ -1,6 +1,6 @@
 use Rattle.std.proofs.Common.{◌≡◌, ◌+◌, ◌-◌, ◌*◌, ◌/◌, min, drop, length, sym, ◌∙◌, ap, subst, arith, rules}
 use Rattle.std.proofs.lemmas.List.{length-drop, take_all}
-use Rattle.yaml_rank.specs.PrefixModel.{front, IsPrefix}
+use Rattle.yaml_tree.specs.PrefixModel.{front, IsPrefix}
 use Rattle.yaml_store_rank.specs.NumberKeys.{joined}
 use Rattle.yaml_store_rank.proofs.FrontParts.{next-none, prefix-of}
 use Rattle.yaml_store_rank.proofs.slot.first_bytes.Goals as goal

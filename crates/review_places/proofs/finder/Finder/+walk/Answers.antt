@@ -1,6 +1,6 @@
 use Rattle.std.specs.Prelude.{IfSome, IfNone}
 use Rattle.std.proofs.Common.{◌≡◌, ◌∷◌, [], ◌&&◌, ℕ, not, refl, sym, ◌∙◌, ap, subst, rules, tests}
-use Rattle.yaml_graph.specs.declared.node.NodeId.{NodeId}
+use Rattle.yaml_tree.specs.declared.node.NodeId.{NodeId}
 use Rattle.review_places.specs.Layout.{is_alias_event}
 use Rattle.review_places.specs.Seats.{both_of, IsRanked, IsPart, IsEnd, EndsNowhere}
 use Rattle.review_places.proofs.SeatLaws.{end-further, ends-here, at-old, alias-old}

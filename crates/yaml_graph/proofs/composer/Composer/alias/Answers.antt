@@ -1,5 +1,5 @@
 use Rattle.std.proofs.Common.{◌≡◌, sym, ◌∙◌, refl, arith, Some, None}
-use Rattle.yaml_graph.specs.ComposerModel.{place_named}
+use Rattle.yaml_tree.specs.Anchors.{place_named}
 use Rattle.yaml_graph.proofs.ComposerLaws.{alias-undefined, alias-within, alias-cyclic, alias-added}
 use Rattle.yaml_graph.proofs.composer.Composer.alias.Goals as goal
 

@@ -1,6 +1,6 @@
 use Rattle.std.proofs.Common.{◌≡◌, length, ap, arith, subst, sym, Some}
 use Rattle.std.specs.Cow.{cow_str_bytes}
-use Rattle.yaml_graph.specs.ComposerSteps.{node_begun}
+use Rattle.yaml_tree.specs.ComposerSteps.{node_begun}
 use Rattle.yaml_graph.specs.ComposerModel.{anchor_view, Held}
 use Rattle.yaml_graph.proofs.ComposerLaws.{placed-begun, held-begun}
 use Rattle.yaml_graph.proofs.composer.Composer.begin.Goals as goal

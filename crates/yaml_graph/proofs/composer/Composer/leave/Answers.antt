@@ -1,11 +1,11 @@
 use Rattle.std.proofs.Common.{Global, ◌≡◌, ◌<◌, ◌++◌, ◌∷◌, [], length, subst, sym, List}
 use Rattle.std.specs.Prelude.{Vec}
 use Rattle.std.specs.List.{All}
-use Rattle.yaml_graph.specs.ComposerSteps.{State}
+use Rattle.yaml_tree.specs.ComposerSteps.{State}
 use Rattle.yaml_graph.specs.ComposerModel.{is_mapping, Collects, Held, Holds}
 use Rattle.yaml_graph.specs.declared.composer.Composer.{Composer}
 use Rattle.yaml_graph.specs.declared.composer.Open.{Open}
-use Rattle.yaml_graph.specs.declared.node.NodeId.{NodeId}
+use Rattle.yaml_tree.specs.declared.node.NodeId.{NodeId}
 use Rattle.yaml_graph.proofs.ComposerLaws.{Leaves, held-leave, places-below, placed-within}
 use Rattle.yaml_graph.proofs.CallLaws.{rest_of, leave-found}
 use Rattle.yaml_graph.proofs.composer.Composer.leave.Goals as goal

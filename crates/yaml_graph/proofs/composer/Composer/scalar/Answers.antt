@@ -3,7 +3,7 @@ use Rattle.std.specs.Cow.{cow_str_bytes}
 use Rattle.yaml_definitions.specs.model.Core.{resolve}
 use Rattle.yaml_text.specs.EventModel.{written_of, style_of}
 use Rattle.yaml_definitions.specs.model.Unfold.{and_then, placed}
-use Rattle.yaml_graph.specs.ComposerSteps.{node_begun, scalar_added}
+use Rattle.yaml_tree.specs.ComposerSteps.{node_begun, scalar_added}
 use Rattle.yaml_graph.specs.ComposerModel.{anchor_view}
 use Rattle.yaml_graph.proofs.ComposerLaws.{placed-within}
 use Rattle.yaml_graph.proofs.CallLaws.{answered, refuses-then}

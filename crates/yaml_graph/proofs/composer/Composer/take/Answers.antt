@@ -1,6 +1,6 @@
 use Rattle.std.proofs.Common.{refl, sym, ap, ◌∙◌, subst}
 use Rattle.yaml_definitions.specs.model.Unfold.{and_then, placed, tree_named, last_named}
-use Rattle.yaml_graph.specs.ComposerSteps.{step, added}
+use Rattle.yaml_tree.specs.ComposerSteps.{step, added}
 use Rattle.yaml_graph.specs.ComposerModel.{Held}
 use Rattle.yaml_graph.proofs.ComposerLaws.{held-clear}
 use Rattle.yaml_graph.proofs.CallLaws.{answered-reached, answered-same}

@@ -1,7 +1,7 @@
 use Rattle.std.proofs.Common.{sym, subst}
 use Rattle.yaml_graph.specs.GraphModel.{entries_at}
 use Rattle.yaml_graph.specs.GraphView.{graph_trees}
-use Rattle.yaml_graph.specs.TreeLists.{pairs}
+use Rattle.yaml_tree.specs.TreeLists.{pairs}
 use Rattle.yaml_definitions.specs.model.Tag.{str_tag}
 use Rattle.yaml_definitions.specs.model.Tree.{scalar}
 use Rattle.yaml_path.specs.Path.{value_in}

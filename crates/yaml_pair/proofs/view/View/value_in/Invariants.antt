@@ -3,7 +3,7 @@ use Rattle.yaml_definitions.specs.model.Tag.{str_tag}
 use Rattle.yaml_definitions.specs.model.Tree.{scalar}
 use Rattle.yaml_graph.specs.GraphModel.{entries_at}
 use Rattle.yaml_graph.specs.GraphView.{graph_trees}
-use Rattle.yaml_graph.specs.TreeLists.{pairs}
+use Rattle.yaml_tree.specs.TreeLists.{pairs}
 use Rattle.yaml_path.specs.Path.{value_in}
 use Rattle.yaml_pair.specs.Named.{EntriesWithin}
 use Rattle.yaml_pair.proofs.view.View.value_in.Given as goal

@@ -1,8 +1,8 @@
 use Rattle.std.proofs.Common.{List, map, sym, ◌∙◌, ap}
 use Rattle.yaml_graph.specs.GraphView.{tree}
-use Rattle.yaml_graph.specs.declared.node.NodeId.{NodeId}
-use Rattle.yaml_rank.specs.View.{Inside, content, items, entries, inside_tree}
-use Rattle.yaml_rank.proofs.GraphOf.{kind_inside}
+use Rattle.yaml_tree.specs.declared.node.NodeId.{NodeId}
+use Rattle.yaml_tree.specs.View.{Inside, content, items, entries, inside_tree}
+use Rattle.yaml_graph.proofs.GraphOf.{kind_inside}
 use Rattle.yaml_show.proofs.SourceLaws.{source_shown, source_within}
 use Rattle.yaml_show.proofs.source.SourceGraphRankedNodesNodeId.node.Goals as goal
 

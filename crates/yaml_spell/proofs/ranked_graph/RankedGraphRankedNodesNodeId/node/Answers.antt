@@ -2,8 +2,8 @@ use Rattle.std.proofs.Common.{List, map, sym, ◌∙◌, ap}
 use Rattle.yaml_definitions.specs.model.Order.{arranged}
 use Rattle.yaml_graph.specs.GraphModel.{Entries}
 use Rattle.yaml_graph.specs.GraphView.{tree}
-use Rattle.yaml_graph.specs.declared.node.NodeId.{NodeId}
-use Rattle.yaml_rank.specs.View.{Inside, content, items, entries, inside_tree}
+use Rattle.yaml_tree.specs.declared.node.NodeId.{NodeId}
+use Rattle.yaml_tree.specs.View.{Inside, content, items, entries, inside_tree}
 use Rattle.yaml_spell.proofs.GraphNodes.{kind_inside, graph_shown, graph_within}
 use Rattle.yaml_spell.proofs.ranked_graph.RankedGraphRankedNodesNodeId.node.Goals as goal
 

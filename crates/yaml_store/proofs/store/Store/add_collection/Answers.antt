@@ -1,6 +1,6 @@
 use Rattle.std.proofs.Common.{sym, subst}
 use Rattle.std.specs.Prelude.{IfOk}
-use Rattle.yaml_graph.specs.ComposerSteps.{collection_from}
+use Rattle.yaml_tree.specs.ComposerSteps.{collection_from}
 use Rattle.yaml_store.specs.StoreModel.{tag_at, parts_at, is_mapping}
 use Rattle.yaml_store.specs.StoreGrows.{Stands, tags_of, trees_of}
 use Rattle.yaml_store.proofs.store.Store.add_collection.Goals as goal

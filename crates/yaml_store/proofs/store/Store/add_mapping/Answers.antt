@@ -1,5 +1,5 @@
 use Rattle.std.proofs.Common.{[], ◌∷◌, arith, append-nil, subst, sym, true}
-use Rattle.yaml_graph.specs.ComposerSteps.{collection_from}
+use Rattle.yaml_tree.specs.ComposerSteps.{collection_from}
 use Rattle.yaml_store.specs.TextModel.{text_of}
 use Rattle.yaml_store.specs.StoreModel.{tag_at, parts_at, AllMeasured}
 use Rattle.yaml_store.specs.StoreGrows.{Fits, tags_of, trees_of}

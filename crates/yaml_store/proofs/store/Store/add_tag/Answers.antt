@@ -1,7 +1,7 @@
 use Rattle.std.proofs.Common.{◌≡◌, [], ◌∷◌, length, ◌∙◌, ap, sym, subst}
 use Rattle.std.specs.Prelude.{Some}
 use Rattle.std.specs.List.{slice_get}
-use Rattle.yaml_graph.proofs.GraphLaws.{get-end}
+use Rattle.yaml_tree.proofs.Lists.{get-end}
 use Rattle.yaml_store.specs.StoreGrows.{tags_of}
 use Rattle.yaml_store.proofs.StoreLaws.{tagged}
 use Rattle.yaml_store.specs.TextModel.{text_of}

@@ -1,9 +1,9 @@
 use Rattle.std.proofs.Common.{◌<◌, List, [], length, map, get_or, sym, ◌∙◌, ap, arith}
 use Rattle.std.proofs.lemmas.List.{length-map, get_or-map}
 use Rattle.yaml_graph.specs.GraphModel.{trees_in}
-use Rattle.yaml_rank.proofs.GraphOf.{node_held as held_of}
-use Rattle.yaml_rank.specs.View.{content}
-use Rattle.yaml_rank.specs.Insides.{Held}
+use Rattle.yaml_graph.proofs.GraphOf.{node_held as held_of}
+use Rattle.yaml_tree.specs.View.{content}
+use Rattle.yaml_tree.specs.Insides.{Held}
 use Rattle.yaml_store.specs.declared.nodes.Node.{Node}
 use Rattle.yaml_store.proofs.GraphLaws.{held, high, copied-more, took-more, all-copied, trees-same, grounded, measured, low, rooted}
 use Rattle.yaml_store.proofs.store.Store.graph.Goals as goal

@@ -1,5 +1,5 @@
 use Rattle.std.proofs.Common.{◌≡◌, map, take}
-use Rattle.yaml_rank.proofs.GraphOf.{node_held as held_of}
+use Rattle.yaml_graph.proofs.GraphOf.{node_held as held_of}
 use Rattle.yaml_store.proofs.GraphLaws.{held, high}
 use Rattle.yaml_store.proofs.store.Store.graph.Given as goal
 

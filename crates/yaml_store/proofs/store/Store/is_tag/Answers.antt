@@ -1,6 +1,6 @@
 use Rattle.std.proofs.Common.{rules, ◌≡◌, [], sym, ◌∙◌, ap, arith}
 use Rattle.std.specs.Prelude.{Some}
-use Rattle.yaml_rank.proofs.Numbering.{get-there}
+use Rattle.yaml_tree.proofs.Numbering.{get-there}
 use Rattle.yaml_store.proofs.store.Store.is_tag.Goals as goal
 
 pub returns-then-number-len : goal.returns-then-number-len

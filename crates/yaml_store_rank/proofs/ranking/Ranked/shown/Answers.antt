@@ -1,6 +1,6 @@
 use Rattle.std.proofs.Common.{◌≡◌, length, sym, ◌∙◌, ap, subst, rules}
 use Rattle.std.specs.List.{slice_range}
-use Rattle.yaml_rank.specs.View.{content, items, entries}
+use Rattle.yaml_tree.specs.View.{content, items, entries}
 use Rattle.yaml_store.specs.declared.nodes.Place.TheVariants.{Scalar, Sequence, Mapping}
 use Rattle.yaml_store.specs.TextModel.{text_of}
 use Rattle.yaml_store.specs.StoreModel.{place_of, Within}

@@ -1,8 +1,8 @@
 use Rattle.std.proofs.Common.{◌∷◌, [], ◌++◌, Some, refl, ap, ◌∙◌}
 use Rattle.std.specs.Prelude.{None}
 use Rattle.yaml_definitions.specs.model.Unfold.{and_then, placed, tree_named}
-use Rattle.yaml_graph.specs.ComposerModel.{names_of}
-use Rattle.yaml_graph.specs.ComposerSteps.{State, step, added}
+use Rattle.yaml_tree.specs.Anchors.{names_of}
+use Rattle.yaml_tree.specs.ComposerSteps.{State, step, added}
 use Rattle.yaml_store.specs.StoreGrows.{tags_of, trees_of}
 use Rattle.yaml_tree_builder.specs.declared.stop.Cause.TheVariants as causes
 use Rattle.yaml_tree_builder.proofs.BuilderLaws.{alias-at, alias-unnamed, alias-open, keeping-whole}

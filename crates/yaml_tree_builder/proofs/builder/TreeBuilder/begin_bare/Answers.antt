@@ -2,7 +2,7 @@ use Rattle.std.proofs.Common.{◌≡◌, [], length, arith, append-nil, sym, sub
 use Rattle.std.specs.Prelude.{Some}
 use Rattle.std.specs.List.{slice_get}
 use Rattle.yaml_definitions.specs.model.Tag.{default_tag}
-use Rattle.yaml_graph.specs.ComposerSteps.{node_begun, collection_begun}
+use Rattle.yaml_tree.specs.ComposerSteps.{node_begun, collection_begun}
 use Rattle.yaml_store.specs.StoreGrows.{tags_of, trees_of}
 use Rattle.yaml_tree_builder.specs.TagModel.{collection_number}
 use Rattle.yaml_tree_builder.specs.declared.builder.Open.{Open}

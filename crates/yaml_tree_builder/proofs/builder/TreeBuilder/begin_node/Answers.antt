@@ -3,8 +3,8 @@ use Rattle.std.specs.Prelude.{Some}
 use Rattle.std.specs.Option.{option_map}
 use Rattle.std.specs.Cow.{cow_str_bytes}
 use Rattle.yaml_definitions.specs.model.Event.{Anchor}
-use Rattle.yaml_graph.specs.ComposerSteps.{node_begun}
-use Rattle.yaml_graph.specs.ComposerModel.{names_of, Placed}
+use Rattle.yaml_tree.specs.ComposerSteps.{node_begun}
+use Rattle.yaml_tree.specs.Anchors.{names_of, Placed}
 use Rattle.yaml_store.specs.StoreGrows.{tags_of, trees_of}
 use Rattle.yaml_sink.specs.PropertyRules.{props_in}
 use Rattle.yaml_tree_builder.specs.AnchorsModel.{Names}

@@ -2,7 +2,7 @@ use Rattle.std.proofs.Common.{[], length, arith, append-nil}
 use Rattle.std.proofs.lemmas.Result.{err_from_is_err_and}
 use Rattle.yaml_text.specs.EventModel.{written_of}
 use Rattle.yaml_sink.specs.PropertyRules.{props_in}
-use Rattle.yaml_graph.specs.ComposerSteps.{node_begun, collection_begun}
+use Rattle.yaml_tree.specs.ComposerSteps.{node_begun, collection_begun}
 use Rattle.yaml_store.specs.StoreGrows.{tags_of, trees_of}
 use Rattle.yaml_tree_builder.specs.BuilderModel.{Holds}
 use Rattle.yaml_tree_builder.specs.declared.builder.Open.{Open}

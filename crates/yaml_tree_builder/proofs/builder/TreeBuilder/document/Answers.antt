@@ -1,5 +1,5 @@
 use Rattle.std.proofs.Common.{[], ap, arith}
-use Rattle.yaml_graph.specs.ComposerSteps.{State, step, cleared}
+use Rattle.yaml_tree.specs.ComposerSteps.{State, step, cleared}
 use Rattle.yaml_store.specs.StoreGrows.{tags_of, trees_of}
 use Rattle.yaml_tree_builder.proofs.BuilderLaws.{keeping-cleared, outer-none}
 use Rattle.yaml_tree_builder.proofs.builder.TreeBuilder.document.Goals as goal

@@ -1,7 +1,6 @@
 use Rattle.std.proofs.Common.{arith, length, sym, ap, subst}
 use Rattle.std.specs.Prelude.{MatchOption}
-use Rattle.yaml_graph.specs.Finished.{IsFirstTooHigh}
-use Rattle.yaml_graph.specs.GraphModel.{AreLow}
+use Rattle.yaml_tree.specs.TreeLists.{IsFirstTooHigh, AreLow}
 use Rattle.yaml_store.specs.StoreGrows.{trees_of}
 use Rattle.yaml_tree_builder.specs.BuilderModel.{AllAt}
 use Rattle.yaml_tree_builder.proofs.BuilderLaws.{roots-of}

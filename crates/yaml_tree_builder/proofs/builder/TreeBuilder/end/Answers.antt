@@ -1,7 +1,7 @@
 use Rattle.std.proofs.Common.{rules, ◌≡◌, ◌<◌, length, drop, sym, ◌∙◌, ap, subst}
 use Rattle.std.specs.Prelude.{Some}
 use Rattle.std.specs.List.{All}
-use Rattle.yaml_graph.specs.ComposerSteps.{State, collection_from, collection_ended, whole}
+use Rattle.yaml_tree.specs.ComposerSteps.{State, collection_from, collection_ended, whole}
 use Rattle.yaml_store.specs.StoreModel.{parts_at, is_mapping}
 use Rattle.yaml_store.specs.StoreGrows.{Fits, tags_of, trees_of, Stands}
 use Rattle.yaml_tree_builder.specs.BuilderModel.{Holds, Keeping}

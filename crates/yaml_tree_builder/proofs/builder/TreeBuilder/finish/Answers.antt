@@ -1,13 +1,12 @@
 use Rattle.std.proofs.Common.{arith, length, sym, ap, subst}
 use Rattle.std.specs.Prelude.{MatchOption}
-use Rattle.yaml_graph.specs.Finished.{IsFirstTooHigh}
-use Rattle.yaml_graph.specs.GraphModel.{AreLow}
+use Rattle.yaml_tree.specs.TreeLists.{IsFirstTooHigh, AreLow}
 use Rattle.yaml_store.specs.StoreGrows.{trees_of}
 use Rattle.yaml_tree_builder.specs.BuilderModel.{AllAt}
 use Rattle.yaml_tree_builder.proofs.BuilderLaws.{roots-of, are-low}
 use Rattle.yaml_tree_builder.proofs.ReachedLaws.{stream-is-forest, stream-closes, two-streams-are-forests}
 use Rattle.yaml_store.specs.StoreGrows.{IsLow}
-use Rattle.law_store_keys.specs.Numbers.{Numbers}
+use Rattle.yaml_tree.specs.Numbers.{Numbers}
 use Rattle.yaml_tree_builder.proofs.builder.TreeBuilder.finish.Goals as goal
 
 pub returns-clause-forest : goal.returns-clause-forest

@@ -3,7 +3,7 @@ use Rattle.std.specs.Prelude.{Some, None}
 use Rattle.std.specs.List.{slice_get}
 use Rattle.yaml_definitions.specs.model.Tag.{default_tag}
 use Rattle.yaml_definitions.specs.model.Core.{collection_tag}
-use Rattle.yaml_graph.specs.ComposerSteps.{State}
+use Rattle.yaml_tree.specs.ComposerSteps.{State}
 use Rattle.yaml_store.specs.StoreGrows.{tags_of, trees_of}
 use Rattle.yaml_store.specs.declared.nodes.Collection.TheVariants as kinds
 use Rattle.yaml_tree_builder.specs.TagModel.{collection_number}

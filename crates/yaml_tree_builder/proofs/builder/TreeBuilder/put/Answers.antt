@@ -1,6 +1,6 @@
 use Rattle.std.proofs.Common.{ap, sym, ◌∙◌, subst}
 use Rattle.yaml_store.specs.StoreGrows.{tags_of, trees_of}
-use Rattle.yaml_graph.proofs.AnchorLaws.{names-closed}
+use Rattle.yaml_tree.proofs.AnchorLaws.{names-closed}
 use Rattle.yaml_tree_builder.specs.AnchorsModel.{Names}
 use Rattle.yaml_tree_builder.specs.BuilderModel.{with_store}
 use Rattle.yaml_tree_builder.proofs.BuilderLaws.{filled, keeping-whole, ready-kept, keeping-kept}

@@ -7,7 +7,7 @@ use Rattle.yaml_definitions.specs.model.Event.{untagged}
 use Rattle.yaml_definitions.specs.model.Unfold.{and_then, placed}
 use Rattle.yaml_definitions.specs.model.Core.{resolve}
 use Rattle.yaml_text.specs.EventModel.{style_of}
-use Rattle.yaml_graph.specs.ComposerSteps.{step, node_begun, whole, scalar_added}
+use Rattle.yaml_tree.specs.ComposerSteps.{step, node_begun, whole, scalar_added}
 use Rattle.yaml_tree_builder.proofs.builder.TreeBuilder.put_bare.Goals as goal
 
 pub returns-in_ok-put_kind-in-Single : goal.returns-in_ok-put_kind-in-Single

@@ -7,7 +7,7 @@ use Rattle.yaml_definitions.specs.model.Core.{resolve}
 use Rattle.yaml_definitions.specs.model.Unfold.{and_then, placed}
 use Rattle.yaml_text.specs.EventModel.{written_of}
 use Rattle.yaml_sink.specs.PropertyRules.{props_in}
-use Rattle.yaml_graph.specs.ComposerSteps.{step, node_begun, whole, scalar_added}
+use Rattle.yaml_tree.specs.ComposerSteps.{step, node_begun, whole, scalar_added}
 use Rattle.yaml_store.specs.StoreGrows.{Stands}
 use Rattle.yaml_tree_builder.specs.TagModel.{KeepsTexts}
 use Rattle.yaml_tree_builder.proofs.FirstsLaws.{comes}

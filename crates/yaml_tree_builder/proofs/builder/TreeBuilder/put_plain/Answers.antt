@@ -6,7 +6,7 @@ use Rattle.yaml_definitions.specs.model.Tree.{scalar}
 use Rattle.yaml_definitions.specs.model.Core.{resolve}
 use Rattle.yaml_definitions.specs.model.Event.{untagged, plain}
 use Rattle.yaml_definitions.specs.model.Unfold.{and_then, placed}
-use Rattle.yaml_graph.specs.ComposerSteps.{step, node_begun, whole, scalar_added}
+use Rattle.yaml_tree.specs.ComposerSteps.{step, node_begun, whole, scalar_added}
 use Rattle.yaml_core.specs.CoreAnswer.{RefusesScalar}
 use Rattle.yaml_core.specs.Kind.{kind_tag, of_kind}
 use Rattle.yaml_tree_builder.proofs.TagLaws.{plain-is}

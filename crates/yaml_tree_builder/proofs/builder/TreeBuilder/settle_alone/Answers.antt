@@ -1,7 +1,7 @@
 use Rattle.std.proofs.Common.{◌∷◌, refl, ◌∙◌, subst}
 use Rattle.yaml_definitions.specs.model.Event.{untagged}
-use Rattle.yaml_graph.specs.ComposerModel.{names_of}
-use Rattle.yaml_graph.specs.ComposerSteps.{State, collection_begun, initial_state}
+use Rattle.yaml_tree.specs.Anchors.{names_of}
+use Rattle.yaml_tree.specs.ComposerSteps.{State, collection_begun, initial_state}
 use Rattle.yaml_sink.specs.PropertyRules.{props_of}
 use Rattle.yaml_store.specs.StoreGrows.{tags_of, trees_of}
 use Rattle.yaml_tree_builder.specs.Nodes.{with_nodes}

@@ -1,7 +1,7 @@
 use Rattle.std.proofs.Common.{◌∷◌, [], refl, subst}
 use Rattle.std.specs.Prelude.{false}
 use Rattle.yaml_definitions.specs.model.Event.{untagged, mapping_start}
-use Rattle.yaml_graph.specs.ComposerSteps.{State, collection_begun, initial_state}
+use Rattle.yaml_tree.specs.ComposerSteps.{State, collection_begun, initial_state}
 use Rattle.yaml_sink.specs.PropertyRules.{props_of}
 use Rattle.yaml_store.specs.StoreGrows.{tags_of, trees_of}
 use Rattle.yaml_store.specs.declared.nodes.Collection.TheVariants as kinds

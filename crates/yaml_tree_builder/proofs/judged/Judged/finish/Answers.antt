@@ -1,5 +1,5 @@
 use Rattle.std.proofs.Common.{sym, subst}
-use Rattle.yaml_graph.specs.Composed.{RefusesStream}
+use Rattle.yaml_tree.specs.Refused.{RefusesStream}
 use Rattle.yaml_tree_builder.proofs.JudgedLaws.{refuses}
 use Rattle.yaml_tree_builder.proofs.judged.Judged.finish.Goals as goal
 

@@ -1,0 +1,16 @@
+pub mod Lists
+pub mod LowLaws
+pub mod ClosingLaws
+pub mod AnchorLaws
+pub mod StepLaws
+pub mod Numbers
+pub mod Numbering
+pub mod InsideLaws
+pub mod ViewLaws
+pub mod PrefixLaws
+pub mod RankOrder
+pub mod PlaceLaws
+pub mod TagLaws
+pub mod LevelsLaws
+pub mod NumberLaws
+pub mod Repeats

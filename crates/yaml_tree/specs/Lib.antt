@@ -1,0 +1,15 @@
+pub mod TreeLists
+pub mod Closing
+pub mod Refused
+pub mod ComposerSteps
+pub mod Anchors
+pub mod View
+pub mod Insides
+pub mod Visited
+pub mod Numbered
+pub mod PrefixModel
+pub mod Tags
+pub mod Places
+pub mod Levels
+pub mod Keys
+pub mod Numbers
