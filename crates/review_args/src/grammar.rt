@@ -56,7 +56,7 @@ const WARN_STATUSES: &str = "There is a warning for each
   key that is equal to an earlier key of its mapping in Python, as true and 1, or in JavaScript, as 1 and \"1\"
   int with the tag `!!int` that YAML 1.1 reads by base 8, as `!!int 010`
   slip: `{{ x }}`, `{type:string}`, `data:{}`, `<<` that is no key, typographic quotes around a text, a no-break space
-    or a space of no width in it, stops and commas alone,
+    or a space of no width in it, stops and commas alone, `// x` or a key `x \"b\"` in brackets or braces,
     lines as `-a` and `-b` below each other, which are one text
 The first three were compared with PyYAML, libyaml and yaml.v3. Tags and characters that end a line in YAML 1.1 alone are not looked at.
 

@@ -93,6 +93,15 @@ is_item x line = starts_with ◌==◌ line (codes "- ") || (is_dashed x && is_da
 abbrev pub is_listed : List ℕ → List ℕ → Bool
 is_listed source x = is_item x (after_breaks (apart source x))
 
+abbrev pub begins_comment : List ℕ → Bool
+begins_comment x = starts_with ◌==◌ x (codes "//") || starts_with ◌==◌ x (codes "/*")
+
+abbrev pub has_blank : List ℕ → Bool
+has_blank x = list_any (λ c. c == 32) x
+
+abbrev pub has_quote : List ℕ → Bool
+has_quote x = list_any (λ c. c == 34) x
+
 -- ---- what is around a scalar
 
 abbrev pub begins_flow_mapping : Option Event → Bool
@@ -118,6 +127,8 @@ has_no_value events n = is_unwritten (slice_get (drop n events) 1)
 abbrev pub slip_in : Around → List ℕ → Option Slip
 slip_in around x =
     if around.is_doubled && around.has_no_value then Some slips.Template
+    else if around.is_in_flow && begins_comment x then Some slips.Comment
+    else if around.is_key && (around.is_in_flow && (has_blank x && has_quote x)) then Some slips.Comma
     else if around.is_key && (around.is_in_flow && (around.has_no_value && has_colon x)) then Some slips.Key
     else if is_tight x then Some slips.Value
     else if not around.is_key && bytes_eq x (codes "<<") then Some slips.Merge
@@ -129,6 +140,8 @@ slip_in around x =
 
 abbrev pub slip_words : Slip → List ℕ
 slip_words slips.Template = codes "a key in a key here, as in `{{ x }}`: render a template first"
+slip_words slips.Comment = codes "a text here: a comment begins with `#`"
+slip_words slips.Comma = codes "one key here: a comma is missing before its quote"
 slip_words slips.Key = codes "a key without a value here: a space is missing after its colon"
 slip_words slips.Value = codes "one string here: a space is missing after its colon"
 slip_words slips.Merge = codes "a string here, which PyYAML rejects"

@@ -1,7 +1,7 @@
 //! What is commonly a slip, although it is read.
 ghost use Rattle.std.specs.Prelude.{◌≡◌, option_map};
 ghost use Rattle.std.specs.List.{list_all, list_any};
-ghost use Rattle.review_faults.specs.Slips.{after_name_byte, after_word, is_between, is_tight, is_quote_end, begins_quote, is_quoted, begins_space, has_space, has_colon, is_mark, is_comma, is_marks, after_same, apart, after_break, after_breaks, is_dashed, is_item, is_listed, slip_in};
+ghost use Rattle.review_faults.specs.Slips.{after_name_byte, after_word, is_between, is_tight, is_quote_end, begins_quote, is_quoted, begins_space, has_space, has_colon, begins_comment, has_blank, has_quote, is_mark, is_comma, is_marks, after_same, apart, after_break, after_breaks, is_dashed, is_item, is_listed, slip_in};
 
 use crate::cause::is_name_byte;
 
@@ -23,6 +23,10 @@ pub(crate) struct Around {
 pub enum Slip {
     /// It is a key without a value in two pairs of braces, as `{{ x }}`.
     Template,
+    /// It is in brackets or braces, and begins as comments of other languages do.
+    Comment,
+    /// It is a key in braces that has a space and a quote, as `x "b"`.
+    Comma,
     /// It is a key without a value in braces, and has a colon, as `{type:string}`.
     Key,
     /// It is a word, a colon, and brackets or braces, as `data:{}`.
@@ -49,6 +53,8 @@ impl Slip {
     {
         match self {
             Slip::Template => "a key in a key here, as in `{{ x }}`: render a template first",
+            Slip::Comment => "a text here: a comment begins with `#`",
+            Slip::Comma => "one key here: a comma is missing before its quote",
             Slip::Key => "a key without a value here: a space is missing after its colon",
             Slip::Value => "one string here: a space is missing after its colon",
             Slip::Merge => "a string here, which PyYAML rejects",
@@ -263,6 +269,27 @@ pub(crate) fn is_listed(source: &[u8], text: &[u8]) -> bool
     is_item(text, after_breaks(apart(source, text)))
 }
 
+/// Whether a text begins as a comment of other languages does.
+fn begins_comment(text: &[u8]) -> bool
+    ensures { result ≡ begins_comment text.now }
+{
+    text.starts_with(b"//") || text.starts_with(b"/*")
+}
+
+/// Whether a text has a space.
+fn has_blank(text: &[u8]) -> bool
+    ensures { result ≡ has_blank text.now }
+{
+    text.iter().any(|byte| *byte == b' ')
+}
+
+/// Whether a text has a double quote.
+fn has_quote(text: &[u8]) -> bool
+    ensures { result ≡ has_quote text.now }
+{
+    text.iter().any(|byte| *byte == b'"')
+}
+
 /// What the text of a plain scalar commonly is by a slip.
 pub(crate) fn slip_in(around: Around, text: &str) -> Option<Slip>
     ensures { result ≡ slip_in around text.now }
@@ -270,6 +297,10 @@ pub(crate) fn slip_in(around: Around, text: &str) -> Option<Slip>
     let bytes = text.as_bytes();
     if around.is_doubled && around.has_no_value {
         Some(Slip::Template)
+    } else if around.is_in_flow && begins_comment(bytes) {
+        Some(Slip::Comment)
+    } else if around.is_key && around.is_in_flow && has_blank(bytes) && has_quote(bytes) {
+        Some(Slip::Comma)
     } else if around.is_key && around.is_in_flow && around.has_no_value && has_colon(bytes) {
         Some(Slip::Key)
     } else if is_tight(bytes) {

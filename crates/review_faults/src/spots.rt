@@ -10,7 +10,7 @@ ghost use Rattle.review_faults.specs.EventSpots.{ends_document, path_at, fault_w
 ghost use Rattle.review_faults.specs.Explained.{AreWords};
 ghost use Rattle.review_faults.specs.FaultLines.{offset_in, names_event, other_line, IsCause, IsSpot, IsStop, IsTold};
 
-use crate::equal_keys::equal_key_words;
+use crate::equal_keys::{Repeat, equal_key_words, repeat_at};
 use review_hints::words::{Words, words_of};
 use review_places::layout::lay_out;
 use review_places::places::{mark_len, unmarked};
@@ -248,14 +248,16 @@ fn path_at(alloc: Global, events: &[Event<'_>], number: usize) -> Result<String,
     trail.path(alloc, events)
 }
 
-/// What is said of a fault of this event, where that depends on its node. The place is that of the first of two equal keys.
+/// What is said of a fault of this event, where that depends on its node. The place is that of the first of two equal keys, with this
+/// around it.
 fn event_words(
     alloc: Global,
     fault: Fault,
     first: Option<Place>,
+    around: Repeat,
     event: Option<&Event<'_>>,
 ) -> Result<Option<String>, Fault>
-    ensures ok { IfOk result (λ words. option_map string_bytes words ≡ fault_words fault first (option_map (λ e. event_of e.now) event.entry)) }
+    ensures ok { IfOk result (λ words. option_map string_bytes words ≡ fault_words fault first around (option_map (λ e. event_of e.now) event.entry)) }
     ensures err { IfErr result (λ fault. fault ≡ Fault.OutOfMemory) }
 {
     match (fault, event) {
@@ -265,7 +267,7 @@ fn event_words(
             Ok(Some(words))
         }
         (Fault::EqualKeys(_, _, _), Some(event)) => {
-            Ok(Some(equal_key_words(alloc, event, first)?))
+            Ok(Some(equal_key_words(alloc, event, first, around)?))
         }
         _ => Ok(None),
     }
@@ -285,11 +287,14 @@ fn spot_at(
     ensures ok { IfOk result (IsSpotAt trace.now (map event_of events.now) text.now fault number) }
     ensures err { IfErr result (λ fault. fault ≡ Fault.OutOfMemory) }
 {
-    let first = find_place(text, first_offset(trace, first));
+    let key = first_offset(trace, first);
+    let at = offset_of(fault, text, trace, number);
+    let around = repeat_at(text, key, at);
+    let first = find_place(text, key);
     Ok(Spot {
-        at: offset_of(fault, text, trace, number),
+        at,
         path: Some(path_at(alloc, events, number)?),
-        words: event_words(alloc, fault, first, events.get(number))?,
+        words: event_words(alloc, fault, first, around, events.get(number))?,
         first,
     })
 }

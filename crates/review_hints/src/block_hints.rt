@@ -2,7 +2,7 @@
 ghost use Rattle.std.specs.Prelude.{◌≡◌, true, IfSome};
 ghost use Rattle.review_hints.specs.Hinted.{is_plain};
 
-use crate::spot::{Spot, depth, indent_of, is_entry, is_header};
+use crate::spot::{Spot, depth, indent_of, is_entry, is_header, uncommented};
 
 /// What is wrong with a block scalar's header, or with the line after it.
 pub fn block_words(spot: &Spot<'_>) -> Option<&'static str>
@@ -20,10 +20,34 @@ pub fn block_words(spot: &Spot<'_>) -> Option<&'static str>
     if is_below && !is_entry(spot.whole) {
         return Some("indent the text of a block scalar more than its key");
     }
+    if spot.is_first() && is_header(spot.above) && has_digit(spot.above) {
+        return Some(
+            "the digit after `|` or `>` says by how many spaces the text is indented more than its key: remove it, or indent the text so",
+        );
+    }
+    if spot.is_first() && is_header(spot.above) && has_deep_blank(spot) {
+        return Some(
+            "a blank line above has more spaces than the text of this block scalar: remove them",
+        );
+    }
     if spot.is_first() && !is_entry(spot.whole) && is_header(spot.parent()) {
         return Some("indent each line of a block scalar at least as its first line");
     }
     None
+}
+
+/// Whether a header has a digit.
+fn has_digit(header: &str) -> bool {
+    let text = uncommented(header).trim_end_matches(['+', '-']);
+    text.ends_with(|c: char| c.is_ascii_digit())
+}
+
+/// Whether a blank line right above has more spaces than the line of the fault.
+fn has_deep_blank(spot: &Spot<'_>) -> bool {
+    let text = spot.lines_above();
+    let blanks = text.get(text.trim_end().len()..).unwrap_or("");
+    let indent = indent_of(spot.whole);
+    blanks.split('\n').any(|line| indent_of(line) > indent)
 }
 
 /// What is wrong after the `|` or `>` of a header.
@@ -31,9 +55,18 @@ fn header_words(spot: &Spot<'_>) -> &'static str
     ensures { is_plain result.now ≡ true }
 {
     let is_apart = spot.line.ends_with(' ');
+    if spot.line.trim_start().starts_with('|') && spot.rest.ends_with('|') {
+        return "a table of Markdown is no YAML: write it below a key with `|`, indented, or remove it";
+    }
+    if spot.line.trim() == ">" && spot.above.is_empty() {
+        return "remove the `> ` of a quotation, or begin the text of a block scalar on the line after its `>`";
+    }
     match spot.next() {
         Some('#') if !is_apart => "write a space before the `#` of a comment",
-        _ if is_apart => "begin the text of a block scalar on the line after its `|` or `>`",
+        _ if is_apart =>
+            "begin the text of a block scalar on the line after its `|` or `>`, or quote the value",
+        Some(c) if !c.is_ascii_digit() && c != '+' && c != '-' =>
+            "quote a value that starts with `|` or `>`, or begin the text of a block scalar on the line after it",
         _ =>
             "write at most a digit from 1 to 9 and a `+` or `-` after the `|` or `>` of a block scalar",
     }

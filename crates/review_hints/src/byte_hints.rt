@@ -2,6 +2,8 @@
 ghost use Rattle.std.specs.Prelude.{◌≡◌, true};
 ghost use Rattle.review_hints.specs.Hinted.{is_plain};
 
+use crate::spot::is_block_line;
+
 /// Whether bytes are UTF-16: by its byte order mark, or by the zeros of its first letters.
 pub fn is_utf16(text: &[u8]) -> bool {
     match text {
@@ -13,13 +15,28 @@ pub fn is_utf16(text: &[u8]) -> bool {
 }
 
 /// What bytes are that are no UTF-8.
-pub fn utf8_words(text: &[u8]) -> &'static str
+pub fn utf8_words(text: &[u8], at: usize) -> &'static str
     ensures { is_plain result.now ≡ true }
 {
+    let before = text.get(..at).unwrap_or(&[]);
     if is_utf16(text) {
         "this is UTF-16: convert the file by `iconv -f UTF-16 -t UTF-8`"
+    } else if before.iter().any(|byte| *byte > 0x7F) {
+        "these bytes are not UTF-8, and others before them are: write this character anew, and save the file as UTF-8"
     } else {
         "these bytes are not UTF-8: if they are Windows-1252 or Latin-1, convert the file by `iconv -f CP1252 -t UTF-8`"
+    }
+}
+
+/// What a null is, by the byte two places before it.
+fn null_words(text: &[u8], at: usize) -> &'static str
+    ensures { is_plain result.now ≡ true }
+{
+    let is_other = |place: usize| text.get(place) == Some(&0);
+    if is_other(at.saturating_add(2)) || (at > 1 && is_other(at.saturating_sub(2))) {
+        "a part of the file is UTF-16, as PowerShell's `>>` writes it: write that part as UTF-8"
+    } else {
+        "YAML does not allow the null character (U+0000): remove it, or write `\\0` between double quotes"
     }
 }
 
@@ -34,10 +51,26 @@ pub fn printable_words(text: &[u8], at: usize) -> &'static str
         [0, ..] if is_utf16(text) && at == 1 => {
             "this is UTF-16: convert the file by `iconv -f UTF-16LE -t UTF-8`"
         }
+        [0, ..] => null_words(text, at),
         [0xEF, 0xBB, 0xBF, ..] =>
             "remove this byte order mark: one is allowed only at the start of a file",
         _ =>
             "YAML does not allow this character: remove it, or write it as an escape between double quotes, as `\\x1B`",
+    }
+}
+
+/// What a tab is where spaces would be.
+pub fn tab_words(before: &str) -> &'static str
+    ensures { is_plain result.now ≡ true }
+{
+    let line = before.rsplit('\n').next().unwrap_or("");
+    let above = before
+        .get(..before.len().saturating_sub(line.len()))
+        .unwrap_or("");
+    if line.trim().is_empty() && is_block_line(above.trim_end()) {
+        "this is a tab: use spaces for indentation, and put them before a tab that belongs to the block scalar above"
+    } else {
+        "this is a tab: use spaces for indentation and separation"
     }
 }
 
@@ -103,6 +136,30 @@ pub fn directive_words(before: &str, behind: &str) -> &'static str
     }
 }
 
+/// Whether a quote comes right after the name of a tag, as in `!name"text"`.
+fn is_tight(word: &str) -> bool {
+    let Some((name, _)) = word.split_once(['"', '\'']) else {
+        return false;
+    };
+    name.len() > 1 && !name.contains(|c: char| !(c.is_alphanumeric() || "!:._-".contains(c)))
+}
+
+/// What is of a tag whose handle is not declared.
+pub fn handle_words(behind: &str) -> &'static str
+    ensures { is_plain result.now ≡ true }
+{
+    let word = behind
+        .split([' ', '\n', ','])
+        .next()
+        .unwrap_or("")
+        .trim_end();
+    if word.ends_with('!') {
+        "quote a value that starts with `!`"
+    } else {
+        "add a `%TAG` line for the handle of this tag to its document, write the tag in full, as `!<URI>`, or quote a value that starts with `!`"
+    }
+}
+
 /// What is no tag.
 pub fn tag_words(behind: &str) -> &'static str
     ensures { is_plain result.now ≡ true }
@@ -110,6 +167,8 @@ pub fn tag_words(behind: &str) -> &'static str
     let word = behind.split([' ', '\n']).next().unwrap_or("");
     if word.starts_with("!<") && !word.contains('>') {
         "put a `>` at the end of this tag: a full tag is `!<URI>`"
+    } else if is_tight(word) {
+        "put a space after this tag, or quote a value that starts with `!`"
     } else {
         "this is no tag: write `!name`, `!!name` or `!<URI>`, or quote a value that starts with `!`"
     }
@@ -119,19 +178,4 @@ pub fn tag_words(behind: &str) -> &'static str
 pub fn is_name(text: &str) -> bool {
     let is_other = |c: char| !(c.is_alphanumeric() || c == '_' || c == '-');
     !text.is_empty() && !text.starts_with('-') && !text.contains(is_other)
-}
-
-/// What an alias is that names nothing.
-pub fn alias_words(behind: &str) -> &'static str
-    ensures { is_plain result.now ≡ true }
-{
-    let name = behind
-        .split([' ', '\n', ',', ']', '}'])
-        .next()
-        .unwrap_or("");
-    if !is_name(name.strip_prefix('*').unwrap_or("")) {
-        "quote a value that starts with `*`: as an alias it names no anchor before it"
-    } else {
-        "no anchor of this name comes before it in its document: define it first, or quote the value"
-    }
 }

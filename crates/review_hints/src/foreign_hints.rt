@@ -8,10 +8,10 @@ use crate::spot::{Spot, depth, indent_of, value_of};
 pub fn foreign_words(spot: &Spot<'_>) -> Option<&'static str>
     ensures { IfSome result (λ words. is_plain words.now ≡ true) }
 {
-    if is_template(spot) {
-        Some("a template, not YAML: render it first")
-    } else if is_template_value(spot) {
+    if is_template_value(spot) {
         Some("a template, not YAML: render it first, or quote the value")
+    } else if is_template(spot) {
+        Some("a template, not YAML: render it first")
     } else if spot.whole.starts_with("```") {
         Some("a fence of Markdown: remove the line")
     } else if is_markup(spot) {
@@ -26,15 +26,22 @@ fn begins_tag(text: &str) -> bool {
     text.starts_with("{{") || text.starts_with("{%")
 }
 
-/// Whether the fault is in what a template engine replaces, or right after a line that begins with it.
+/// Whether the fault is right after a line that begins with what a template engine replaces.
+pub fn is_template_below(spot: &Spot<'_>) -> bool {
+    spot.is_first() && begins_tag(spot.above.trim_start()) && !begins_tag(spot.rest)
+}
+
+/// Whether the fault is in what a template engine replaces.
 fn is_template(spot: &Spot<'_>) -> bool {
-    let is_below = spot.is_first() && begins_tag(spot.above.trim_start());
-    is_below
-        || begins_tag(spot.line.trim_start())
+    begins_tag(spot.line.trim_start())
         || spot.before.ends_with("{{")
-        || (spot.before.ends_with("}}") && spot.line.contains("{{") && !spot.line.contains("${{"))
-        || (spot.before.ends_with('{') && spot.behind.starts_with(['%', '#']))
+        || is_statement(spot)
         || spot.whole.trim_start().starts_with("<%")
+}
+
+/// Whether the fault is right after the brace with which a statement or a comment of a template begins.
+fn is_statement(spot: &Spot<'_>) -> bool {
+    spot.before.ends_with('{') && spot.behind.starts_with(['%', '#'])
 }
 
 /// Whether the fault is after a value that begins with what a template engine replaces: on its line, or on a deeper one below.
@@ -42,14 +49,26 @@ fn is_template_value(spot: &Spot<'_>) -> bool {
     if let Some(quote) = spot.scan.quote() {
         return line_to(spot.before, quote.at).contains("{{");
     }
-    if spot.behind.starts_with("{{") {
+    if spot.before.ends_with('$') {
+        return false;
+    }
+    if spot.behind.starts_with("{{") || is_behind(spot) {
         return true;
+    }
+    if is_statement(spot) {
+        return spot.line.trim() != "{";
     }
     if spot.is_first() {
         begins_tag(value_of(spot.above)) && indent_of(spot.whole) > depth(spot.above)
     } else {
-        begins_tag(spot.value())
+        begins_tag(spot.value()) && !begins_tag(spot.line.trim_start())
     }
+}
+
+/// Whether the fault is right after what a template engine replaces in a value.
+fn is_behind(spot: &Spot<'_>) -> bool {
+    let is_end = spot.before.ends_with("}}") && spot.line.contains("{{");
+    is_end && !spot.line.contains("${{") && !begins_tag(spot.line.trim_start())
 }
 
 /// The line of an offset, up to it.

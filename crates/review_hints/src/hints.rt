@@ -4,7 +4,7 @@ ghost use Rattle.yaml_place.specs.LineModel.{IsPlace};
 ghost use Rattle.review_hints.specs.Hinted.{is_line, name_of, IsHint};
 ghost use Rattle.review_hints.specs.Hints.{IsScanned, IsTrue};
 
-use crate::line_hints::line_hint;
+use crate::line_hints::{line_hint, tool_hint};
 use crate::node_hints::node_hint;
 use crate::open_hints::open_hint;
 use crate::scan::Opened;
@@ -97,6 +97,9 @@ impl Hint {
 fn hint_of(spot: &Spot<'_>) -> Hint
     ensures { (text : List ℕ) → spot.now.above_at ≤ spot.now.at → IsScanned text spot.now.at spot.now.scan → IsTrue text spot.now.at result }
 {
+    if let Some(hint) = tool_hint(spot) {
+        return hint;
+    }
     if let Some(hint) = line_hint(spot) {
         return hint;
     }

@@ -7,8 +7,10 @@ use crate::block_hints::block_words;
 use crate::byte_hints::is_name;
 use crate::hints::Hint;
 use crate::item_hints::below_words;
-use crate::quote_hints::quote_words;
-use crate::spot::{Spot, is_assigned, is_entry, value_of};
+use crate::more_hints::{begin_words, colon_words, more_words, no_entry_words};
+use crate::quote_hints::{count, quote_words};
+use crate::spot::{Spot, is_assigned, is_entry, uncommented, value_of};
+use crate::stray_hints::is_alias;
 
 const MARKED_KEY: &str =
     "write `key: value` without `? `, with at most 1,024 characters before the `:`, or put the mapping in braces";
@@ -42,6 +44,10 @@ fn value_words(spot: &Spot<'_>) -> Option<&'static str>
     let value = spot.value();
     if let Some(name) = alias_key(spot.line.trim()) {
         Some(key_words(name))
+    } else if is_alias(spot.line) && spot.rest.is_empty() {
+        Some(
+            "an alias alone is no entry of a mapping: write `key: *name`, as `<<: *name` where it is merged",
+        )
     } else if value.starts_with('*') && spot.next() == Some(',') {
         Some("put several aliases between brackets, as `[*a, *b]`, or quote the value")
     } else if value.starts_with('*') {
@@ -54,9 +60,11 @@ fn value_words(spot: &Spot<'_>) -> Option<&'static str>
         Some("write quotes of ASCII in place of typographic quotes")
     } else if spot.next() == Some('-') && spot.rest.starts_with("- ") {
         dash_words(spot)
+    } else if let Some(words) = begin_words(spot) {
+        Some(words)
     } else if spot.next() == Some(':') && spot.line.starts_with("--- ") {
         Some("start a block mapping on the line after `---`")
-    } else if spot.line.starts_with("...") {
+    } else if spot.line.starts_with("... ") {
         Some("put nothing but a comment after `...` on its line")
     } else {
         None
@@ -97,6 +105,10 @@ fn dash_words(spot: &Spot<'_>) -> Option<&'static str>
     let line = spot.line.trim();
     if line == "---" {
         Some("start a block sequence on the line after `---`")
+    } else if line.ends_with(':') && is_number(spot) {
+        Some(
+            "write a negative number without a space after its `-`, or start a block sequence on the line after its key",
+        )
     } else if line.ends_with(':') {
         Some("start a block sequence on the line after its key")
     } else if value_of(spot.line).starts_with(['&', '!']) {
@@ -106,14 +118,26 @@ fn dash_words(spot: &Spot<'_>) -> Option<&'static str>
     }
 }
 
+/// Whether a number comes after a dash and a space.
+fn is_number(spot: &Spot<'_>) -> bool {
+    let is_other = |c: char| !(c.is_ascii_digit() || c == '.');
+    match spot.rest.strip_prefix("- ") {
+        Some(text) => !text.is_empty() && !uncommented(text).contains(is_other),
+        None => false,
+    }
+}
+
 /// Of a fault at the first character of a line, by that character.
 fn first_words(spot: &Spot<'_>) -> &'static str
     ensures { is_plain result.now ≡ true }
 {
     match spot.next() {
-        _ if spot.above.starts_with('%') => "put a line `---` after the directives",
+        _ if spot.above.starts_with('%') => directive_words(spot.above),
         None => "the text ends too early: a part of it is missing",
         Some('?') => MARKED_KEY,
+        Some(':') if !spot.above.is_empty() && !is_entry(spot.above) => {
+            "put a key before this colon, on the same line"
+        }
         Some(':') => "put a key before this colon",
         Some('%') => {
             "quote a text that starts with `%`, or put this directive before a line `---`"
@@ -122,6 +146,17 @@ fn first_words(spot: &Spot<'_>) -> &'static str
         Some(']' | '}' | ',') => closing_words(spot),
         Some('&' | '*' | '!') => PROPERTY,
         Some(_) => below_words(spot),
+    }
+}
+
+/// Of a text that follows a directive.
+fn directive_words(above: &str) -> &'static str
+    ensures { is_plain result.now ≡ true }
+{
+    if above.starts_with("%YAML ") || above.starts_with("%TAG ") {
+        "put a line `---` after the directives"
+    } else {
+        "a line that begins with `%` is a directive: remove the line above, or put a line `---` after it"
     }
 }
 
@@ -141,10 +176,27 @@ fn closing_words(spot: &Spot<'_>) -> &'static str
     ensures { is_plain result.now ≡ true }
 {
     match spot.next() {
+        Some(',') if is_ended(spot) && is_pair(spot.rest) => {
+            "put several entries between braces, as `{a: b, c: d}`, or each on a line of its own"
+        }
+        Some(',') if spot.rest.len() > 1 && is_ended(spot) => {
+            "put several items between brackets, as `[a, b]`, or quote the value"
+        }
         Some(',') =>
             "remove this comma, or quote the value: commas separate only items of `[ ]` and entries of `{ }`",
         Some(']') => "remove this bracket, or quote the value: none is open here",
         _ => "remove this brace, or quote the value: none is open here",
+    }
+}
+
+/// Whether a comma is before a key and its value.
+fn is_pair(text: &str) -> bool {
+    let text = text.trim_start_matches([',', ' ']);
+    match text.split_once(": ") {
+        Some((key, _)) => {
+            !key.contains(' ') && count(key, '"') % 2 == 0 && count(key, '\'') % 2 == 0
+        }
+        None => false,
     }
 }
 
@@ -153,16 +205,18 @@ fn next_words(spot: &Spot<'_>) -> &'static str
     ensures { is_plain result.now ≡ true }
 {
     match spot.next() {
-        None | Some('\n' | '\r') => "this line is no entry of a mapping: write `key: value`",
+        None | Some('\n' | '\r') => no_entry_words(spot),
         Some('\t') =>
             "use spaces here: indentation and separation have no tabs, nor has the end of a key",
         Some('#') => "write a space before the `#` of a comment",
-        Some(':') if !spot.line.contains(": ") && !spot.above.is_empty() =>
-            "this line is read as more of the value above: indent it like the entries that it belongs to",
-        Some(':') => "a value with `: ` in it needs quotes",
+        Some(':') if is_ended(spot) && !spot.rest.starts_with(": ") && spot.rest != ":" => {
+            after_words(spot)
+        }
+        Some(':') if !spot.line.contains(": ") && !spot.above.is_empty() => more_words(spot),
+        Some(':') => colon_words(spot),
         Some(']' | '}' | ',') => closing_words(spot),
         Some('?') => MARKED_KEY,
-        Some(_) if spot.line.trim_end().ends_with(['"', '\'', ']', '}']) => after_words(spot),
+        Some(_) if is_ended(spot) => after_words(spot),
         Some('@' | '`' | '%') => plain_words(spot),
         Some('*') if spot.value().starts_with(['&', '!']) => {
             "remove the anchor and the tag before this alias"
@@ -172,17 +226,38 @@ fn next_words(spot: &Spot<'_>) -> &'static str
     }
 }
 
+/// Whether a letter follows on a line that has no colon.
+fn is_alone(spot: &Spot<'_>) -> bool {
+    spot.rest.starts_with(|c: char| c.is_alphabetic()) && !spot.whole.contains(':')
+}
+
+/// Whether a quote or a closing bracket is before the fault.
+fn is_ended(spot: &Spot<'_>) -> bool {
+    spot.line.trim_end().ends_with(['"', '\'', ']', '}'])
+}
+
 /// Of what follows a quoted scalar or a flow collection.
 fn after_words(spot: &Spot<'_>) -> &'static str
     ensures { is_plain result.now ≡ true }
 {
+    let is_key = spot.line.trim_start().starts_with(['"', '\'']) && !spot.line.contains(": ");
     let is_collection = spot.line.trim_start().starts_with(['[', '{', ']', '}']);
     if spot.rest.starts_with("//") {
         "begin a comment with ` #`, and not with `//`"
+    } else if spot.rest.starts_with("+ ") {
+        "write one text: YAML joins no texts with `+`"
     } else if is_assigned(spot.rest) && !spot.line.contains(": ") {
         "write `: ` between a key and its value"
+    } else if is_key
+        && spot
+            .rest
+            .starts_with(|c: char| c.is_alphanumeric() || c == '"')
+    {
+        "write `: ` after a quoted key, or put quotes around the whole text"
     } else if is_collection && spot.rest.starts_with(['[', '{']) {
         "the document ends with its closing bracket: put a line `---` before the next one"
+    } else if is_collection && is_alone(spot) {
+        "put quotes around the whole text, remove what follows the closing bracket, or remove the line"
     } else if is_collection && is_entry(spot.rest) {
         "quote this key: without quotes `[` and `{` begin a collection"
     } else {

@@ -1,10 +1,10 @@
 //! Causes of syntax faults inside quotes, brackets and braces.
 ghost use Rattle.std.specs.Prelude.{◌≡◌, true, ℕ, List, IfSome};
-ghost use Rattle.review_hints.specs.Hinted.{is_plain};
+ghost use Rattle.review_hints.specs.Hinted.{is_line, is_plain};
 ghost use Rattle.review_hints.specs.Hints.{IsOpened, IsScanned, IsTrue};
 
 use crate::hints::Hint;
-use crate::quote_hints::quote_words;
+use crate::quote_hints::{count, quote_words};
 use crate::scan::Opened;
 use crate::spot::{Spot, is_assigned, is_entry, uncommented};
 
@@ -19,7 +19,7 @@ pub fn open_hint(spot: &Spot<'_>) -> Option<Hint>
     }
     let bracket = spot.scan.bracket()?;
     if spot.behind.trim().is_empty() {
-        return Some(Hint::Opened(bracket, "is not closed"));
+        return Some(Hint::Opened(bracket, unclosed_words(spot, bracket)));
     }
     if spot.is_marker() {
         return Some(Hint::Opened(bracket, "is open at this document marker"));
@@ -47,7 +47,20 @@ fn quote_hint(spot: &Spot<'_>, quote: Opened) -> Hint
         let count = quote.floor.saturating_sub(indent(spot));
         return Hint::Indent("a line inside quotes", count);
     }
+    if quote.mark == b'"' && is_escaped(spot.before, quote.at) {
+        return Hint::Opened(
+            quote,
+            "is not closed: `\\\"` at its line's end is an escape, and closes nothing",
+        );
+    }
     Hint::Opened(quote, "is not closed")
+}
+
+/// Whether the line of a quote ends with an escaped quote.
+fn is_escaped(before: &str, at: usize) -> bool {
+    let text = before.get(at..).unwrap_or("");
+    let line = text.split('\n').next().unwrap_or("");
+    line.trim_end().ends_with("\\\"")
 }
 
 /// Whether the last character before a line, comments left out, is one after which a flow collection goes on.
@@ -61,6 +74,16 @@ fn is_in_flow(before: &str) -> bool {
     false
 }
 
+/// Whether a line closes a bracket or a brace, and opens none.
+fn is_end(line: &str, mark: u8) -> bool {
+    let is_closed = if mark == b'[' {
+        line.contains(']')
+    } else {
+        line.contains('}')
+    };
+    is_closed && !line.contains(['[', '{'])
+}
+
 /// Of a line that begins left of where the lines of a flow collection may.
 fn flow_line_hint(spot: &Spot<'_>, bracket: Opened) -> Hint
     ensures { (text : List ℕ) → IsOpened text spot.now.at bracket → IsTrue text spot.now.at result }
@@ -69,9 +92,33 @@ fn flow_line_hint(spot: &Spot<'_>, bracket: Opened) -> Hint
     match spot.next() {
         Some(']') => Hint::Indent("the closing bracket", count),
         Some('}') => Hint::Indent("the closing brace", count),
-        _ if is_in_flow(spot.before) => Hint::Text(FLOW_LINE),
-        _ => Hint::Opened(bracket, "is not closed"),
+        Some(',') => Hint::Text(FLOW_LINE),
+        _ if is_in_flow(spot.before) || is_end(spot.rest, bracket.mark) => Hint::Text(FLOW_LINE),
+        _ => Hint::Opened(bracket, unclosed_words(spot, bracket)),
     }
+}
+
+/// Of a bracket that is open where another entry begins, or at the end.
+fn unclosed_words(spot: &Spot<'_>, bracket: Opened) -> &'static str
+    ensures { is_line result.now ≡ true }
+{
+    if is_in_comment(spot.before, bracket) {
+        "is not closed: what is after ` #` on its line is a comment"
+    } else {
+        "is not closed"
+    }
+}
+
+/// Whether a comment on the line of a bracket has what would close it.
+fn is_in_comment(before: &str, bracket: Opened) -> bool {
+    let text = before.get(bracket.at..).unwrap_or("");
+    let line = text.split('\n').next().unwrap_or("");
+    let Some((front, comment)) = line.split_once(" #") else {
+        return false;
+    };
+    let is_quoted = count(front, '"') % 2 == 1 || count(front, '\'') % 2 == 1;
+    let close = if bracket.mark == b'[' { ']' } else { '}' };
+    !is_quoted && comment.contains(close)
 }
 
 /// Of a character that cannot follow in a flow collection.
@@ -107,7 +154,16 @@ fn flow_words(spot: &Spot<'_>, before: &str, next: char) -> Option<&'static str>
         ',' | ']' | '}' => Some("quote the text before this"),
         ':' if is_second(before) => Some("a comma is missing before this entry"),
         '\t' | '#' | ':' | '@' | '`' | '%' => None,
+        '/' if spot.rest.starts_with("//") || spot.rest.starts_with("/*") => {
+            Some("begin a comment with ` #`: `//` and `/*` begin none")
+        }
+        '[' | '{' if !word.is_empty() && !word.ends_with(['"', '\'', ']', '}']) => {
+            Some("quote a text with a bracket or a brace in it, or put a comma before this")
+        }
         '=' if is_assigned(spot.rest) => Some("write `: ` between a key and its value"),
+        _ if before.ends_with(['"', '\'']) && is_key(spot, before) => {
+            Some("a colon or a comma is missing here")
+        }
         _ if before.ends_with(['"', '\'', ']', '}']) || word.starts_with('*') => {
             Some("a comma is missing here")
         }
@@ -118,6 +174,16 @@ fn flow_words(spot: &Spot<'_>, before: &str, next: char) -> Option<&'static str>
         '|' | '>' => Some("quote this text: a block scalar cannot be in brackets or braces"),
         _ => Some("nothing is allowed here: a quote, a comma or a line break is missing before it"),
     }
+}
+
+/// Whether a text in braces has no colon after the last comma or brace, as `{"a" 1}` has none.
+fn is_key(spot: &Spot<'_>, before: &str) -> bool {
+    let is_brace = match spot.scan.bracket() {
+        Some(bracket) => bracket.mark == b'{',
+        None => false,
+    };
+    let entry = before.rsplit([',', '{']).next().unwrap_or("");
+    is_brace && !entry.contains(':')
 }
 
 /// Whether there is a blank or a line's end in a value before the key of a next entry, as in `1 b` of `{a: 1 b: 2}`.

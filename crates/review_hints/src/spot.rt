@@ -78,7 +78,7 @@ impl<'a> Spot<'a> {
     }
 
     /// The lines above the line of the offset.
-    fn lines_above(&self) -> &'a str {
+    pub fn lines_above(&self) -> &'a str {
         self.before
             .get(..self.before.len().saturating_sub(self.line.len()))
             .unwrap_or("")
@@ -95,6 +95,11 @@ impl<'a> Spot<'a> {
             0 => "",
             indent => last_within(self.lines_above(), indent.saturating_sub(1)),
         }
+    }
+
+    /// The line after the line of the offset.
+    pub fn next_line(&self) -> &'a str {
+        self.behind.split('\n').nth(1).unwrap_or("")
     }
 
     /// Whether a document marker is at the offset.
@@ -137,6 +142,32 @@ pub fn last_within(text: &str, indent: usize) -> &str {
     ""
 }
 
+/// How many lines above a fault are looked at, where its cause may be on any of them.
+pub const LINES: usize = 60;
+
+/// Whether the last line of a text belongs to a block scalar, by the lines above that are indented less and less.
+pub fn is_in_block(text: &str) -> bool {
+    let mut indent = usize::MAX;
+    for (count, line) in text.rsplit('\n').enumerate() {
+        if count > LINES {
+            return false;
+        }
+        let depth = indent_of(line);
+        if !line.trim().is_empty() && depth < indent {
+            if indent != usize::MAX && is_header(line) {
+                return true;
+            }
+            indent = depth;
+        }
+    }
+    false
+}
+
+/// Whether the line after a text may belong to a block scalar: the last line is one of it, or begins it.
+pub fn is_block_line(text: &str) -> bool {
+    is_header(text.rsplit('\n').next().unwrap_or("")) || is_in_block(text)
+}
+
 /// A line without its indentation, its dashes and its first key.
 pub fn value_of(line: &str) -> &str {
     let mut text = line.trim_start();
@@ -164,6 +195,11 @@ pub fn is_entry(line: &str) -> bool {
     text.contains(": ") || text.ends_with(':') || text.starts_with("- ") || text == "-"
 }
 
+/// Whether a line is an item of a block sequence.
+pub fn is_item(line: &str) -> bool {
+    line.trim_start().starts_with("- ")
+}
+
 /// A line without the comment after a space, if there is one.
 pub fn uncommented(line: &str) -> &str {
     line.split(" #").next().unwrap_or(line).trim()
@@ -174,10 +210,13 @@ pub fn is_assigned(text: &str) -> bool {
     text.starts_with("= ") || text.starts_with("=> ")
 }
 
-/// Whether a line ends with the header of a block scalar.
+/// Whether a line ends with the header of a block scalar: a `|` or `>` after a key, a dash, or a tag or an anchor.
 pub fn is_header(line: &str) -> bool {
     let text = uncommented(line);
     let text = text.trim_end_matches(['+', '-', '1', '2', '3', '4', '5', '6', '7', '8', '9']);
-    let is_mark = text.ends_with(['|', '>']);
-    is_mark && (text.len() == 1 || text.ends_with(" |") || text.ends_with(" >"))
+    let front = text.trim_end_matches(['|', '>']);
+    let word = front.trim_end().rsplit(' ').next().unwrap_or("");
+    let is_before = word.ends_with([':', '-']) || word.starts_with(['!', '&']) || word == "?";
+    let is_mark = text.len().saturating_sub(front.len()) == 1;
+    is_mark && (front.is_empty() || (front.ends_with(' ') && is_before))
 }

@@ -3,8 +3,9 @@ ghost use Rattle.std.specs.Prelude.{◌≡◌, ◌≤◌, true, length, IfOk, If
 ghost use Rattle.std.specs.Str.{IsUtf8};
 ghost use Rattle.review_hints.specs.Hinted.{is_line, is_plain, limit_of, HoldsLimit, IsHint};
 
+use crate::alias_hints::alias_words;
 use crate::byte_hints::{
-    alias_words, directive_words, escape_words, printable_words, tag_words, utf8_words,
+    directive_words, escape_words, handle_words, printable_words, tab_words, tag_words, utf8_words,
 };
 use crate::hints::syntax_words;
 use std::alloc::Global;
@@ -55,21 +56,21 @@ fn plain_words(fault: Fault, text: &[u8], at: usize, source: &str) -> &'static s
     ensures plain { is_plain result.now ≡ true }
     ensures limit { HoldsLimit (limit_of fault) result.now }
 {
+    let before = source.get(..at).unwrap_or("");
     let behind = source.get(at..).unwrap_or("");
     match fault {
         Fault::TooLong => "an input has at most 67,108,864 bytes",
-        Fault::NotUtf8(_) => utf8_words(text),
+        Fault::NotUtf8(_) => utf8_words(text, at),
         Fault::NotPrintable(_) => printable_words(text, at),
         Fault::Syntax(_) => "YAML allows nothing here",
-        Fault::Tab(_) => "this is a tab: use spaces for indentation and separation",
+        Fault::Tab(_) => tab_words(before),
         Fault::KeyTooLong(_) => "shorten this key: it has at most 1,024 characters before its `:`",
         Fault::TooDeep(_) => "nest less: collections are at most 1,024 deep",
         Fault::BadEscape(_) => escape_words(behind),
-        Fault::BadDirective(_) => directive_words(source.get(..at).unwrap_or(""), behind),
-        Fault::UnknownHandle(_) =>
-            "add a `%TAG` line for the handle of this tag to its document, or write the tag in full, as `!<URI>`",
+        Fault::BadDirective(_) => directive_words(before, behind),
+        Fault::UnknownHandle(_) => handle_words(behind),
         Fault::BadTag(_) => tag_words(behind),
-        Fault::UndefinedAlias(_) => alias_words(behind),
+        Fault::UndefinedAlias(_) => alias_words(before, behind),
         Fault::CyclicAlias(_) => "remove this alias: it is inside the node that it names",
         Fault::WrongKind(_) => "remove this tag: it is for another kind of node",
         Fault::BadContent(_) => "remove this tag, or correct the text: the tag does not allow it",
