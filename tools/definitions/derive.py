@@ -1,239 +1,27 @@
 #!/usr/bin/env python3
-"""derive.py: writes the example readings of crates/yaml_definitions/proofs/grammar, each a proof that a text has these events.
+"""derive.py: writes the example readings of crates/yaml_definitions/proofs/grammar (readings.toml), each a proof that a text has these
+events.
 
 shadow.py finds the reading. Each combinator says how its proof is made of those of its parts, and each condition how it is
 proved or refuted. Run `rt fmt` in the crate afterwards.
 """
 import os
 import re
+import tomllib
 
-os.environ["SHADOW"] = "later"
+import combinators
 import shadow
-from shadow import Def, Lam, Pair, Part, Rec, Span, ap, field
-from readings import FAMILIES
+from combinators import Def, Lam, Now, Pair, Part, Rec, Span, ap, field, stands
 from lib.arguments import parser
+from lib.paths import read, write
 
-ROOM = 128
-TEXT = None  # the name of the text in hand
-VISITED = set()  # the definitions that the proof in hand opens
+ROOM, TABLE = 128, tomllib.loads(read(f"{shadow.HERE}/readings.toml"))
 
-# ------------------------------------------------------------------ conditions that can be proved or refuted
 
+class Proof:
+    """The proof in hand: the name of its text, and the definitions that it opens."""
 
-class Prop:
-    def refute(self, h):  # h is a proof of it
-        raise NotImplementedError(type(self))
-
-
-class And(Prop):
-    def __init__(self, *parts):
-        self.parts = parts
-
-    def __bool__(self):
-        return all(map(bool, self.parts))
-
-    def why(self):
-        return "(%s)" % ", ".join(why(p) for p in self.parts)
-
-    def refute(self, h):
-        for n, p in reversed(list(enumerate(self.parts))):
-            if not p:
-                try:
-                    return refute(p, "%s.%d" % (h, n))
-                except NotImplementedError:
-                    pass
-        raise NotImplementedError
-
-
-class Or(Prop):
-    def __init__(self, a, b):
-        self.a, self.b = a, b
-
-    def __bool__(self):
-        return bool(self.a) or bool(self.b)
-
-    def why(self):
-        return "(inl %s)" % why(self.a) if self.a else "(inr %s)" % why(self.b)
-
-    def refute(self, h):
-        return "(neither %s %s %s)" % (denial(self.a), denial(self.b), h)
-
-
-class Not(Prop):
-    def __init__(self, a):
-        self.a = a
-
-    def __bool__(self):
-        return not self.a
-
-    def why(self):
-        return denial(self.a)
-
-
-class Eq(Prop):
-    def __init__(self, a, b):
-        self.holds, self.is_number = a == b, isinstance(a, int)
-
-    def __bool__(self):
-        return self.holds
-
-    def why(self):
-        return "refl"
-
-    def refute(self, h):
-        if not self.is_number:
-            raise NotImplementedError
-        return "(omega (arith, %s))" % h
-
-
-class Less(Prop):
-    def __init__(self, holds):
-        self.holds = holds
-
-    def __bool__(self):
-        return self.holds
-
-    def why(self):
-        return "(omega arith)"
-
-
-class StandsP(Prop):
-    def __init__(self, cs, p, i):
-        self.cs, self.p, self.i = cs, p, i
-
-    def __bool__(self):
-        return shadow.stands(self.cs, self.p, self.i)
-
-    def why(self):
-        see(self.p)
-        return "(%d, refl, refl)" % self.cs[self.i]
-
-    def refute(self, h):
-        see(self.p)
-        return "(not_here %s _ %d refl %s)" % (TEXT, self.i, h)
-
-
-class BehindP(Prop):
-    def __init__(self, cs, p, i):
-        self.cs, self.p, self.i = cs, p, i
-
-    def __bool__(self):
-        return 0 < self.i and shadow.stands(self.cs, self.p, self.i - 1)
-
-    def why(self):
-        see(self.p)
-        return "((omega arith), (%d, refl, refl))" % self.cs[self.i - 1]
-
-    def refute(self, h):
-        see(self.p)
-        if self.i == 0:
-            return "(not_behind_start %s _ %s)" % (TEXT, h)
-        return "(not_behind %s _ %d refl %s)" % (TEXT, self.i - 1, h)
-
-
-class EachP(Prop):
-    def __init__(self, P, i, j):
-        self.P, self.i, self.j = P, i, j
-
-    def __bool__(self):
-        return all(ap(self.P, k) for k in range(self.i, self.j))
-
-    def why(self):
-        out = "(none_between _ %d)" % self.j
-        for k in reversed(range(self.i, self.j)):
-            out = "(next_between _ %d %d %s %s)" % (k, self.j, why(ap(self.P, k)), out)
-        return out
-
-
-class OneLineP(EachP):
-    def __init__(self, cs, i, j):
-        EachP.__init__(self, Lam(1, lambda k: Not(StandsP(cs, W["Characters.is_break"], k))), i, j)
-
-    def why(self):
-        see(W["Characters.is_break"])
-        return "(unbroken %s %d %d refl)" % (TEXT, self.i, self.j - self.i)
-
-
-class MarkP(Prop):
-    def __init__(self, cs, i):
-        self.cs, self.i = cs, i
-
-    def __bool__(self):
-        return bool(ap(MARK, self.cs, self.i))
-
-    def why(self):
-        see(MARK)
-        return why(ap(MARK, self.cs, self.i))
-
-    def refute(self, h):
-        see(W["Characters.is_break"])
-        return "(no_mark %s %d refl %s)" % (TEXT, self.i, h)
-
-
-class UnmarkedP(EachP):
-    def __init__(self, cs, i, j):
-        EachP.__init__(self, Lam(1, lambda k: Not(MarkP(cs, k))), i, j)
-
-    def why(self):
-        see(W["Characters.is_break"])
-        return "(unmarked %s %d %d refl)" % (TEXT, self.i, self.j - self.i)
-
-
-class BeginsP(Prop):
-    def __init__(self, R, i):
-        self.R, self.i = R, i
-
-    def __bool__(self):
-        return bool(self.R.at(self.i))
-
-    def why(self):
-        j = min(self.R.at(self.i))
-        return "(%d, %s)" % (j, derive(self.R, self.i, j))
-
-
-class EndsP(Prop):
-    def __init__(self, R, j):
-        self.R, self.j = R, j
-
-    def start(self):
-        return [i for i in range(self.j + 1) if self.j in self.R.at(i)]
-
-    def __bool__(self):
-        return bool(self.start())
-
-    def why(self):
-        i = self.start()[0]
-        return "(%d, %s)" % (i, derive(self.R, i, self.j))
-
-
-class InP(Prop):
-    def __init__(self, R, i, x):
-        self.R, self.i, self.x = R, i, x
-
-    def __bool__(self):
-        return self.x in self.R.at(self.i)
-
-    def why(self):
-        return derive(self.R, self.i, self.x)
-
-    def refute(self, h):
-        if self.R.made[0] != "run":
-            raise NotImplementedError
-        cs, p = self.R.made[1:]
-        k = [k for k in range(self.i, self.x) if not StandsP(cs, p, k)][0]
-        return StandsP(cs, p, k).refute("(%s.1 %d (omega arith) (omega arith))" % (h, k))
-
-
-def why(p):
-    return "tt" if p is True else p.why()
-
-
-def refute(p, h):
-    return h if p is False else p.refute(h)
-
-
-def denial(p):
-    return "(λ h. %s)" % refute(p, "h")
+    text, visited = "", set()
 
 
 def see(f):
@@ -241,42 +29,173 @@ def see(f):
     while isinstance(f, Part):
         f = f.f
     if isinstance(f, Def):
-        VISITED.add(f)
+        Proof.visited.add(f)
 
 
-class Code(dict):
-    """`A × B × C` is one triple."""
+# ------------------------------------------------------------------ conditions that can be proved or refuted
 
-    def __getitem__(self, k):
-        return Times() if k == "×" else dict.__getitem__(self, k)
+
+class Prop:
+    """A condition: whether it holds, its proof, and what of a proof `h` of it is a refutation, if one is known."""
+
+    def __init__(self, holds, why, refute=None):
+        self.holds, self.why, self.refute = holds, why, refute
+
+    def __bool__(self):
+        return bool(self.holds())
+
+
+def why(p):
+    return "tt" if p is True else p.why()
+
+
+def refute(p, h):
+    if p is False:
+        return h
+    if p.refute is None:
+        raise NotImplementedError
+    return p.refute(h)
+
+
+def denial(p):
+    return "(λ h. %s)" % refute(p, "h")
+
+
+def And(*parts):
+    def refute_part(h):
+        for n, p in reversed(list(enumerate(parts))):
+            try:
+                if not p:
+                    return refute(p, "%s.%d" % (h, n))
+            except NotImplementedError:
+                pass
+        raise NotImplementedError
+
+    return Prop(lambda: all(parts), lambda: "(%s)" % ", ".join(map(why, parts)), refute_part)
+
+
+def Or(a, b):
+    return Prop(
+        lambda: a or b,
+        lambda: "(inl %s)" % why(a) if a else "(inr %s)" % why(b),
+        lambda h: "(neither %s %s %s)" % (denial(a), denial(b), h),
+    )
+
+
+def Not(a):
+    return Prop(lambda: not a, lambda: denial(a))
+
+
+def Eq(a, b):
+    return Prop(lambda: a == b, lambda: "refl", (lambda h: "(omega (arith, %s))" % h) if isinstance(a, int) else None)
+
+
+def Less(holds):
+    return Prop(lambda: holds, lambda: "(omega arith)")
+
+
+def Here(cs, p, i):
+    def seen(form, *parts):
+        see(p)
+        return form % parts
+
+    return Prop(
+        lambda: stands(cs, p, i), lambda: seen("(%d, refl, refl)", cs[i]), lambda h: seen("(not_here %s _ %d refl %s)", Proof.text, i, h)
+    )
+
+
+def Before(cs, p, i):
+    def refute_before(h):
+        see(p)
+        return "(not_behind_start %s _ %s)" % (Proof.text, h) if i == 0 else "(not_behind %s _ %d refl %s)" % (Proof.text, i - 1, h)
+
+    return Prop(lambda: 0 < i and stands(cs, p, i - 1), lambda: "((omega arith), %s)" % Here(cs, p, i - 1).why(), refute_before)
+
+
+def Each(P, i, j, short=None):
+    """That each place between two has P; `short` is the name of the lemma for one that computes, with its definition of characters."""
+
+    def proved():
+        if short:
+            see(WORLD["Characters.is_break"])
+            return "(%s %s %d %d refl)" % (short, Proof.text, i, j - i)
+        out = "(none_between _ %d)" % j
+        for k in reversed(range(i, j)):
+            out = "(next_between _ %d %d %s %s)" % (k, j, why(ap(P, k)), out)
+        return out
+
+    return Prop(lambda: all(ap(P, k) for k in range(i, j)), proved)
+
+
+def OneLine(cs, i, j):
+    return Each(Lam(1, lambda k: Not(Here(cs, WORLD["Characters.is_break"], k))), i, j, "unbroken")
+
+
+def Unmarked(cs, i, j):
+    return Each(Lam(1, lambda k: Not(Mark(cs, k))), i, j, "unmarked")
+
+
+def Mark(cs, i):
+    def proved():
+        see(MARK)
+        return why(ap(MARK, cs, i))
+
+    def refute_mark(h):
+        see(WORLD["Characters.is_break"])
+        return "(no_mark %s %d refl %s)" % (Proof.text, i, h)
+
+    return Prop(lambda: ap(MARK, cs, i), proved, refute_mark)
+
+
+def Begins(R, i):
+    return Prop(lambda: R.at(i), lambda: "(%d, %s)" % (min(R.at(i)), derive(R, i, min(R.at(i)))))
+
+
+def Ends(R, j):
+    def starts():
+        return [i for i in range(j + 1) if j in R.at(i)]
+
+    return Prop(starts, lambda: "(%d, %s)" % (starts()[0], derive(R, starts()[0], j)))
+
+
+def Reaches(R, i, *rest):
+    x = rest[0] if len(rest) == 1 else rest
+
+    def refute_run(h):
+        if R.made[0] != "run":
+            raise NotImplementedError
+        cs, p = R.made[1:]
+        k = next(k for k in range(i, x) if not stands(cs, p, k))
+        return Here(cs, p, k).refute("(%s.1 %d (omega arith) (omega arith))" % (h, k))
+
+    return Prop(lambda: x in R.at(i), lambda: derive(R, i, x), refute_run)
 
 
 class Times:
+    """The Python of `×`: `A × B × C` is one triple."""
+
     def __mod__(self, parts):
         a, b = parts
         return "And(%s, %s" % (a, b[4:]) if b.startswith("And(") else "And(%s, %s)" % (a, b)
 
 
-shadow.CODE.update(
-    {"⊎": "Or(%s, %s)", "≡": "Eq(%s, %s)", "≢": "Not(Eq(%s, %s))", "≤": "Less(%s <= %s)", "<": "Less(%s < %s)", "⊥": "Not(%s)"}
-)
-shadow.CODE = Code(shadow.CODE)
-for name, n, prop in [("Stands", 3, StandsP), ("Behind", 3, BehindP), ("Throughout", 3, EachP), ("Begins", 2, BeginsP), ("Ends", 2, EndsP)]:
-    shadow.RULES[name] = Lam(n, prop)
-Span.__call__ = lambda self, i, *rest: InP(self, i, rest[0] if len(rest) == 1 else rest)
-for prop in (And, Or, Not, Eq, Less):
-    setattr(shadow, prop.__name__, prop)
-W = shadow.W = shadow.World()
-MARK = W.defs["Separation.DocumentMark"]
-W.defs.update({"Separation.DocumentMark": Lam(2, MarkP), "Separation.Unmarked": Lam(3, UnmarkedP), "Separation.OneLine": Lam(3, OneLineP)})
+CODE = {"⊎": "Or(%s, %s)", "×": Times(), "≡": "Eq(%s, %s)", "≢": "Not(Eq(%s, %s))"}
+CODE |= {"≤": "Less(%s <= %s)", "<": "Less(%s < %s)", "→": "Not(%s)"}
+for sign, code in CODE.items():
+    shadow.OPS[sign] = (*shadow.OPS[sign][:2], code)
+for name, n, prop in [("Stands", 3, Here), ("Behind", 3, Before), ("Throughout", 3, Each), ("Begins", 2, Begins), ("Ends", 2, Ends)]:
+    combinators.RULES[name] = Lam(n, prop)
+Span.__call__ = Reaches
+WORLD = shadow.World(And=And, Or=Or, Not=Not, Eq=Eq, Less=Less)
+MARK = WORLD["Separation.DocumentMark"]
+for name, n, prop in [("DocumentMark", 2, Mark), ("Unmarked", 3, Unmarked), ("OneLine", 3, OneLine)]:
+    WORLD.defs[f"Separation.{name}"] = Lam(n, prop)
 
 # ------------------------------------------------------------------ values, as antt writes them
 
-HOME = {c: f.mod for f in W.files.values() for c, e in f.own.items() if e[0] == "con"}
-ALIAS = {
-    "Characters": "characters",
-    "Separation": "separation",
-    "Tags": "tags",
+HOME = {name: file.mod for file in WORLD.files.values() for name, entry in file.own.items() if entry[0] == "con"}
+ALIAS = {name: name.lower() for name in "Characters Separation Tags".split()}
+ALIAS |= {
     "FlowScalars": "flow",
     "BlockScalars": "block",
     "Nodes": "nodes",
@@ -285,11 +204,11 @@ ALIAS = {
     "Tag": "model",
 }
 FIELDS = [("anchor", "tag"), ("digit", "chomp")]
+ESCAPES = {"\\": "\\\\", '"': '\\"', "\n": "\\n", "\t": "\\t", "\r": "\\r"}
 
 
 def quoted(codes):
-    escapes = {"\\": "\\\\", '"': '\\"', "\n": "\\n", "\t": "\\t", "\r": "\\r"}
-    return 'codes "%s"' % "".join(escapes.get(chr(c), chr(c)) for c in codes)
+    return 'codes "%s"' % "".join(ESCAPES.get(chr(c), chr(c)) for c in codes)
 
 
 def show(v):
@@ -300,118 +219,98 @@ def show(v):
     if isinstance(v, Pair):
         return "(%s)" % ", ".join(map(show, v))
     if isinstance(v, Rec):
-        names = [fields for fields in FIELDS if set(fields) == {n for n, _ in v}][0]
+        names = next(fields for fields in FIELDS if set(fields) == {n for n, _ in v})
         return "(record { %s })" % "; ".join("%s = %s" % (n, show(field(v, n))) for n in names)
     if v == ():
         return "[]"
     if isinstance(v[0], str):
         home = ALIAS.get(HOME.get(v[0]))
         head = home + "." + v[0] if home else v[0]
-        return head if len(v) == 1 else "(%s)" % " ".join([head] + list(map(show, v[1:])))
+        return head if len(v) == 1 else "(%s)" % " ".join([head, *map(show, v[1:])])
     if all(type(x) is int and (32 <= x < 127 or x == 10) for x in v):
         return "(%s)" % quoted(v)
-    return "(%s)" % " ∷ ".join(list(map(show, v)) + ["[]"])
+    return "(%s)" % " ∷ ".join([*map(show, v), "[]"])
 
 
 # ------------------------------------------------------------------ derivations
 
 
-def run_proof(p, i, j):
-    see(p)
-    return "(stands_each %s _ %d %d refl)" % (TEXT, i, j - i)
-
-
-def split_ends(R, S, i, x):
-    """Where the first part may end, that the second goes on from there to x."""
-    return min(k for k in R.at(i) if x in S.at(k))
-
-
 def derive(R, i, x):
     """The proof of R i j, or of R i j v; x is j, or the pair of j and v."""
-    kind, made = R.made[0], R.made[1:]
-    j = x[0] if isinstance(x, tuple) else x
-    return DERIVE[kind](R, i, j, x, *made)
+    return DERIVE[R.made[0]](i, x[0] if isinstance(x, tuple) else x, x, *R.made[1:])
 
 
-def derive_definition(R, i, j, x, f, args):
-    VISITED.add(f)
+def of_run(i, j, x, cs, p):
+    see(p)
+    return "(stands_each %s _ %d %d refl)" % (Proof.text, i, j - i)
+
+
+def of_definition(i, j, x, f, args):
+    see(f)
     return derive(ap(f.run(args)), i, x)
 
 
-def derive_span_first(R, i, j, x, A, B):
-    k = split_ends(A, B, i, x)
+def of_then(i, j, x, A, B):
+    k = min(k for k in A.at(i) if x in B.at(k))
     return "(%d, %s, %s)" % (k, derive(A, i, k), derive(B, k, x))
 
 
-def derive_span_last(R, i, j, x, A, B):
-    k = min(k for (k, v) in A.at(i) if v == x[1] and j in B.at(k))
+def of_rule_span(i, j, x, A, B):
+    k = min(k for k, v in A.at(i) if v == x[1] and j in B.at(k))
     return "(%d, %s, %s)" % (k, derive(A, i, (k, x[1])), derive(B, k, j))
 
 
-def derive_joined(R, i, j, x, A, B):
-    k, ys, zs = min(((k, ys, zs) for (k, ys) in A.at(i) for (l, zs) in B.at(k) if (l, ys + zs) == x), key=lambda t: t[0])
+def of_then_rule(i, j, x, A, B):
+    k, ys, zs = min(((k, ys, zs) for k, ys in A.at(i) for m, zs in B.at(k) if (m, ys + zs) == x), key=lambda it: it[0])
     return "(%d, %s, %s, %s, %s, refl)" % (k, show(ys), show(zs), derive(A, i, (k, ys)), derive(B, k, (j, zs)))
 
 
-def derive_either(R, i, j, x, A, B):
-    return "(inl %s)" % derive(A, i, x) if x in A.at(i) else "(inr %s)" % derive(B, i, x)
-
-
-def derive_with_value(R, i, j, x, A, B):
-    k, a = [(k, a) for (k, a) in A.at(i) if x in ap(B, a).at(k)][0]
+def of_with_value(i, j, x, A, B):
+    k, a = next((k, a) for k, a in A.at(i) if x in ap(B, a).at(k))
     return "(%d, %s, %s, %s)" % (k, show(a), derive(A, i, (k, a)), derive(ap(B, a), k, x))
 
 
-def derive_some(R, i, j, x, A):
-    a = [a for a in range(shadow.Now.N + 2) if x in ap(A, a).at(i)][0]
+def of_some(i, j, x, A):
+    a = next(a for a in range(Now.N + 2) if x in ap(A, a).at(i))
     return "(%d, %s)" % (a, derive(ap(A, a), i, x))
 
 
-def derive_seen(R, i, j, x, f, A):
-    a = [a for (k, a) in A.at(i) if k == j and ap(f, a) == x[1]][0]
+def of_seen(i, j, x, f, A):
+    """Of `seen` and of `mapped`."""
+    a = next(a for k, a in A.at(i) if k == j and ap(f, a) in (x[1], ("Some", x[1])))
     see(f)
     return "(%s, %s, refl)" % (show(a), derive(A, i, (j, a)))
 
 
-def derive_mapped(R, i, j, x, f, A):
-    a = [a for (k, a) in A.at(i) if k == j and ap(f, a) == ("Some", x[1])][0]
-    see(f)
-    return "(%s, %s, refl)" % (show(a), derive(A, i, (j, a)))
-
-
-def derive_given(R, i, j, x, P, A):
-    return "(%s, %s)" % (why(P), derive(A, i, x))
-
-
-def derive_limited(R, i, j, x, P, A):
+def of_limited(i, j, x, P, A):
     return "(%s, %s)" % (why(ap(P, i, j)), derive(A, i, x))
 
 
-def derive_where_value(R, i, j, x, P, A):
+def of_where_value(i, j, x, P, A):
     p = ap(P, x[1])
     return "(%s, %s)" % ("refl" if p is True else why(p), derive(A, i, x))  # `IsScalar` computes
 
 
-def derive_looking(R, i, j, x, A):
-    k = [k for (k, v) in A.at(i) if v == x[1]][0]
+def of_looking(i, j, x, A):
+    k = next(k for k, v in A.at(i) if v == x[1])
     return "(refl, %d, %s)" % (k, derive(A, i, (k, x[1])))
 
 
-def derive_any(R, i, j, x, A):
+def of_any(i, j, x, A):
     def go(i, xs):
         if i == j and xs == ():
             return "(done refl refl)"
         for k, ys in A.at(i):
-            if k > i and xs[: len(ys)] == ys:
-                rest = go(k, xs[len(ys) :])
-                if rest:
-                    return "(then %d %s %s %s %s refl)" % (k, show(ys), show(xs[len(ys) :]), derive(A, i, (k, ys)), rest)
+            left = xs[len(ys) :]
+            rest = go(k, left) if k > i and xs[: len(ys)] == ys else None
+            if rest:
+                return "(then %d %s %s %s %s refl)" % (k, show(ys), show(left), derive(A, i, (k, ys)), rest)
         return None
 
     return go(i, x[1])
 
 
-def derive_spans(R, i, j, x, A):
+def of_spans(i, j, x, A):
     def go(i):
         if i == j:
             return "(Spans.done refl)"
@@ -424,7 +323,7 @@ def derive_spans(R, i, j, x, A):
     return go(i)
 
 
-def derive_counted(R, i, j, x, A):
+def of_counted(i, j, x, A):
     def go(i, n):
         if n == 0:
             return "refl" if i == j else None
@@ -437,165 +336,114 @@ def derive_counted(R, i, j, x, A):
     return go(i, x[1])
 
 
-def derive_word(R, i, j, x, cs, s):
+def of_word(i, j, x, cs, s):
     out = "refl"
     for n in reversed(range(len(s))):
         out = "(%d, (refl, refl), %s)" % (i + n + 1, out)
     return out
 
 
-def derive_letter(R, i, j, x, cs, p):
+def of_letter(i, j, x, cs, p):
     see(p)
     return "(refl, refl, refl)"
 
 
+# The proof of each combinator from a place to another, or to a place and a value, by its parts.
 DERIVE = {
-    "def": derive_definition,
-    "◆": derive_span_first,
-    "▸": derive_span_first,
-    "◂": derive_span_last,
-    "⨾": derive_joined,
-    "∪": derive_either,
-    "with_value": derive_with_value,
-    "some": derive_some,
-    "seen": derive_seen,
-    "mapped": derive_mapped,
-    "given": derive_given,
-    "limited": derive_limited,
-    "where_both": derive_limited,
-    "where_value": derive_where_value,
-    "looking": derive_looking,
-    "any": derive_any,
-    "any_span": derive_spans,
-    "counted": derive_counted,
-    "word": derive_word,
-    "letter": derive_letter,
-    "nowhere": lambda R, i, j, x: "refl",
-    "gives": lambda R, i, j, x: "(refl, refl)",
-    "chr": lambda R, i, j, x: "(refl, refl)",
-    "ahead": lambda R, i, j, x, P: "(refl, %s)" % why(ap(P, i)),
-    "at": lambda R, i, j, x, P: "(%s, refl)" % why(ap(P, i)),
-    "one": lambda R, i, j, x, cs, p: "(%s, refl)" % StandsP(cs, p, i).why(),
-    "stretch": lambda R, i, j, x, P: "((omega arith), %s)" % EachP(P, i, j).why(),
-    "run": lambda R, i, j, x, cs, p: run_proof(p, i, j),
-    "some_run": lambda R, i, j, x, cs, p: "(%s, (omega arith))" % run_proof(p, i, j),
-    "whole_run": lambda R, i, j, x, cs, p: "(%s, (omega arith), %s)" % (run_proof(p, i, j), denial(StandsP(cs, p, j))),
-    "exactly": lambda R, i, j, x, cs, p: "(%s, refl)" % run_proof(p, i, j),
-    "how_many": lambda R, i, j, x, cs, p: "(%s, refl)" % run_proof(p, i, j),
-    "copied": lambda R, i, j, x, A: "(%s, refl)" % derive(A, i, j),
+    "def": of_definition,
+    "then_span": of_then,
+    "rule_span": of_rule_span,
+    "then_rule": of_then_rule,
+    "either": lambda i, j, x, A, B: "(inl %s)" % derive(A, i, x) if x in A.at(i) else "(inr %s)" % derive(B, i, x),
+    "with_value": of_with_value,
+    "some": of_some,
+    "seen": of_seen,
+    "mapped": of_seen,
+    "given": lambda i, j, x, P, A: "(%s, %s)" % (why(P), derive(A, i, x)),
+    "limited": of_limited,
+    "where_both": of_limited,
+    "where_value": of_where_value,
+    "looking": of_looking,
+    "any": of_any,
+    "any_span": of_spans,
+    "counted": of_counted,
+    "word": of_word,
+    "letter": of_letter,
+    "nowhere": lambda i, j, x: "refl",
+    "gives": lambda i, j, x, v: "(refl, refl)",
+    "chr": lambda i, j, x, cs, c: "(refl, refl)",
+    "ahead": lambda i, j, x, P: "(refl, %s)" % why(ap(P, i)),
+    "at": lambda i, j, x, cs, P: "(%s, refl)" % why(ap(P, i)),
+    "one": lambda i, j, x, cs, p: "(%s, refl)" % why(Here(cs, p, i)),
+    "stretch": lambda i, j, x, cs, P: "((omega arith), %s)" % why(Each(P, i, j)),
+    "run": of_run,
+    "some_run": lambda i, j, x, cs, p: "(%s, (omega arith))" % of_run(i, j, x, cs, p),
+    "whole_run": lambda i, j, x, cs, p: "(%s, (omega arith), %s)" % (of_run(i, j, x, cs, p), denial(Here(cs, p, j))),
+    "exactly": lambda i, j, x, cs, n, p: "(%s, refl)" % of_run(i, j, x, cs, p),
+    "how_many": lambda i, j, x, cs, p: "(%s, refl)" % of_run(i, j, x, cs, p),
+    "copied": lambda i, j, x, cs, A: "(%s, refl)" % derive(A, i, j),
 }
 
 # ------------------------------------------------------------------ the files
 
 
-def opened(definitions):
-    """The names to unfold: these definitions, and the functions and conditions of which they speak."""
-    found, todo = set(), list(definitions)
+def opened():
+    """The names to unfold: the definitions of the proof in hand, and the functions and conditions of which they speak."""
+    found, todo = set(), list(Proof.visited)
     while todo:
         f = todo.pop()
         if f not in found:
             found.add(f)
             todo += [g for g in f.uses if not g.lazy]
-    names = []
-    for mod, alias in ALIAS.items():
-        for name, entry in W.files[mod].own.items():
-            if entry[0] == "def" and entry[1].opened and entry[1] in found:
-                names.append("%s.%s" % (alias, name))
-    return names
+    entries = [(alias, name, entry) for mod, alias in ALIAS.items() for name, entry in WORLD.files[mod].own.items()]
+    return ["%s.%s" % (alias, name) for alias, name, entry in entries if entry[0] == "def" and entry[1].opened and entry[1] in found]
 
 
-def bare(shown):
-    return shown[1:-1] if shown.startswith("(") else shown
-
-
-def theorem(reading):
+def theorem(name, clause, text):
     """The text, and the theorem that it is a stream with its events."""
-    global TEXT
-    TEXT = reading.name + "_text"
-    VISITED.clear()
-    VISITED.update(W[d] for d in ("Streams.stream", "Streams.stream_of_pieces"))
-    cs = shadow.new_text(tuple(map(ord, reading.text)))
-    stream = ap(W["Streams.stream"], cs, True, ROOM)
-    found = [x for x in stream.at(0) if x[0] == len(cs)]
-    events = {ap(W["Streams.stream_of_pieces"], pieces) for (_, pieces) in found}
-    assert len(events) == 1, (reading.name, events)
+    Proof.text, Proof.visited = name + "_text", {WORLD[d] for d in ("Streams.l-yaml-stream", "Streams.stream_of_pieces")}
+    codes = tuple(map(ord, text))
+    stream, found, events = shadow.readings(WORLD, codes, True, ROOM)
+    assert len(events) == 1, (name, events)
     pieces = found[0][1]
     proof = derive(stream, 0, found[0])
-    names = opened(VISITED) + ["streams.ReadsText", "encode"] + (["is_utf8", "chars"] if "!" in reading.text else [])
-    return "\n".join(
-        [
-            "abbrev %s : List ℕ" % TEXT,
-            "%s = %s" % (TEXT, quoted(cs)),
-            "",
-            "-- " + reading.clause,
-            "pub %s : ReadsText %s (Unit {0}) open_limit (" % (reading.name, TEXT),
-            "    " + "\n    ∷ ".join([bare(show(e)) for e in events.pop()] + ["[])"]),
-            "unfolding %s" % " ".join(names),
-            "%s = (%s, %s, refl)" % (reading.name, show(pieces), proof),
-        ]
-    )
+    names = opened() + ["streams.ReadsText", "encode"] + (["is_utf8", "chars"] if "!" in text else [])
+    shown = [re.sub(r"^\((.*)\)$", r"\1", show(event), flags=re.S) for event in events.pop()]
+    lines = "\n    ∷ ".join([*shown, "[])"])
+    return f"""\
+abbrev {Proof.text} : List ℕ
+{Proof.text} = {quoted(codes)}
+
+-- {clause}
+pub {name} : ReadsText {Proof.text} (Unit {{0}}) open_limit (
+    {lines}
+unfolding {" ".join(names)}
+{name} = ({show(pieces)}, {proof}, refl)"""
 
 
-USES = [
-    ("Rattle.std.proofs.Common", "◌≡◌ ℕ true false List [] ◌∷◌ Some None refl arith inl inr"),
-    ("Rattle.std.specs.Prelude", "codes"),
-    ("Rattle.std.specs.Str", "is_utf8 chars"),
-    ("Rattle.std.proofs.lemmas.List.Sums", "AllPass-from_list_all"),
-    ("Rattle.std.proofs.Math.Utf8", "encode"),
-    ("Rattle.yaml_definitions.specs.model.Limits", "open_limit"),
-    (
-        "Rattle.yaml_definitions.specs.model.Event",
-        "stream_start stream_end document_start document_end sequence_start sequence_end mapping_start mapping_end "
-        "scalar_event alias_event plain single double literal folded untagged non_specific full",
-    ),
-    ("Rattle.yaml_definitions.specs.model.Text", "is_text"),
-    ("Rattle.yaml_definitions.specs.grammar.Rules", "done then Spans"),
-    ("Rattle.yaml_definitions.specs.grammar.Streams", "ReadsText"),
-    ("Rattle.yaml_definitions.specs.grammar.Reading", "Reads ReadsWide"),
-    (
-        "Rattle.yaml_definitions.proofs.grammar.Derive",
-        "not_here not_behind not_behind_start neither none_between next_between stands_each unbroken " "no_mark unmarked",
-    ),
-]
 OPERATORS = {"◌≡◌": " ≡ ", "◌∷◌": " ∷ ", "[]": "[]", "⊥": "⊥", "ℕ": "ℕ"}
-
-
-def standard(body):
-    """The text with the standard's names of productions behind the names of their files."""
-    long_names = {short: long for long, short in shadow.SHORT_NAMES.items()}
-    short = re.compile(
-        r"\b(%s)\.(%s)(?![\w'+-])" % ("|".join(ALIAS.values()), "|".join(sorted(map(re.escape, long_names), key=len, reverse=True)))
-    )
-    return short.sub(lambda at: at[1] + "." + long_names[at[2]], body)
 
 
 def uses(body):
     """The `use` lines for the names that the body has."""
     words = set(re.findall(r"(?<![\w.])\w[\w-]*", body))
-    lines = []
-    for module, names in USES:
+    for module, names in TABLE["uses"].items():
         wanted = [n for n in names.split() if (OPERATORS[n] in body if n in OPERATORS else n in words)]
         if wanted:
-            lines.append("use %s.{%s}" % (module, ", ".join(wanted)))
+            yield "use Rattle.%s.{%s}" % (module, ", ".join(wanted))
     for mod, alias in ALIAS.items():
         if alias + "." in body:
-            folder = "model." if mod == "Tag" else "grammar."
-            lines.append("use Rattle.yaml_definitions.specs.%s%s as %s" % (folder, mod, alias))
-    return lines
-
-
-def write_families(folder):
-    for family in FAMILIES:
-        body = standard("\n\n".join([theorem(r) for r in family.readings] + family.more))
-        head = "-- %s Written by tools/definitions/derive.py." % family.about
-        with open(os.path.join(folder, family.file + ".antt"), "w", encoding="utf-8") as f:
-            f.write("\n".join([head] + uses(body)) + "\n\n" + body + "\n")
+            yield "use Rattle.yaml_definitions.specs.%s.%s as %s" % ("model" if mod == "Tag" else "grammar", mod, alias)
 
 
 def main(words=None):
     given = parser("tools/definitions/derive.py", __doc__)
-    given.add_argument("folder", metavar="FOLDER", help="gets one file for each family of readings.py")
-    write_families(given.parse_args(words).folder)
+    given.add_argument("folder", metavar="FOLDER", help="gets one file for each family of readings.toml")
+    folder = given.parse_args(words).folder
+    for family in TABLE["family"]:
+        body = "\n\n".join([theorem(*each) for each in family["readings"]] + ([family["more"]] if "more" in family else []))
+        head = "-- %s Written by tools/definitions/derive.py." % family["about"]
+        write(os.path.join(folder, family["file"] + ".antt"), "\n".join([head, *uses(body)]) + "\n\n" + body + "\n")
 
 
 if __name__ == "__main__":

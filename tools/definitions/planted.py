@@ -18,6 +18,7 @@ into one as are of different definitions: one with which the definitions themsel
 nothing is tried. The unchanged definitions are tried first, and nothing may tell them. Needs `rt`; takes about half a minute of
 processor for each that no text tells.
 """
+import collections
 import contextlib
 import os
 import queue
@@ -45,12 +46,9 @@ class Planting:
     """A wrong definition: the file, the definition, the right and the wrong text."""
 
     def __init__(self, line):
-        head, change = line.split(": ", 1)
+        self.said, (head, change) = line, line.split(": ", 1)
         self.file, self.name = head.split(" ")
         self.right, self.wrong = change.split(" ⇒ ")
-
-    def said(self):
-        return "%s %s: %s ⇒ %s" % (self.file, self.name, self.right, self.wrong)
 
     def changed(self, specs):
         """The file with it in its place, or nothing where the right text does not stand once in the definition."""
@@ -68,11 +66,6 @@ class Planting:
         lines[block.place : end] = "\n".join(lines[block.place : end]).replace(self.right, self.wrong).split("\n")
         return "\n".join(lines)
 
-    def put(self, specs):
-        """Puts it into a copy of the definitions."""
-        text = self.changed(specs)
-        write("%s/%s.antt" % (specs, self.file), text)
-
 
 class Room:
     """A copy of yaml_definitions and the law crates, with what was kept of them."""
@@ -83,53 +76,37 @@ class Room:
         shutil.copy(TOP + "/HANDLES", self.folder)
         names = {"yaml_definitions", *LAWS, *sum(LAWS.values(), [])}
         write_list(self.folder, names)
-        for name in names:
-            for part in ("src", "specs", "proofs", "out"):
-                if os.path.isdir("%s/crates/%s/%s" % (TOP, name, part)):
-                    shutil.copytree("%s/crates/%s/%s" % (TOP, name, part), "%s/crates/%s/%s" % (self.folder, name, part))
+        for path in ("crates/%s/%s" % (name, part) for name in names for part in ("src", "specs", "proofs", "out")):
+            if os.path.isdir("%s/%s" % (TOP, path)):
+                shutil.copytree("%s/%s" % (TOP, path), "%s/%s" % (self.folder, path))
         self.specs = self.folder + "/crates/yaml_definitions/specs"
 
     def plant(self, plantings):
         shutil.rmtree(self.specs)
-        shutil.copytree(TOP + "/crates/yaml_definitions/specs", self.specs)
-        for planting in plantings:
-            planting.put(self.specs)
+        shutil.copytree(SPECS, self.specs)
+        for it in plantings:
+            write("%s/%s.antt" % (self.specs, it.file), it.changed(self.specs))
+
+    def run(self, words, **how):
+        return subprocess.run(words, stdin=subprocess.DEVNULL, capture_output=True, text=True, errors="replace", check=False, **how)
 
     def text(self, suite):
         """What planted_texts.py says of the copy."""
-        done = subprocess.run(
-            [sys.executable, HERE + "/planted_texts.py", *([suite] if suite else [])],
-            capture_output=True,
-            text=True,
-            env=dict(os.environ, SPECS=self.specs + "/grammar"),
-            check=False,
-        )
+        words = [sys.executable, HERE + "/planted_texts.py", *[suite] * bool(suite)]
+        done = self.run(words, env={**os.environ, "SPECS": self.specs + "/grammar"})
         if done.returncode:
             sys.exit("planted: the definitions do not run: " + done.stderr.strip().split("\n")[-1][:200])
         return ": ".join(done.stdout.strip().split("\t"))
 
     def rt_check(self, crate):
         """What `rt check` says of a crate that is not proved, or nothing."""
-        done = subprocess.run(
-            [RT, "check", "--jobs", "1"],
-            cwd="%s/crates/%s" % (self.folder, crate),
-            capture_output=True,
-            text=True,
-            errors="replace",
-            stdin=subprocess.DEVNULL,
-            check=False,
-        )
+        done = self.run([RT, "check", "--jobs", "1"], cwd="%s/crates/%s" % (self.folder, crate))
         return done.stdout + done.stderr if done.returncode else ""
 
     def wrong(self):
         """What of the definitions themselves does not check, in a copy without proofs."""
         shutil.rmtree(self.folder + "/crates/yaml_definitions/proofs", ignore_errors=True)
         return re.findall(r"(?:\./)?(specs/\S+: error: .*)", self.rt_check("yaml_definitions"))
-
-    def check(self, crate):
-        """What of a crate is no longer proved, or nothing."""
-        said = self.rt_check(crate)
-        return refused_in(crate, said) if said else ""
 
     def told(self, planting, suite):
         """What tells a planting, or nothing."""
@@ -138,10 +115,11 @@ class Room:
             text = self.text(suite)
             if text:
                 return text
-        told = self.check("yaml_definitions")
-        for crate in LAWS if not told and planting else ():
-            told = told or self.check(crate)
-        return told
+        for crate in ("yaml_definitions", *(LAWS if planting else ())):
+            said = self.rt_check(crate)
+            if said:
+                return refused_in(crate, said)
+        return ""
 
     def close(self):
         shutil.rmtree(self.folder, ignore_errors=True)
@@ -153,33 +131,30 @@ def refused_in(crate, said):
     functions = re.findall(r"^fn (\S+?): (?!proved)", said, re.M)
     own = crate == "yaml_definitions"
     is_example = re.compile(r"proofs/(?:examples/|grammar/\w+Readings$)")
-    told = [
-        "%s %s%s, %s"
-        % ("example" if own and is_example.match(place) else "law", "" if own or place.startswith("..") else crate + "/", place, name)
-        for place, name in places
-    ]
+    told = []
+    for place, name in places:
+        kind = "example" if own and is_example.match(place) else "law"
+        told.append("%s %s%s, %s" % (kind, "" if own or place.startswith("..") else crate + "/", place, name))
     told.sort(key=lambda it: not it.startswith("example"))
     return (told or ["law %s" % it for it in functions] or ["%s: %s" % (crate, said.strip().split("\n")[-1][:120])])[0]
 
 
 def table_of(lines):
     """The result a definition, as rows of a table."""
-    rows = ["| definition | in its place | told by |", "|---|---|---|"]
+    yield from ("| definition | in its place | told by |", "|---|---|---|")
     for line in lines:
-        change, found, told = line.rstrip("\n").rpartition(" | ")
+        change, found, told = line.rpartition(" | ")
         if found and ": " in change:
-            head, words = change.split(": ", 1)
+            head, words = change.replace("|", "\\|").split(": ", 1)
             file, name = head.split(" ")
-            rows.append("| `%s` (`%s`) | `%s` | %s |" % (name, file.rsplit("/", 1)[1], words.replace("|", "\\|"), told.replace("|", "\\|")))
-    return "\n".join(rows)
+            yield "| `%s` (`%s`) | `%s` | %s |" % (name, file.rsplit("/", 1)[1], words, told.replace("|", "\\|"))
 
 
 def listed(plantings):
     """Whether each planting can be put into the definitions as they are, and has its result in planted.found."""
-    lost = [it.said() for it in plantings if it.changed(SPECS) is None]
-    with open(FOUND, encoding="utf-8") as file:
-        results = {line.rpartition(" | ")[0] for line in file}
-    unknown = [it.said() for it in plantings if it.said() not in results]
+    results = {line.rpartition(" | ")[0] for line in read(FOUND).split("\n")}
+    lost = [it.said for it in plantings if it.changed(SPECS) is None]
+    unknown = [it.said for it in plantings if it.said not in results]
     for said in lost:
         print("planted: its right text does not stand once in its definition: " + said)
     for said in unknown:
@@ -190,32 +165,50 @@ def listed(plantings):
 
 def batches(plantings):
     """The plantings in lists, those of one definition apart."""
-    lists = []
+    lists, met = collections.defaultdict(list), collections.Counter()
     for it in plantings:
-        free = [batch for batch in lists if all((it.file, it.name) != (other.file, other.name) for other in batch)]
-        if not free:
-            lists.append([])
-        (free or lists[-1:])[0].append(it)
-    return lists
+        lists[met[it.file, it.name]].append(it)
+        met[it.file, it.name] += 1
+    return lists.values()
 
 
 def checked(plantings):
     """Whether the definitions check with the plantings in their places, each list of them in one copy."""
-    room, count = Room(), 0
-    try:
+    with contextlib.closing(Room()) as room:
+        wrong = []
         for batch in batches(plantings):
             room.plant(batch)
-            wrong = room.wrong()
-            count += len(wrong)
-            for said in wrong:
-                print("planted: no definition: " + said)
-    finally:
-        room.close()
-    print("the definitions check with each of %d in its place" % len(plantings) if not count else "%d errors" % count)
-    return 1 if count else 0
+            wrong += room.wrong()
+    for said in wrong:
+        print("planted: no definition: " + said)
+    print("%d errors" % len(wrong) if wrong else "the definitions check with each of %d in its place" % len(plantings))
+    return 1 if wrong else 0
 
 
-def options_given():
+def tried(plantings, options, out):
+    """What tells each, the unchanged definitions first, so many at a time as there are lanes."""
+    with contextlib.ExitStack() as ends:
+        rooms = queue.Queue()
+        for _ in range(options.lanes):
+            rooms.put(ends.enter_context(contextlib.closing(Room())))
+
+        def work(planting):
+            room = rooms.get()
+            try:
+                told = room.told(planting, options.suite)
+            finally:
+                rooms.put(room)
+            print("%s | %s" % (planting.said if planting else "unchanged", told or "NOT TOLD"), file=out, flush=True)
+            return told
+
+        plain = work(None)
+        if plain:
+            sys.exit("planted: the unchanged definitions are told by %s" % plain)
+        with ThreadPoolExecutor(options.lanes) as pool:
+            return list(pool.map(work, plantings))
+
+
+def main():
     given = parser("tools/definitions/planted.py", __doc__)
     given.add_argument("--lanes", type=int, default=1)
     given.add_argument("--suite", default=os.environ.get("YAML_TEST_SUITE"))
@@ -224,46 +217,14 @@ def options_given():
     given.add_argument("--table", nargs="?", const=FOUND, metavar="FILE")
     given.add_argument("--listed", action="store_true")
     given.add_argument("--checked", action="store_true")
-    return given.parse_args()
-
-
-def tried(plantings, options, out):
-    """What tells each, the unchanged definitions first, so many at a time as there are lanes."""
-    rooms = queue.Queue()
-    for _ in range(options.lanes):
-        rooms.put(Room())
-
-    def work(planting):
-        room = rooms.get()
-        try:
-            told = room.told(planting, options.suite)
-        finally:
-            rooms.put(room)
-        print("%s | %s" % (planting.said() if planting else "unchanged", told or "NOT TOLD"), file=out, flush=True)
-        return told
-
-    try:
-        plain = work(None)
-        if plain:
-            sys.exit("planted: the unchanged definitions are told by %s" % plain)
-        with ThreadPoolExecutor(options.lanes) as pool:
-            return list(pool.map(work, plantings))
-    finally:
-        while not rooms.empty():
-            rooms.get().close()
-
-
-def main():
-    options = options_given()
+    options = given.parse_args()
     if options.table:
-        with open(options.table, encoding="utf-8") as file:
-            print(table_of(file))
+        print("\n".join(table_of(read(options.table).split("\n"))))
         return 0
-    with open(HERE + "/planted.list", encoding="utf-8") as file:
-        plantings = [Planting(line) for line in file.read().split("\n") if line and not line.startswith("#")]
+    plantings = [Planting(line) for line in read(HERE + "/planted.list").split("\n") if line and not line.startswith("#")]
     if options.listed or any(it.changed(SPECS) is None for it in plantings):
         return listed(plantings)
-    plantings = [it for it in plantings if options.only in it.said()]
+    plantings = [it for it in plantings if options.only in it.said]
     if not plantings:
         sys.exit(f"planted: no line of planted.list has {options.only}")
     status = checked(plantings)

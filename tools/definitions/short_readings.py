@@ -9,8 +9,11 @@ with its suffix, `S` and `[` begin a block and a flow sequence, `M` and `{` a ma
 its text and `;`, and an alias its name and `;`. It stops at a text that has two lists of events. An alphabet takes a quarter of
 an hour, or a part of it where PART of PARTS is asked for: every PARTS-th text.
 """
+import gzip
 import itertools
+import re
 import sys
+
 import shadow
 from lib.arguments import parser
 
@@ -22,48 +25,39 @@ ALPHABETS = {
     "properties": "a&*!:- \n",
     "blocks": "a|>-1: \n",
 }
+LETTERS = {"+STR": "", "-STR": "", "+DOC": "d", "+DOC ---": "D", "-DOC": "e", "-DOC ...": "E", "-SEQ": "]", "-MAP": "}"}
+STARTS = {"+SEQ": "S", "+SEQ []": "[", "+MAP": "M", "+MAP {}": "{", "=VAL": "=", "=ALI": ""}
+LINE = re.compile(r"(\+SEQ \[\]|\+SEQ|\+MAP \{\}|\+MAP|=VAL|=ALI)( &\S+)?( <[^>]*>)?(?: (.)(.*))?")
+STAND_FOR = {"n": "\n", "t": "\t", "r": "\r", "b": "\b"}
 
 
 def shown(text):
     return text.replace("\n", "$")
 
 
-def properties(anchor, tag):
-    return ("" if anchor is None else "&" + anchor + ";") + ("" if tag is None else "<%s>" % (tag if isinstance(tag, str) else tag[1]))
+def letter(line):
+    """A line of an event text as it is listed."""
+    if line in LETTERS:
+        return LETTERS[line]
+    kind, anchor, tag, style, value = LINE.fullmatch(line).groups("")
+    found = STARTS[kind] + (anchor.strip() and anchor.strip() + ";") + tag.strip()
+    if style:
+        found += style.replace(":", "") + shown(re.sub(r"\\(.)", lambda at: STAND_FOR.get(at[1], at[1]), value)) + ";"
+    return found
 
 
-def letter(event):
-    kind = event[0]
-    if kind in ("+STR", "-STR"):
-        return ""
-    if kind == "=VAL":
-        return "=" + properties(event[1], event[2]) + event[3].replace(":", "") + shown(event[4]) + ";"
-    if kind == "=ALI":
-        return "*" + event[1] + ";"
-    if kind == "+DOC":
-        return "D" if event[1] else "d"
-    if kind == "-DOC":
-        return "E" if event[1] else "e"
-    if kind == "+SEQ":
-        return ("[" if event[1] else "S") + properties(event[2], event[3])
-    if kind == "+MAP":
-        return ("{" if event[1] else "M") + properties(event[2], event[3])
-    return {"-SEQ": "]", "-MAP": "}"}[kind]
+def letters(events):
+    return "".join(map(letter, events.split("\n")[:-1]))
 
 
-def texts(alphabet):
-    for size in range(6):
-        for codes in itertools.product(ALPHABETS[alphabet], repeat=size):
-            yield "".join(codes)
+def texts(alphabet, longest=5):
+    return shadow.short_texts(ALPHABETS[alphabet], longest)
 
 
-def list_readings(alphabet, part, parts):
-    for text in itertools.islice(texts(alphabet), part, None, parts):
-        lists = shadow.event_lists(text, True, 1024)
-        if len(lists) > 1:
-            sys.exit("two readings: %r" % text)
-        for events in lists:
-            print("%s\t%s" % (shown(text), "".join(map(letter, events))))
+def stored(alphabet):
+    """The events of each text that the stored list has."""
+    with gzip.open(f"{shadow.HERE}/short_readings/{alphabet}.txt.gz", "rt", newline="\n") as file:
+        return dict(line.rstrip("\n").split("\t", 1) for line in file)
 
 
 def main(words=None):
@@ -72,7 +66,12 @@ def main(words=None):
     given.add_argument("part", nargs="?", type=int, default=0, metavar="PART")
     given.add_argument("parts", nargs="?", type=int, default=1, metavar="PARTS")
     asked = given.parse_args(words)
-    list_readings(asked.alphabet, asked.part, asked.parts)
+    for text in itertools.islice(texts(asked.alphabet), asked.part, None, asked.parts):
+        found = shadow.event_texts(text, True, 1024)
+        if len(found) > 1:
+            sys.exit("two readings: %r" % text)
+        for events in found:
+            print("%s\t%s" % (shown(text), letters(events)))
 
 
 if __name__ == "__main__":

@@ -7,9 +7,8 @@ import unittest
 from unittest import mock
 
 from scripts import load
-from lib.cases import fronts, table, texts, writing
-from lib.examples import cases, room
-from lib.examples.checked import Checked
+from lib.cases import running, table, texts, writing
+from lib.examples import room
 from lib.paths import read, write
 
 EXAMPLES = load("tools/examples")
@@ -134,8 +133,8 @@ class WithAProgram(unittest.TestCase):
     def found(self, program, text):
         """How many cases were run, and what is wrong."""
         self.put(program, text)
-        checked = Checked("cases")
-        cases.check(checked, None, self.folder)
+        checked = room.Checked("cases")
+        running.check(checked, None, self.folder)
         return checked.count, checked.wrong
 
 
@@ -183,7 +182,7 @@ class Streams(WithAProgram):
 
     def test_fronts_without_an_answer(self):
         self.assertEqual(len(self.found(READER, STREAMS.replace('input = "b"', 'input = "é"'))[1]), 1)
-        self.assertEqual(fronts.fronts_of([b"ab", b"ac", b"x" * 5000]), [b"", b"a"])
+        self.assertEqual(running.fronts_of([b"ab", b"ac", b"x" * 5000]), [b"", b"a"])
 
 
 class Repository(unittest.TestCase):

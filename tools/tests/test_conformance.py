@@ -6,6 +6,7 @@ import unittest
 from unittest import mock
 
 from scripts import load, run
+from lib import trial
 from lib.form import companion, files, suite
 from lib.form.scalars import scalars
 
@@ -25,17 +26,11 @@ class Suite(unittest.TestCase):
         folder = tempfile.TemporaryDirectory()
         self.addCleanup(folder.cleanup)
         self.place, self.program = f"{folder.name}/suite", f"{folder.name}/fake"
-        self.put(self.program, FAKE.encode())
+        trial.put(folder.name, {"fake": FAKE})
         os.chmod(self.program, 0o755)
 
-    def put(self, path, content):
-        os.makedirs(os.path.dirname(path), exist_ok=True)
-        with open(path, "wb") as file:
-            file.write(content)
-
     def case(self, name, text, events=None):
-        self.put(f"{self.place}/{name}/in.yaml", text)
-        self.put(f"{self.place}/{name}/{'error' if events is None else 'test.event'}", events or b"")
+        trial.put(self.place, {f"{name}/in.yaml": text, f"{name}/{'error' if events is None else 'test.event'}": events or b""})
 
     def kind(self, text, **files):
         return suite.sorted_case(self.program, {"in.yaml": text, **{name.replace("_", "."): it for name, it in files.items()}})[0]
@@ -104,16 +99,10 @@ class Files(unittest.TestCase):
 
 class Arguments(unittest.TestCase):
     def test_arguments_that_are_wrong(self):
+        wrong = ["", "vector", "suite", "suite /no/such/place", "vectors /no/such/program", "vectors --add --release"]
         with mock.patch.dict(os.environ, YAML_TEST_SUITE=""):
-            for words in (
-                [],
-                ["vector"],
-                ["suite"],
-                ["suite", "/no/such/place"],
-                ["vectors", "/no/such/program"],
-                ["vectors", "--add", "--release"],
-            ):
-                self.assertEqual(run(CONFORMANCE.main, *words)[0], 2, words)
+            for words in wrong:
+                self.assertEqual(run(CONFORMANCE.main, *words.split())[0], 2, words)
             self.assertEqual(run(CONFORMANCE.main, "suite", "--gate")[0], 0)
 
 

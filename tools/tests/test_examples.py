@@ -5,8 +5,8 @@ import unittest
 from unittest import mock
 
 from scripts import load, run
-from lib.examples import form, guide, programs, room, sessions, tables
-from lib.examples.checked import Checked
+from lib.examples import pages, programs, room
+from lib.examples.room import Checked
 
 EXAMPLES = load("tools/examples")
 # A program that accepts `a` and its text, and rejects everything else.
@@ -120,53 +120,53 @@ class Programs(WithAProgram):
 
 class Pages(WithAProgram):
     def test_rows_that_are_right(self):
-        tables.try_row("a", '--- "a"', self.checked)
-        tables.try_row("b: c: d", "4 Syntax at byte 1", self.checked)
+        pages.try_row("a", '--- "a"', self.checked)
+        pages.try_row("b: c: d", "4 Syntax at byte 1", self.checked)
         self.assertEqual(self.found(), (2, 0))
 
     def test_rows_that_are_wrong(self):
         for text, wanted in (("a", '--- "b"'), ("a", "4 Syntax at byte 1"), ("b", "4 Syntax at byte 10"), ("b", '--- "b"')):
-            tables.try_row(text, wanted, self.checked)
+            pages.try_row(text, wanted, self.checked)
         self.assertEqual(self.found(), (4, 4))
 
     def test_page_without_its_tables(self):
-        with mock.patch.object(tables, "read", return_value="| a | b |\n"):
-            tables.check(self.checked, None)
+        with mock.patch.object(pages, "read", return_value="| a | b |\n"):
+            pages.check_tables(self.checked, None)
         self.assertEqual(self.found(), (0, 3))
 
     def test_section(self):
-        self.assertEqual(guide.try_section(SECTION, "One", self.checked), SECTION)
+        self.assertEqual(pages.try_section(SECTION, "One", self.checked), SECTION)
         self.assertEqual(self.found(), (1, 0))
 
     def test_section_that_prints_something_else(self):
-        self.assertEqual(guide.try_section(SECTION.replace("text\none", "text 1\ntwo"), "One", self.checked), SECTION)
+        self.assertEqual(pages.try_section(SECTION.replace("text\none", "text 1\ntwo"), "One", self.checked), SECTION)
         self.assertEqual(self.found(), (1, 1))
 
     def test_block_that_fails_in_silence(self):
-        guide.try_section(SECTION + "```sh\nexit 9\n```\n", "One", self.checked)
+        pages.try_section(SECTION + "```sh\nexit 9\n```\n", "One", self.checked)
         self.assertEqual(self.found(), (2, 1))
 
     def test_block_whose_program_is_not_installed(self):
-        guide.try_section("## One\n```sh needs=no-such-program\nexit 1\n```\n```text\nx\n```\n", "One", self.checked)
+        pages.try_section("## One\n```sh needs=no-such-program\nexit 1\n```\n```text\nx\n```\n", "One", self.checked)
         self.assertEqual((len(self.checked.left_out), self.found()), (1, (0, 0)))
 
     def test_command_of_a_page(self):
         page = "Text:\n\n    $ echo one\n    two\n\nMore text.\n"
         os.mkdir(f"{self.folder}/room")
-        written = sessions.try_session(page, room.Room(f"{self.folder}/room"), self.checked)
+        written = pages.try_session(page, room.Room(f"{self.folder}/room"), self.checked)
         self.assertEqual((written, self.found()), (page.replace("two", "one"), (1, 1)))
 
     def test_examples_of_the_form(self):
         page = '# Title\n**`one`.** Text.\n```\n< a\n> --- "a"\n```\n'
-        form.try_examples(page, self.checked)
+        pages.try_rules(page, self.checked)
         self.assertEqual(self.found(), (2, 0))
-        form.try_examples(page.replace("< a", "< b"), self.checked)
+        pages.try_rules(page.replace("< a", "< b"), self.checked)
         self.assertEqual(self.found(), (1, 1))
-        form.try_examples(page + "**`two`.** No example.\n", self.checked)
+        pages.try_rules(page + "**`two`.** No example.\n", self.checked)
         self.assertEqual(self.found(), (2, 1))
 
     def test_paths_of_the_form(self):
-        form.try_paths("`crates/yaml_definitions/specs/model/Order.antt` (`trees_cmp`) and `Nothing.antt`", self.checked)
+        pages.try_paths("`crates/yaml_definitions/specs/model/Order.antt` (`trees_cmp`) and `Nothing.antt`", self.checked)
         self.assertEqual(self.found(), (3, 1))
 
 

@@ -5,6 +5,7 @@ import unittest
 from unittest import mock
 
 from scripts import load
+from lib.trial import put
 
 large = load("tools/large")
 
@@ -40,20 +41,15 @@ class Large(unittest.TestCase):
     def setUp(self):
         folder = tempfile.TemporaryDirectory()
         self.addCleanup(folder.cleanup)
-        self.folder = folder.name
-        self.program = f"{self.folder}/program"
-        with open(self.program, "w", encoding="utf-8") as file:
-            file.write(PROGRAM)
+        self.folder, self.program = folder.name, f"{folder.name}/program"
+        put(self.folder, {"program": PROGRAM})
         os.chmod(self.program, 0o755)
 
     def wrong(self, part, answers, given=None):
         """What a part reports of a program that gives these answers."""
         for words, (status, output, error) in answers.items():
-            folder = f"{self.folder}/answers/{words}"
-            os.makedirs(folder, exist_ok=True)
-            for name, text in (("status", f"{status}\n"), ("output", output), ("error", error)):
-                with open(f"{folder}/{name}", "w", encoding="latin-1") as file:
-                    file.write(text)
+            texts = {"status": f"{status}\n", "output": output.encode("latin-1"), "error": error.encode("latin-1")}
+            put(f"{self.folder}/answers/{words}", texts)
         checks = large.Checks(self.folder, self.program, self.program)
         large.PARTS[part](checks, given or few())
         return checks.wrong

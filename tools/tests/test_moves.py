@@ -15,6 +15,8 @@ LINES = [
     ("right", [(0, 0), (None, 2)], None, "new"),
     ("moved", [(0, 0), (2, 0)], None, None),
 ]
+ONE_SIDE = {"kind": "left", "path": "[1]", "left": '"x"', "right": None, "left_value": "x"}
+ONE_SIDE["steps"] = [{"left": 0, "right": 0}, {"left": 1}]
 
 
 def both(lines):
@@ -47,30 +49,13 @@ class Moves(unittest.TestCase):
         line = {"kind": "changed", "path": ".a[0:1]", "left": '"x"', "right": '["y"]', "left_value": "x", "right_value": ["y"]}
         line["steps"] = [{"left": 0, "right": 0}, "a", {"left": 0, "right": 1}]
         self.assertEqual(moves.read(line), ("changed", [(0, 0), "a", (0, 1)], "x", ["y"]))
-        one_side = {
-            "kind": "left",
-            "path": "[1]",
-            "left": '"x"',
-            "right": None,
-            "left_value": "x",
-            "steps": [{"left": 0, "right": 0}, {"left": 1}],
-        }
-        self.assertEqual(moves.read(one_side), ("left", [(0, 0), (1, None)], "x", None))
+        self.assertEqual(moves.read(ONE_SIDE), ("left", [(0, 0), (1, None)], "x", None))
 
     def test_line_that_says_two_things(self):
-        line = {
-            "kind": "left",
-            "path": "[1]",
-            "left": '"x"',
-            "right": None,
-            "left_value": "x",
-            "steps": [{"left": 0, "right": 0}, {"left": 1}],
-        }
         wrong = [{"steps": [{"left": 0, "right": 0}, {"right": 1}]}, {"steps": [{"left": 1}]}, {"left_value": "y"}, {"right_value": None}]
         for part in wrong:
-            with self.subTest(part):
-                with self.assertRaises(moves.Bad):
-                    moves.read({**line, **part})
+            with self.subTest(part), self.assertRaises(moves.Bad):
+                moves.read({**ONE_SIDE, **part})
 
 
 def stream(value, **more):

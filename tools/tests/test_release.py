@@ -1,11 +1,13 @@
-"""What tools/release takes as the run of CI on which packages rest, and what it says of sums that are wrong."""
+"""What tools/release takes as the run of CI on which packages rest, what it says of sums that are wrong, and links to what is not packed."""
 import os
 import tempfile
 import unittest
 from unittest import mock
 
-from scripts import load, run
+from scripts import load, run, write
 from lib.packing import rests, trial
+from lib.packing.base import mend, without_dead_links
+from lib.paths import read
 
 RELEASE = load("tools/release")
 COMMIT = "0123456789" * 4
@@ -94,6 +96,27 @@ class Sums(unittest.TestCase):
             self.assertFalse(run(lambda _, done=done: trial.hold("it", done, 0, "said"))[0])
         self.assertTrue(run(lambda _: trial.hold("it", (0, "it said"), 0, "said"))[0])
         self.assertEqual(len(trial.WRONG), 2)
+
+
+class Links(unittest.TestCase):
+    def shown(self, text):
+        return without_dead_links(text, "docs/PAGE.md", {"README.md", "docs/using/GUIDE.md", "examples/service.yaml"})
+
+    def test_a_link_to_a_packed_file_or_folder_stays(self):
+        links = ("guide](using/GUIDE.md#diff", "`all`](../examples", "top](../README.md", "web](https://yaml.org/", "here](#diff")
+        for text in (f"[{it})" for it in links):
+            self.assertEqual(self.shown(text), text)
+
+    def test_another_link_is_only_its_words(self):
+        text = "See [`lib.rt`](../crates/yaml_read/src/lib.rt#L3), [a [b] c](../bench) and [guide](using/GUIDE.md)."
+        self.assertEqual(self.shown(text), "See `lib.rt`, a [b] c and [guide](using/GUIDE.md).")
+
+    def test_what_is_not_packed_counts_as_lacking(self):
+        with tempfile.TemporaryDirectory() as top:
+            write(top, A="[b](B.md) [c](C.md)", B="[a](A.md)", C="[b](B.md) [d](D.md)")
+            mend(top, ("A.md", "B.md"))
+            texts = [read(f"{top}/{name}.md") for name in "ABC"]
+        self.assertEqual(texts, ["[b](B.md) c", "[a](A.md)", "[b](B.md) [d](D.md)"])
 
 
 class Arguments(unittest.TestCase):

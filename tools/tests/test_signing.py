@@ -10,8 +10,8 @@ import unittest
 from unittest import mock
 
 from scripts import TOP, load, run
-from lib.signing import of_files, of_folders, of_signing, room, trial
-from lib.signing.room import APP, VERIFY, Base
+from lib import signing
+from lib.signing import APP, VERIFY, Room
 
 TOOL = load("tools/signing")
 YAMLCANON = """\
@@ -81,19 +81,19 @@ class Signing(unittest.TestCase):
         cls.folder = folder.name
         for name, text in (("yamlcanon", YAMLCANON), ("yamlreview", YAMLREVIEW.replace("YAMLCANON", f"{cls.folder}/yamlcanon"))):
             write(f"{cls.folder}/{name}", text)
-            patch = mock.patch.dict(room.PROGRAMS, {name: f"{cls.folder}/{name}"})
+            patch = mock.patch.dict(signing.PROGRAMS, {name: f"{cls.folder}/{name}"})
             patch.start()
             cls.addClassCleanup(patch.stop)
         os.mkdir(f"{cls.folder}/base")
-        cls.base = Base(f"{cls.folder}/base")
-        cls.attacks = dict(TOOL.named())
+        cls.base = Room(f"{cls.folder}/base").furnish()
+        cls.attacks = {it.name: it for it in signing.attacks()}
 
     def found(self, name, shape="command", shell="sh"):
         """What is found of an attack."""
         attack = self.attacks[name]
-        if attack.text == room.APP_TEXT:
+        if attack.text == signing.APP_TEXT:
             attack = dataclasses.replace(attack, text=APP_TEXT)
-        return list(trial.faults(self.base, attack, shell, shape, False))
+        return signing.faults(self.base, attack, shell, shape, False)
 
     def test_right_program(self):
         names = ("the file as it was signed", "a forged file", "a signal TERM", "PATH is '--help'", "the output is a folder")
@@ -112,14 +112,14 @@ class Signing(unittest.TestCase):
             os.mkdir(folder)
             write(f"{folder}/{VERIFY}", text)
             seconds = 3 if "not end" in said else 60
-            with mock.patch.object(room, "SIGNING", folder), mock.patch.object(trial, "MOST_SECONDS", seconds), self.subTest(what):
+            with mock.patch.multiple(signing, SIGNING=folder, MOST_SECONDS=seconds), self.subTest(what):
                 self.assertIn(said, "\n".join(self.found(name)))
 
     def test_recipe_that_rests_on_errexit(self):
         def call(place, *_):
             return RECIPE % {"out": place.out, "keys": place.keys}
 
-        with mock.patch.object(room.Room, "call", call):
+        with mock.patch.object(signing.Room, "call", call):
             self.assertEqual(self.found("file: the file as it was signed"), [])
             self.assertNotIn("takes it as verified", "".join(self.found("file: a forged file")))
             for shape in ("if", "and", "or", "not", "function"):
@@ -132,10 +132,11 @@ class Arguments(unittest.TestCase):
 
     def test_names(self):
         """No two attacks on one thing have one name, so that each can be tried alone."""
-        names = [name for name, _ in TOOL.named()]
+        names = [it.name for it in signing.attacks()]
         self.assertEqual(len(names), len(set(names)))
-        for module in (of_files, of_folders, of_signing):
-            self.assertTrue(any(it.in_all_ways for it in module.attacks()))
+        self.assertGreater(len(names), 200)
+        for what in ("file", "folder", "sign"):
+            self.assertTrue(any(it.in_all_ways for it in signing.attacks() if it.name.startswith(what)))
 
 
 if __name__ == "__main__":

@@ -4,6 +4,7 @@ import tempfile
 import unittest
 
 from scripts import load
+from lib.trial import put
 
 sums = load("tools/sums")
 
@@ -29,8 +30,7 @@ class Sums(unittest.TestCase):
 
     def fault(self, changed, name, *options):
         program = f"{self.room}/program"
-        with open(program, "w", encoding="utf-8") as file:
-            file.write(TOLD % changed)
+        put(self.room, {"program": TOLD % changed})
         os.chmod(program, 0o755)
         return sums.fault(program, self.room, self.numbers[name], options)
 
@@ -43,7 +43,7 @@ class Sums(unittest.TestCase):
         self.assertIsNone(self.fault("s/1/3/", "all of it", "--status"))
 
     def test_digests(self):
-        self.assertEqual(sums.filled(b"%A %UA"), sums.A + b" " + sums.A.upper())
+        self.assertEqual(sums.filled("%A %UA"), sums.A + b" " + sums.A.upper())
 
 
 if __name__ == "__main__":

@@ -36,7 +36,11 @@ def part(text):
 def run(*words, out=None, may_end=(0,), **how):
     """A command, which has to end well. Gives its output; where that goes to a file, what it says on standard error."""
     streams = {"stdout": out, "stderr": subprocess.PIPE} if out else {"stdout": subprocess.PIPE, "stderr": subprocess.STDOUT}
-    done = subprocess.run(words, check=False, **streams, **how)
+    try:
+        done = subprocess.run(words, check=False, **streams, **how)
+    except OSError as fault:
+        wrong("%s: %s" % (" ".join(words), fault))
+        return ""
     told = (done.stderr if out else done.stdout).decode(errors="replace")
     if done.returncode not in may_end:
         wrong("%s: status %d\n%s" % (" ".join(words), done.returncode, told))

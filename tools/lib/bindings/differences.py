@@ -12,11 +12,10 @@ import subprocess
 
 from lib.form.lines import vectors
 from lib.form.made import stream
-from lib.paths import TOP
+from lib.paths import REVIEW
 from .base import changed, say, wrong
 
 MADE, SEED, LINES, LONG = 500, 2, (1000, 2), 100_000
-REVIEW = TOP + "/crates/yaml_review/out/yaml_review"
 
 
 def pairs():

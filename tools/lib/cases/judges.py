@@ -17,50 +17,20 @@ def difference(what, wanted, given):
     return "".join(f"  {line[:COLUMNS]}\n" for line in list(lines)[:LINES])
 
 
-def in_order(parts):
-    """Judges whether an output has these texts, each behind the one before."""
-
-    def judge(output):
-        at = 0
-        for part in parts:
-            found = output.find(part, at)
-            if found < 0:
-                return f"  {part.decode()!r} is not in the output, or not behind what is before it\n" + difference("output", b"", output)
-            at = found + len(part)
-        return ""
-
-    return judge
-
-
-def without(texts):
-    """Judges whether an output has none of these texts."""
-    return lambda output: "".join(f"  {text.decode()!r} is in the output\n" for text in texts if text in output)
-
-
-def beginning(text):
-    """Judges whether an output begins with this text."""
-    return lambda output: "" if output.startswith(text) else difference("beginning", text, output)
-
-
-def with_hint(hint):
-    """Judges whether the first line of an output ends with this hint."""
-
-    def judge(output):
-        line = output.split(b"\n")[0]
-        return "" if line.endswith(b": " + hint) else difference("hint", b".. : " + hint, line)
-
-    return judge
-
-
-def judge_of(block):
-    """What judges the output of a case that does not give it whole; or None."""
-    judges = []
-    if "begins" in block:
-        judges.append(beginning(whole(block["begins"])))
-    if "has" in block:
-        judges.append(in_order([whole(text) for text in block["has"]]))
-    if "lacks" in block:
-        judges.append(without([whole(text) for text in block["lacks"]]))
-    if "hint" in block:
-        judges.append(with_hint(block["hint"].encode()))
-    return (lambda output: "".join(judge(output) for judge in judges)) if judges else None
+def judged(block, output):
+    """What is wrong with an output: whether it begins with a text, has some, each behind the one before, has none of others, and whether
+    its first line ends with a hint."""
+    told, at = "", 0
+    begins, line = whole(block.get("begins", "")), output.split(b"\n")[0]
+    if not output.startswith(begins):
+        told += difference("beginning", begins, output)
+    for part in map(whole, block.get("has", [])):
+        found = output.find(part, at)
+        if found < 0:
+            told += f"  {part.decode()!r} is not in the output, or not behind what is before it\n" + difference("output", b"", output)
+            break
+        at = found + len(part)
+    told += "".join(f"  {text.decode()!r} is in the output\n" for text in map(whole, block.get("lacks", [])) if text in output)
+    if "hint" in block and not line.endswith(b": " + block["hint"].encode()):
+        told += difference("hint", b".. : " + block["hint"].encode(), line)
+    return told

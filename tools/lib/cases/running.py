@@ -1,4 +1,4 @@
-"""Runs of cases: each in a folder of its own, as many at a time as there are processors."""
+"""Runs of cases, each in a folder of its own, as many at a time as there are processors; and runs over every front of an input."""
 import concurrent.futures
 import functools
 import os
@@ -7,7 +7,13 @@ import subprocess
 import tempfile
 
 from lib.cases.judges import difference
+from lib.cases.table import FOLDER, RUN, NoCase, cases_of, paths, streams_with_fronts
 from lib.examples.room import PROGRAMS
+
+# A front is tried of inputs of so many bytes at most. Of an input of more than FEW bytes, which is made of one piece many times, only each
+# STEPth front is tried but for those at its ENDS.
+LONGEST, FEW, ENDS, STEP = 4096, 512, 128, 16
+FAULT = re.compile(rb"yaml: (\d+) [^\n]*\n")
 
 
 def put(folder, run):
@@ -22,14 +28,8 @@ def put(folder, run):
 
 
 def ran_in(folder, run):
-    return subprocess.run(
-        [PROGRAMS[run.program], *run.words],
-        input=run.input,
-        cwd=folder,
-        env={"HOME": folder, "LC_ALL": "C.UTF-8", **run.environment},
-        capture_output=True,
-        check=False,
-    )
+    env = {"HOME": folder, "LC_ALL": "C.UTF-8", **run.environment}
+    return subprocess.run([PROGRAMS[run.program], *run.words], input=run.input, cwd=folder, env=env, capture_output=True, check=False)
 
 
 @functools.cache
@@ -75,5 +75,62 @@ def fault_of(case):
 
 def each(call, given):
     """What a call answers to each of what is given, in order."""
+    empty()  # before the threads begin, which would make one each
     with concurrent.futures.ThreadPoolExecutor(len(os.sched_getaffinity(0))) as pool:
         yield from pool.map(call, given)
+
+
+def cuts(length):
+    """Where an input of so many bytes is cut."""
+    return range(length) if length <= FEW else [*range(ENDS), *range(ENDS, length - ENDS, STEP), *range(length - ENDS, length)]
+
+
+def fronts_of(inputs):
+    """The fronts of inputs that are not too long, each once, the shortest first."""
+    found = {source[:cut] for source in inputs if len(source) <= LONGEST for cut in cuts(len(source))}
+    return sorted(found, key=lambda front: (len(front), front))
+
+
+def answer(word, source):
+    """The status of a command over an input, with its output, or its error."""
+    given = ran(RUN._replace(words=[word], input=source))
+    return given.returncode, given.stdout, given.stderr
+
+
+def cut_at(front):
+    """Where the character begins that a front cuts, or None."""
+    try:
+        front.decode()
+    except UnicodeDecodeError as error:
+        return error.start
+    return None
+
+
+def fault_of_front(front):
+    """What is wrong with the answers to a front, or nothing: it has a canonical text, which is its own, or a numbered fault, which is that of
+    reading where the front is not read. A front that cuts a character is no UTF-8 from that character on."""
+    status, text, error = answer(b"canon", front)
+    reading, start = answer(b"events", front), cut_at(front)
+    if start is not None:
+        is_right = (status, text, error) == reading == (2, b"", b"yaml: 2 NotUtf8 at byte %d\n" % start)
+    elif status == 0:
+        is_right = reading[0] == 0 and answer(b"canon", text) == (0, text, b"")
+    else:
+        found = FAULT.fullmatch(error)
+        number = int(found[1]) if found else 0
+        is_unread = 3 <= number < 12 and reading == (2, b"", error)
+        is_right = status == 2 and not text and (is_unread or (12 <= number <= 19 and reading[0] == 0))
+    return "" if is_right else f"front {front!r}: status {status}, {text!r}, {error!r}; read: {reading!r}"
+
+
+def check(checked, _, folder=FOLDER):
+    """Runs all cases, and the fronts of those files that ask for it."""
+    try:
+        found = paths(folder)
+        cases = [case for path in found for case in cases_of(path)]
+        fronts = fronts_of([source for path in found for source in streams_with_fronts(path)])
+    except NoCase as error:
+        checked.wrong.append(str(error))
+        return
+    for fault in (*each(fault_of, cases), *each(fault_of_front, fronts)):
+        checked.want(not fault, fault)

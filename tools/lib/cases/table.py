@@ -1,11 +1,12 @@
 """The cases of the files of tools/data/cases, and the runs of each."""
 import collections
+import functools
 import glob
 import os
 import re
 import tomllib
 
-from lib.cases.judges import judge_of
+from lib.cases.judges import judged
 from lib.cases.texts import named, whole
 from lib.paths import DATA
 
@@ -39,7 +40,7 @@ def case_runs(block):
     unknown = set(block) - CASE - PARTS
     if unknown or "words" not in block:
         raise NoCase(f"a case has no key {min(unknown)}" if unknown else "a case needs words")
-    judge = judge_of(block)
+    judge = functools.partial(judged, block) if PARTS & set(block) else None
     return [
         Run(
             block.get("program", "yamlcanon"),

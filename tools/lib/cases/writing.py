@@ -4,7 +4,7 @@ import re
 import sys
 
 from lib.cases.running import each, faults_of, ran
-from lib.cases.table import cases_of, table_of
+from lib.cases.table import FOLDER, cases_of, paths, table_of
 from lib.cases.texts import spelled
 from lib.paths import read, write
 
@@ -70,3 +70,8 @@ def write_file(path):
         write(path, text)
         sys.stdout.writelines(difflib.unified_diff(before.splitlines(True), text.splitlines(True), path, path, n=2))
     return text != before
+
+
+def renew(folder=FOLDER):
+    """Writes what the programs print into the cases of `[[case]]`; whether anything is changed."""
+    return any([write_file(path) for path in paths(folder)])

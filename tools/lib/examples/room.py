@@ -1,14 +1,29 @@
-"""Where commands of a page are run: the programs on the path, and no settings of the user's."""
+"""What was found of a page of examples, and where commands of a page are run: the programs on the path, and no settings of the user's."""
 import os
 import shutil
 import subprocess
 
-from lib.paths import EXAMPLES, PROGRAM, REVIEW, TOP
+from lib.paths import EXAMPLES, PROGRAM, REVIEW, TOP, write
 
 PROGRAMS = {"yamlcanon": PROGRAM, "yamlreview": REVIEW}
 SIGNING = ("yamlreview-sign", "yamlreview-verify")
 ADDRESS = "https://example.org/yamlcanon"
 SETTINGS = "[user]\n\tname = you\n\temail = you@example.org\n[init]\n\tdefaultBranch = main\n"
+
+
+class Checked:
+    """The examples of one page: how many were run, which ended otherwise, and what was left out. `text` is the page with what its
+    examples printed, if they print into it."""
+
+    def __init__(self, page):
+        self.page, self.count, self.wrong, self.left_out, self.text = page, 0, [], [], None
+
+    def want(self, is_so, what):
+        """Counts an example, and notes what it did if that is not as it should be; whether it is."""
+        self.count += 1
+        if not is_so:
+            self.wrong.append(what)
+        return is_so
 
 
 def is_there(program):
@@ -21,22 +36,12 @@ def is_there(program):
 def environment(folder):
     """An environment with the programs in `bin` of a folder, which is the home of a user `you`."""
     os.mkdir(f"{folder}/bin")
-    for name, path in PROGRAMS.items():
-        if os.access(path, os.X_OK):
-            os.symlink(os.path.realpath(path), f"{folder}/bin/{name}")
-    for name in SIGNING:
-        os.symlink(f"{TOP}/packages/signing/yamlreview-sign", f"{folder}/bin/{name}")
-    with open(f"{folder}/.gitconfig", "w", encoding="utf-8") as file:
-        file.write(SETTINGS)
-    return {
-        "PATH": f"{folder}/bin:{os.environ['PATH']}",
-        "HOME": folder,
-        "LC_ALL": "C.UTF-8",
-        "TERM": "dumb",
-        "PRE_COMMIT_HOME": f"{folder}/kept",
-        "PRE_COMMIT_COLOR": "never",
-        "GIT_CONFIG_NOSYSTEM": "1",
-    }
+    paths = {name: os.path.realpath(path) for name, path in PROGRAMS.items() if os.access(path, os.X_OK)}
+    for name, path in {**paths, **dict.fromkeys(SIGNING, f"{TOP}/packages/signing/yamlreview-sign")}.items():
+        os.symlink(path, f"{folder}/bin/{name}")
+    write(f"{folder}/.gitconfig", SETTINGS)
+    git = {"GIT_CONFIG_NOSYSTEM": "1", "PRE_COMMIT_HOME": f"{folder}/kept", "PRE_COMMIT_COLOR": "never"}
+    return {"PATH": f"{folder}/bin:{os.environ['PATH']}", "HOME": folder, "LC_ALL": "C.UTF-8", "TERM": "dumb", **git}
 
 
 class Room:
@@ -44,27 +49,27 @@ class Room:
 
     def __init__(self, folder):
         self.here, self.hooks, self.env = f"{folder}/here", f"{folder}/hooks", environment(folder)
-        for place in (self.here, self.hooks):
+        for place, names in (
+            (self.here, ("examples/service.yaml", "examples/service_as_json.yaml")),
+            (self.hooks, (".pre-commit-hooks.yaml",)),
+        ):
             os.mkdir(place)
-        for name in ("service.yaml", "service_as_json.yaml"):
-            shutil.copy(f"{EXAMPLES}/{name}", self.here)
-        shutil.copy(f"{TOP}/.pre-commit-hooks.yaml", self.hooks)
+            for name in names:
+                shutil.copy(f"{TOP}/{name}", place)
         for place in (self.here, self.hooks):
             self.run(f"git init -q {place} && cd {place} && git add . && git commit -q -m first && git tag TAG")
 
     def run(self, text):
         """The status of what a shell was given, and all that was printed."""
-        ran = subprocess.run(
-            ["sh", "-c", text],
-            cwd=self.here,
-            env=self.env,
-            stdin=subprocess.DEVNULL,
-            stdout=subprocess.PIPE,
-            stderr=subprocess.STDOUT,
-            check=False,
-        )
+        streams = {"stdin": subprocess.DEVNULL, "stdout": subprocess.PIPE, "stderr": subprocess.STDOUT}
+        ran = subprocess.run(["sh", "-c", text], cwd=self.here, env=self.env, check=False, **streams)
         return ran.returncode, ran.stdout.decode("utf-8", "replace").replace(self.hooks, ADDRESS)
 
     def put(self, name, text):
-        with open(f"{self.here}/{name}", "w", encoding="utf-8") as file:
-            file.write(text.replace(ADDRESS, self.hooks))
+        write(f"{self.here}/{name}", text.replace(ADDRESS, self.hooks))
+
+
+def copied_examples(room):
+    """Puts examples/ and a launcher next to where commands are run."""
+    shutil.copytree(EXAMPLES, f"{room.here}/examples")
+    os.symlink(f"{room.env['HOME']}/bin/yamlcanon", f"{room.here}/yamlcanon")

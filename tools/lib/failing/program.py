@@ -1,7 +1,8 @@
 """program.py: many runs of the built program, each with one of its calls failing, without starting it anew (shim.c).
 
     with Program(path) as program:
-        got = program.run(['canon'], stdin=b'a', kind='m', at=3)
+        program.give("in", b"a")
+        got = program.run(["canon"], kind="memory", at=3)
         got.status, got.out, got.err, got.calls
 
 A status below zero is a signal. Files stand in a folder of their own, in which the program runs. Needs cc.
@@ -18,25 +19,17 @@ JOBS, ANSWERS = 198, 199
 JOB, ANSWER = struct.Struct("=IIIIQQcBB5x"), struct.Struct("=iIQQ")
 KINDS = {"memory": b"m", "read": b"r", "write": b"w", "open": b"o", None: b"\0"}
 
-# how a run ended: its status, standard output and error, how many calls of the kind it made, its peak in kB, its seconds
-Got = collections.namedtuple("Got", "status out err calls peak seconds")
-
-
-def memory_folder():
-    return "/dev/shm" if os.path.isdir("/dev/shm") else None
+# how a run ended: its status, standard output and error, and how many calls of the kind it made
+Got = collections.namedtuple("Got", "status out err calls")
 
 
 class Program:
     def __init__(self, path):
-        self.top = tempfile.mkdtemp(dir=memory_folder())
-        self.room = os.path.join(self.top, "room")
+        self.top = tempfile.mkdtemp(dir="/dev/shm" if os.path.isdir("/dev/shm") else None)
+        self.room, shim = f"{self.top}/room", f"{self.top}/shim.so"
         os.mkdir(self.room)
-        shim = os.path.join(self.top, "shim.so")
-        subprocess.check_call(["cc", "-O2", "-shared", "-fPIC", "-o", shim, os.path.join(HERE, "shim.c"), "-ldl"])
-        self.streams = {name: os.open(os.path.join(self.room, name), os.O_RDWR | os.O_CREAT) for name in ("in", "out", "err")}
-        self.process = self.start(os.path.abspath(path), shim)
-
-    def start(self, path, shim):
+        subprocess.check_call(["cc", "-O2", "-shared", "-fPIC", "-o", shim, f"{HERE}/shim.c", "-ldl"])
+        self.streams = {name: os.open(f"{self.room}/{name}", os.O_RDWR | os.O_CREAT) for name in ("in", "out", "err")}
         jobs, self.jobs = os.pipe()
         self.answers, answers = os.pipe()
 
@@ -44,12 +37,10 @@ class Program:
             os.dup2(jobs, JOBS)
             os.dup2(answers, ANSWERS)
 
-        process = subprocess.Popen(
-            [path], env={"LD_PRELOAD": shim, "FAILING_ROOM": self.room}, preexec_fn=move, close_fds=False, stdin=subprocess.DEVNULL
-        )
+        env = {"LD_PRELOAD": shim, "FAILING_ROOM": self.room}
+        self.process = subprocess.Popen([os.path.abspath(path)], env=env, preexec_fn=move, close_fds=False, stdin=subprocess.DEVNULL)
         os.close(jobs)
         os.close(answers)
-        return process
 
     def __enter__(self):
         return self
@@ -57,20 +48,18 @@ class Program:
     def __exit__(self, *_):
         os.close(self.jobs)
         self.process.wait()
-        for stream in self.streams.values():
+        for stream in (*self.streams.values(), self.answers):
             os.close(stream)
-        os.close(self.answers)
         shutil.rmtree(self.top, ignore_errors=True)
 
     def give(self, name, data):
         """A file in the folder of the runs; `in` is the standard input."""
-        with open(os.path.join(self.room, name), "wb") as file:
+        with open(f"{self.room}/{name}", "wb") as file:
             file.write(data)
 
     def taken(self, name):
-        stream = self.streams[name]
-        size = os.fstat(stream).st_size
-        return os.pread(stream, size, 0) if size else b""
+        size = os.fstat(self.streams[name]).st_size
+        return os.pread(self.streams[name], size, 0) if size else b""
 
     def answer(self):
         got = b""
@@ -81,12 +70,11 @@ class Program:
             got += piece
         return ANSWER.unpack(got)
 
-    def run(self, words, kind=None, at=0, lasting=False, error=5, most=0, space=0, stack=0):
+    def run(self, words, kind=None, at=0, lasting=False, error=5, most=0):
         """Runs the program on the files that were given. The `at`th call of the kind fails with the error number `error`, or
         gives or takes no byte where that is 0; `lasting`: so do all later ones."""
         said = b"".join(word.encode() + b"\0" for word in words)
-        job = JOB.pack(len(said), at, error, most, space, stack, KINDS[kind], lasting, len(words)) + said
-        os.write(self.jobs, job)
-        status, calls, peak, micros = self.answer()
+        os.write(self.jobs, JOB.pack(len(said), at, error, most, 0, 0, KINDS[kind], lasting, len(words)) + said)
+        status, calls, _, _ = self.answer()
         code = -os.WTERMSIG(status) if os.WIFSIGNALED(status) else os.WEXITSTATUS(status)
-        return Got(code, self.taken("out"), self.taken("err"), calls, peak, micros / 1e6)
+        return Got(code, self.taken("out"), self.taken("err"), calls)

@@ -1,14 +1,14 @@
 """The companion of the form, tools/oracle/oracle.py, compared with docs/format/FORM.md, with the vectors and with the program."""
 import collections
-import concurrent.futures
-import os
+import functools
 import re
-import sys
 
 from lib.form.lines import refusal_of, vectors
 from lib.form.made import stream
 from lib.form.page import answer, page
 from lib.form.scalars import scalars
+from lib.paths import read
+from lib.trial import side_by_side, status_of
 from oracle import oracle
 
 
@@ -21,8 +21,7 @@ def companion(events):
 def wrong_names():
     """Rules that the page or the companion alone names."""
     ruled = set(re.findall(r"^\*\*`([^`\n]+)`\.", page(), re.M))
-    with open(oracle.__file__, encoding="utf-8") as file:
-        comments = re.findall(r"^ *# (`.*)$", file.read(), re.M)
+    comments = re.findall(r"^ *# (`.*)$", read(oracle.__file__), re.M)
     named = set(name for comment in comments for name in re.findall(r"`([a-z ]+)`", comment.partition(":")[0]))
     for name in sorted(ruled ^ named):
         yield "rule %s stands in %s alone" % (name, "FORM.md" if name in ruled else "the companion")
@@ -30,12 +29,11 @@ def wrong_names():
 
 def wrong_vectors(counts):
     for vector in vectors():
-        if vector.events is None:
-            continue
-        counts["vectors"] += 1
-        got = companion(vector.events)
-        if got != vector.canon:
-            yield "%s: %.200r, and not %.200r" % (vector.name, got, vector.canon)
+        if vector.events is not None:
+            counts["vectors"] += 1
+            got = companion(vector.events)
+            if got != vector.canon:
+                yield "%s: %.200r, and not %.200r" % (vector.name, got, vector.canon)
 
 
 def asked(program, source):
@@ -46,14 +44,13 @@ def asked(program, source):
 
 
 def wrong_streams(program, sources, what, counts):
-    with concurrent.futures.ThreadPoolExecutor(os.cpu_count()) as pool:
-        for source, unread, events, canon in pool.map(lambda source: asked(program, source), sources):
-            refusal = refusal_of(canon)
-            counts[what] += 1
-            counts["%s %s" % (what, "refused with %d" % refusal["number"] if refusal else "accepted")] += 1
-            got = unread.rstrip("\n") if unread else companion(events)
-            if got != canon:
-                yield "%.200r: %.200r, and not %.200r" % (source, got, canon)
+    for source, unread, events, canon in side_by_side(functools.partial(asked, program), sources):
+        refusal = refusal_of(canon)
+        counts[what] += 1
+        counts["%s %s" % (what, "refused with %d" % refusal["number"] if refusal else "accepted")] += 1
+        got = unread.rstrip("\n") if unread else companion(events)
+        if got != canon:
+            yield "%.200r: %.200r, and not %.200r" % (source, got, canon)
 
 
 def streams_of(found):
@@ -69,11 +66,7 @@ def streams_of(found):
 def check(program, made, scalar_count, seed):
     """Prints the counts if all is well, else a line for each difference; the status."""
     counts, first = collections.Counter({"scalars": scalar_count}), seed * 1000000
-    wrong = list(wrong_names()) + list(wrong_vectors(counts))
+    wrong = [*wrong_names(), *wrong_vectors(counts)]
     wrong += wrong_streams(program, map(stream, range(first, first + made)), "made streams", counts)
     wrong += wrong_streams(program, streams_of(scalars(scalar_count, seed)), "streams of scalars", counts)
-    for line in wrong:
-        print("companion: " + line, file=sys.stderr)
-    if not wrong:
-        print("companion: " + ", ".join("%d %s" % (counts[what], what) for what in sorted(counts)))
-    return 1 if wrong else 0
+    return status_of("companion", wrong, ", ".join("%d %s" % (counts[what], what) for what in sorted(counts)))

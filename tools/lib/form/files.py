@@ -2,11 +2,11 @@
 from __future__ import annotations
 
 import collections
-import sys
 from collections.abc import Iterable, Iterator
 from typing import Any
 
 from lib.form.page import answer
+from lib.trial import status_of
 from oracle import oracle
 
 ESCAPES = str.maketrans({"\\": "\\\\", "\n": "\\n", "\t": "\\t", "\r": "\\r", "\b": "\\b"})
@@ -64,13 +64,10 @@ def wrong_of(program: str, source: bytes, counts: collections.Counter[str]) -> I
 def check(program: str, names: Iterable[str]) -> int:
     """Prints the counts, and a line for each difference in meaning; the status."""
     counts: collections.Counter[str] = collections.Counter()
-    status = 0
+    found: list[str] = []
     for name in names:
         with open(name, "rb") as file:
-            source = file.read()
-        for wrong in wrong_of(program, source, counts):
-            print(f"files: {name}: {wrong}", file=sys.stderr)
-            status = 1
+            found += (f"{name}: {wrong}" for wrong in wrong_of(program, file.read(), counts))
     for what, count in sorted(counts.items()):
         print(f"files: {what}: {count}")
-    return status
+    return status_of("files", found)

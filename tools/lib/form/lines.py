@@ -10,56 +10,30 @@ import json
 import os
 import re
 
-from lib.form.built import limit_rows, long_rows, rows, whole
+from lib.failing import rows
+from lib.form.built import built_rows, whole
 from lib.form.page import answer, examples, page
 from lib.paths import TOP
 
 VECTORS = os.path.join(TOP, "vectors/form-1.jsonl")
 
-# what a table says of an input: bytes, or None where it says nothing; a fault's line stands for a text or events that are not
-Row = collections.namedtuple("Row", "name input events canon pieces")
-# the same of a line; `events` is None where the input is not read
+# what a line says of an input: its events, None where it is not read, and its canonical text or its fault's line
 Vector = collections.namedtuple("Vector", "name input events canon")
 
 FAULT = re.compile(r"(\d+) (\w+)((?:\D+\d+)*)")
 
 
-def table_rows():
-    """The rows of the tables, and each side of a pair."""
+def all_rows():
+    """Every row that has to stand in the file, in its order: of the tables, with each side of a pair, and of docs/format/FORM.md."""
     for row in rows.all_rows():
         if isinstance(row, rows.Row):
-            yield Row(row.place, row.input, row.events, row.canon, None)
+            yield row
         else:
-            yield Row(row.place + ", left", row.left, None, None, None)
-            yield Row(row.place + ", right", row.right, None, None, None)
-
-
-def built_rows():
-    for row in limit_rows():
-        yield Row(row.place, row.input, row.reading or None, row.canon, None)
-    for row in long_rows():
-        pieces = {"input_pieces": row.input, "events_pieces": row.events, "text_pieces": row.canon}
-        yield Row(row.place, whole(row.input), whole(row.events), whole(row.canon), pieces)
-
-
-def page_rows():
-    """The examples of docs/format/FORM.md."""
+            yield from (rows.Row(f"{row.place}, {side}", getattr(row, side), None, None) for side in ("left", "right"))
+    yield from built_rows()
     for example in examples(page()):
         canon = example.refusal.rstrip("\n") or example.text
-        yield Row("FORM.md, " + example.rule, example.input.encode(), None, canon.encode(), None)
-
-
-def all_rows():
-    """Every row that has to stand in the file, in its order."""
-    for make in (table_rows, built_rows, page_rows):
-        yield from make()
-
-
-def pairs():
-    """(place, left, right, word) of each pair that is the same or different."""
-    for row in rows.all_rows():
-        if isinstance(row, rows.Pair) and row.same in (b"same\n", b"different\n"):
-            yield row.place, row.left, row.right, row.same == b"same\n"
+        yield rows.Row("FORM.md, " + example.rule, example.input.encode(), canon.encode(), None)
 
 
 def asked(program, name, source):
@@ -80,15 +54,12 @@ def refusal_of(message):
 
 def line_of(vector, pieces):
     """A vector as a line; the canonical text of a stream never looks like a fault, since it begins with `---` or is empty."""
-    said = {"name": vector.name}
-    if pieces:
-        said.update(pieces)
-    else:
-        said["input"] = base64.b64encode(vector.input).decode()
-        if vector.events is not None:
-            said["events"] = vector.events
+    said = {"name": vector.name, **(pieces or {})}
+    if not pieces:
         refusal = refusal_of(vector.canon)
-        said.update({"refusal": refusal} if refusal else {"text": vector.canon})
+        said["input"] = base64.b64encode(vector.input).decode()
+        said |= {"events": vector.events} if vector.events is not None else {}
+        said |= {"refusal": refusal} if refusal else {"text": vector.canon}
     return json.dumps(said) + "\n"
 
 
@@ -108,9 +79,14 @@ def vector_of(line):
     return Vector(said["name"], base64.b64decode(said["input"], validate=True), said.get("events"), canon)
 
 
-def vectors():
-    """The vectors of the file, in order."""
+def file_lines():
+    """The lines of the file, in bytes."""
     if not os.path.exists(VECTORS):
         return []
-    with open(VECTORS, encoding="ascii", newline="") as file:
-        return [vector_of(line) for line in file]
+    with open(VECTORS, "rb") as file:
+        return file.read().splitlines(keepends=True)
+
+
+def vectors():
+    """The vectors of the file, in order."""
+    return [vector_of(line.decode("ascii")) for line in file_lines()]

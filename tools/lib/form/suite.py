@@ -1,14 +1,15 @@
 """The cases of yaml-test-suite, each sorted by what the program does with it, and tools/data/suite.cases, which says where each belongs."""
 from __future__ import annotations
 
-import concurrent.futures
+import functools
 import os
+import pathlib
 import re
-import subprocess
 import tarfile
 from typing import Any
 
-from lib.paths import DATA
+from lib.paths import DATA, read
+from lib.trial import run, side_by_side
 
 CASE = re.compile(r"(?:^|/)([A-Z0-9]{4}(?:/[0-9]{2,3})?)/(in\.yaml|test\.event|error)$")
 REFUSAL = re.compile(r"yaml: (\d+) (\w+)(?: at byte (\d+))?\n")
@@ -28,32 +29,27 @@ RULES = {"unended_line": rb"\n +\Z"}  # a block scalar's last line of spaces tha
 def cases_of(place: str) -> Any:
     """{name: {file: bytes}} of a folder or an archive."""
     found: dict[str, dict[str, bytes]] = {}
+
+    def take(path: str, content: Any) -> None:
+        case = CASE.search(path)
+        if case and content:
+            found.setdefault(case[1], {})[case[2]] = content.read()
+
     if os.path.isdir(place):
-        for folder, _, files in os.walk(place):
-            for name in files:
-                case = CASE.search(f"{folder}/{name}")
-                if case:
-                    with open(f"{folder}/{name}", "rb") as file:
-                        found.setdefault(case[1], {})[case[2]] = file.read()
-        return found
-    with tarfile.open(place) as archive:
-        for member in archive:
-            case = CASE.search(member.name)
-            content = archive.extractfile(member) if case and member.isfile() else None
-            if case and content:
-                found.setdefault(case[1], {})[case[2]] = content.read()
+        for path in filter(CASE.search, map(str, pathlib.Path(place).rglob("*"))):
+            with open(path, "rb") as file:
+                take(path, file)
+    else:
+        with tarfile.open(place) as archive:
+            for member in archive:
+                take(member.name, archive.extractfile(member) if member.isfile() else None)
     return found
 
 
 def expected_cases() -> dict[str, str]:
     """The name under which each case belongs."""
-    expected: dict[str, str] = {}
-    with open(f"{DATA}/suite.cases", encoding="utf-8") as file:
-        for line in file.read().split("\n"):
-            kind, colon, names = line.partition(": ")
-            if colon and not line.startswith("#"):
-                expected |= {name: kind for name in names.split()}
-    return expected
+    lines = (line.partition(": ") for line in read(f"{DATA}/suite.cases").split("\n") if not line.startswith("#"))
+    return {name: kind for kind, _, names in lines for name in names.split()}
 
 
 def out_of_profile(text: bytes, refusal: Any) -> Any:
@@ -79,35 +75,24 @@ def own_rule(text: bytes, wanted: bytes, got: Any) -> Any:
 
 def sorted_case(program: str, files: dict[str, bytes]) -> tuple[str, str]:
     """(where a case belongs by what the program does, what it did)."""
-    done = subprocess.run([program, "events"], input=files["in.yaml"], capture_output=True, check=False)
-    invalid = "error" in files
-    if done.returncode == 0:
+    done, invalid = run([program, "events"], files["in.yaml"]), "error" in files
+    if done.status == 0:
         if invalid:
             return "?", "read, though the suite has it as an error"
-        if done.stdout == files["test.event"] and not done.stderr:
+        if done.out == files["test.event"] and not done.err:
             return "read", ""
-        return own_rule(files["in.yaml"], files["test.event"], done.stdout) or "?", "read to other events"
-    said = done.stderr.decode(errors="replace")
+        return own_rule(files["in.yaml"], files["test.event"], done.out) or "?", "read to other events"
+    said = done.err.decode(errors="replace")
     refusal = REFUSAL.fullmatch(said)
-    if done.returncode != 2 or done.stdout or not refusal or not 1 <= int(refusal[1]) <= 11:
-        return "?", f"status {done.returncode}: {said.strip()}"
+    if done.status != 2 or done.out or not refusal or not 1 <= int(refusal[1]) <= 11:
+        return "?", f"status {done.status}: {said.strip()}"
     return "refused" if invalid else out_of_profile(files["in.yaml"], refusal) or "?", said.strip()
-
-
-def counts_of(kinds: Any) -> Any:
-    return {
-        "read with the suite's events": sum(kind == "read" for kind in kinds),
-        "refused as the suite does": sum(kind == "refused" for kind in kinds),
-        "out of profile": sum(kind in PROFILE for kind in kinds),
-        "by a rule of our own": sum(kind in RULES for kind in kinds),
-    }
 
 
 def check(program: str, place: str) -> int:
     """Sorts each case of a folder or an archive, and prints those that are not where they belong, and the counts; the status."""
     found, expected = cases_of(place), expected_cases()
-    with concurrent.futures.ThreadPoolExecutor(os.cpu_count()) as pool:
-        sorts = dict(zip(found, pool.map(lambda files: sorted_case(program, files), found.values())))
+    sorts = dict(zip(found, side_by_side(functools.partial(sorted_case, program), found.values())))
     wrong = [f"{name}: not in tools/data/suite.cases" for name in sorted(found) if name not in expected]
     wrong += [f"{name}: not in {place}" for name in sorted(expected) if name not in found]
     for name, (kind, said) in sorted(sorts.items()):
@@ -116,6 +101,8 @@ def check(program: str, place: str) -> int:
     for line in wrong:
         print(f"suite: {line}")
     kinds = [kind for kind, _ in sorts.values()]
-    print(f"{len(found)} cases: " + ", ".join(f"{count} {what}" for what, count in counts_of(kinds).items()))
+    read_and_refused = f"{kinds.count('read')} read with the suite's events, {kinds.count('refused')} refused as the suite does"
+    profile, rules = sum(kind in PROFILE for kind in kinds), sum(kind in RULES for kind in kinds)
+    print(f"{len(found)} cases: {read_and_refused}, {profile} out of profile, {rules} by a rule of our own")
     print("of these out of profile: " + ", ".join(f"{kinds.count(name)} {name}" for name in PROFILE))
     return 1 if wrong or not found else 0

@@ -1,12 +1,14 @@
 """The vectors of the form, vectors/form-1.jsonl (lines.py says what a line is), compared with the test cases and with the program."""
-import concurrent.futures
+import functools
 import hashlib
 import os
 import re
-import sys
 
-from lib.form.lines import VECTORS, all_rows, asked, line_of, pairs, refusal_of, vectors
+from lib.failing import rows
+from lib.form.lines import VECTORS, all_rows, asked, file_lines, line_of, refusal_of, vectors
 from lib.form.page import answer
+from lib.paths import read
+from lib.trial import side_by_side, status_of
 
 DIGESTS = os.path.join(os.path.dirname(VECTORS), "form-1.sha256")
 RELEASED = re.compile(r"(\d+) ([0-9a-f]{64})\n")
@@ -41,28 +43,17 @@ def wrong_line(program, vector):
     return None
 
 
-def wrong_lines(program, last):
-    with concurrent.futures.ThreadPoolExecutor(os.cpu_count()) as pool:
-        yield from filter(None, pool.map(lambda vector: wrong_line(program, vector), last.values()))
-
-
 def wrong_rows(last):
     for row in all_rows():
         if row.input not in last:
-            yield "%s: stands in no line (tools/conformance vectors --add appends one)" % row.name
+            yield "%s: stands in no line (tools/conformance vectors --add appends one)" % row.place
         elif differs(row, last[row.input]):
-            yield "%s: %s says otherwise" % (row.name, last[row.input].name)
-    for place, left, right, same in pairs():
-        texts = [last[side].canon for side in (left, right) if side in last]
-        if len(texts) == 2 and not any(map(refusal_of, texts)) and (texts[0] == texts[1]) != same:
-            yield "%s: texts of a pair" % place
-
-
-def file_lines():
-    if not os.path.exists(VECTORS):
-        return []
-    with open(VECTORS, "rb") as file:
-        return file.read().splitlines(keepends=True)
+            yield "%s: %s says otherwise" % (row.place, last[row.input].name)
+    for pair in rows.all_rows():
+        if isinstance(pair, rows.Pair) and pair.same in (b"same\n", b"different\n"):
+            texts = [last[side].canon for side in (pair.left, pair.right) if side in last]
+            if len(texts) == 2 and not any(map(refusal_of, texts)) and (texts[0] == texts[1]) != (pair.same == b"same\n"):
+                yield "%s: texts of a pair" % pair.place
 
 
 def digest(lines):
@@ -71,15 +62,14 @@ def digest(lines):
 
 def wrong_fronts():
     lines, count = file_lines(), 0
-    with open(DIGESTS, encoding="ascii") as file:
-        for told in file:
-            found = RELEASED.fullmatch(told)
-            if not found or int(found[1]) <= count:
-                yield "form-1.sha256: %r" % told
-                continue
-            count = int(found[1])
-            if count > len(lines) or digest(lines[:count]) != found[2]:
-                yield "the first %d lines are not those that were released" % count
+    for told in read(DIGESTS).splitlines(keepends=True):
+        found = RELEASED.fullmatch(told)
+        if not found or int(found[1]) <= count:
+            yield "form-1.sha256: %r" % told
+            continue
+        count = int(found[1])
+        if count > len(lines) or digest(lines[:count]) != found[2]:
+            yield "the first %d lines are not those that were released" % count
     if lines and not lines[-1].endswith(b"\n"):
         yield "the last line has no end"
 
@@ -87,28 +77,25 @@ def wrong_fronts():
 def check(program):
     wrong = list(wrong_fronts())
     last = lasting(vectors(), wrong)
-    wrong += list(wrong_lines(program, last)) + list(wrong_rows(last))
-    for line in wrong:
-        print("vectors: " + line, file=sys.stderr)
-    return 1 if wrong else 0
+    wrong += filter(None, side_by_side(functools.partial(wrong_line, program), last.values()))
+    return status_of("vectors", [*wrong, *wrong_rows(last)])
 
 
 def add(program):
     """Appends the rows that stand in no line."""
     found = vectors()
-    names = {vector.name for vector in found}
-    inputs = {vector.input for vector in found}
+    names, inputs = {vector.name for vector in found}, {vector.input for vector in found}
     with open(VECTORS, "a", encoding="ascii", newline="") as file:
         for row in all_rows():
             if row.input in inputs:
                 continue
-            name, count = row.name, 1
+            name, count = row.place, 1
             while name in names:
                 count += 1
-                name = "%s (%d)" % (row.name, count)
+                name = "%s (%d)" % (row.place, count)
             vector = asked(program, name, row.input)
             if differs(row, vector):
-                raise SystemExit("vectors: %s: the program answers otherwise" % row.name)
+                raise SystemExit("vectors: %s: the program answers otherwise" % row.place)
             file.write(line_of(vector, row.pieces))
             names.add(name)
             inputs.add(row.input)

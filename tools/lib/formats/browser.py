@@ -5,12 +5,14 @@ import json
 import os
 import re
 import shutil
-import subprocess
 import tempfile
 
-from lib.paths import read, write
+from lib.paths import read
+from lib.trial import put, run
 
 NAMES = ("chromium", "chromium-browser", "google-chrome")
+WORDS = "--headless=new --no-sandbox --disable-gpu --disable-dev-shm-usage --no-first-run --disable-background-networking".split()
+WORDS += "--disable-component-update --disable-sync --virtual-time-budget=3000 --dump-dom".split()
 PROBE = """<script>
 addEventListener('load', () => {
   const inside = document.querySelector('iframe').contentDocument;
@@ -28,12 +30,6 @@ def browser() -> str | None:
     return next(filter(None, map(shutil.which, NAMES)), None)
 
 
-def started(program: str, room: str, *words: str) -> subprocess.CompletedProcess[str]:
-    command = [program, "--headless=new", "--no-sandbox", "--disable-gpu", "--disable-dev-shm-usage", f"--user-data-dir={room}/profile"]
-    command += ["--no-first-run", "--disable-background-networking", "--disable-component-update", "--disable-sync", *words]
-    return subprocess.run(command, capture_output=True, text=True, timeout=180, check=False)
-
-
 def requests(log: str) -> list[str]:
     """The addresses that a page asked for, of a log of the network; the browser's own are not its."""
     text = read(log)
@@ -47,29 +43,15 @@ def requests(log: str) -> list[str]:
 
 def browser_faults(program: str, text: str, width: int = 360) -> list[str]:
     """What is wrong with a page in a window of this width."""
+    frame = f'<!DOCTYPE html><iframe src="page.html" style="width:{width}px;height:800px;border:0"></iframe>{PROBE}'
     with tempfile.TemporaryDirectory() as room:
-        write(f"{room}/page.html", text)
-        write(
-            f"{room}/probe.html", f'<!DOCTYPE html><iframe src="page.html" style="width:{width}px;height:800px;border:0"></iframe>{PROBE}'
-        )
-        ran = started(
-            program, room, "--allow-file-access-from-files", "--virtual-time-budget=3000", "--dump-dom", f"file://{room}/probe.html"
-        )
-        faults = seen_faults(ran.stdout, width)
-        log = f"{room}/network.json"
-        ran = started(
-            program,
-            room,
-            "--enable-logging=stderr",
-            f"--log-net-log={log}",
-            "--virtual-time-budget=3000",
-            "--dump-dom",
-            f"file://{room}/page.html",
-        )
-        faults += [f"the console has {line}" for line in ran.stderr.split("\n") if "CONSOLE" in line]
-        if os.path.exists(log):
-            faults += [f"the page asks for {one}" for one in requests(log) if "google" not in one]
-    return faults
+        put(room, {"page.html": text, "probe.html": frame})
+        log, command = f"{room}/network.json", [program, f"--user-data-dir={room}/profile", *WORDS]
+        dom = run([*command, "--allow-file-access-from-files", f"file://{room}/probe.html"], timeout=180).out.decode()
+        console = run([*command, "--enable-logging=stderr", f"--log-net-log={log}", f"file://{room}/page.html"], timeout=180).err.decode()
+        faults = seen_faults(dom, width) + [f"the console has {line}" for line in console.split("\n") if "CONSOLE" in line]
+        asked = requests(log) if os.path.exists(log) else []
+    return faults + [f"the page asks for {one}" for one in asked if "google" not in one]
 
 
 def seen_faults(dom: str, width: int) -> list[str]:

@@ -18,47 +18,50 @@ MARKUP = re.compile(
 )
 
 
-def want(faults: list[str], is_so: bool, said: str) -> None:
-    if not is_so:
-        faults.append(said)
-
-
-def region_faults(region: dict[str, Any]) -> list[str]:
-    names = ("startLine", "startColumn")
-    return [f"a region without {name}" for name in names if not isinstance(region.get(name), int) or region[name] < 1]
+def failures(*wanted: tuple[bool, str]) -> list[str]:
+    """What is said of each that is not so."""
+    return [said for is_so, said in wanted if not is_so]
 
 
 def result_faults(result: dict[str, Any], rules: list[str], files: Collection[str]) -> list[str]:
     """What is wrong with a result. Its file is one of these."""
-    faults: list[str] = []
-    want(faults, result.get("ruleId") in rules, "a result of no rule")
-    want(faults, result.get("level") in LEVELS, "a result of no level")
-    want(faults, bool(result.get("message", {}).get("text")), "a result without a text")
     locations = result.get("locations") or []
-    want(faults, len(locations) == 1, "a result without one place")
-    for location in locations:
-        physical = location.get("physicalLocation", {})
+    faults = failures(
+        (result.get("ruleId") in rules, "a result of no rule"),
+        (result.get("level") in LEVELS, "a result of no level"),
+        (bool(result.get("message", {}).get("text")), "a result without a text"),
+        (len(locations) == 1, "a result without one place"),
+    )
+    for physical in (location.get("physicalLocation", {}) for location in locations):
         uri = physical.get("artifactLocation", {}).get("uri", "")
-        want(faults, re.fullmatch(r"[A-Za-z0-9/._~%-]+", uri) is not None, f"{uri!r} is no URI")
-        want(faults, urllib.parse.unquote(uri) in files, f"{uri!r} is no file")
-        faults += region_faults(physical["region"]) if "region" in physical else []
+        region = physical.get("region", {"startLine": 1, "startColumn": 1})
+        faults += failures(
+            (re.fullmatch(r"[A-Za-z0-9/._~%-]+", uri) is not None, f"{uri!r} is no URI"),
+            (urllib.parse.unquote(uri) in files, f"{uri!r} is no file"),
+            *(
+                (isinstance(region.get(name), int) and region[name] > 0, f"a region without {name}")
+                for name in ("startLine", "startColumn")
+            ),
+        )
     return faults
 
 
 def sarif_faults(text: str, count: int, files: Collection[str]) -> list[str]:
     """What is wrong with a log, which has so many results, at these files."""
     log = json.loads(text)
-    faults: list[str] = []
-    want(faults, log.get("version") == "2.1.0" and log.get("$schema", "").endswith("sarif-2.1.0.json"), "another version")
-    want(faults, len(log.get("runs", [])) == 1, "no run, or several")
+    faults = failures(
+        (log.get("version") == "2.1.0" and log.get("$schema", "").endswith("sarif-2.1.0.json"), "another version"),
+        (len(log.get("runs", [])) == 1, "no run, or several"),
+    )
     for run in log.get("runs", []):
-        driver = run.get("tool", {}).get("driver", {})
-        want(faults, driver.get("name") == "yamlreview", "another program")
+        driver, results = run.get("tool", {}).get("driver", {}), run.get("results", [])
         rules = [rule["id"] for rule in driver.get("rules", [])]
-        want(faults, len(rules) == len(set(rules)), "a rule twice")
-        want(faults, len(run.get("results", [])) == count, f"{len(run.get('results', []))} results, not {count}")
-        for result in run.get("results", []):
-            faults += result_faults(result, rules, files)
+        faults += failures(
+            (driver.get("name") == "yamlreview", "another program"),
+            (len(rules) == len(set(rules)), "a rule twice"),
+            (len(results) == count, f"{len(results)} results, not {count}"),
+        )
+        faults += (fault for result in results for fault in result_faults(result, rules, files))
     return faults
 
 
@@ -71,11 +74,9 @@ def decoded(text: str) -> str:
 
 def github_faults(text: str, count: int, files: Collection[str]) -> list[str]:
     """What is wrong with commands, of which there are so many, at these files."""
-    faults: list[str] = []
-    lines = text.split("\n")
-    want(faults, lines[-1] == "", "the last line has no end")
-    want(faults, len(lines) - 1 == count, f"{len(lines) - 1} lines, not {count}")
-    for line in lines[:-1]:
+    *lines, last = text.split("\n")
+    faults = failures((last == "", "the last line has no end"), (len(lines) == count, f"{len(lines)} lines, not {count}"))
+    for line in lines:
         found = COMMAND.fullmatch(line)
         if found is None:
             faults.append(f"{line!r} is no command")
@@ -93,11 +94,8 @@ def markdown_faults(text: str, count: int, contents: Iterable[str] = ()) -> list
             head = line
         elif line.startswith("| "):
             rows += 1
-            want(faults, line.count("|") == head.count("|"), f"{line!r} has other cells than the head")
-    want(faults, rows == count, f"{rows} rows, not {count}")
-    left = MARKUP.sub("", REFERENCE.sub("", text))
-    bad = re.search(r"[^A-Za-z0-9 \n\x80-\U0010ffff]", left)
-    want(faults, bad is None, f"{bad and bad[0]!r} is markup")
-    shown = re.sub(r"</?code>", "", text)
-    shown = REFERENCE.sub(lambda found: chr(int(found[1], 16)), shown)
+            faults += failures((line.count("|") == head.count("|"), f"{line!r} has other cells than the head"))
+    bad = re.search(r"[^A-Za-z0-9 \n\x80-\U0010ffff]", MARKUP.sub("", REFERENCE.sub("", text)))
+    shown = REFERENCE.sub(lambda found: chr(int(found[1], 16)), re.sub(r"</?code>", "", text))
+    faults += failures((rows == count, f"{rows} rows, not {count}"), (bad is None, f"{bad and bad[0]!r} is markup"))
     return faults + [f"{content!r} is not shown" for content in contents if content not in shown]

@@ -1,18 +1,23 @@
-"""base.py: what the parts of tools/release share."""
+"""What the parts of tools/release share: what is said, commands, files, the version, and pages whose links lead to what is packed."""
+from __future__ import annotations
+
 import gzip
 import hashlib
 import os
+import re
 import shutil
 import subprocess
 import sys
+from collections.abc import Collection
 from typing import Any, NoReturn
 
-from lib.paths import TOP
-
+from lib.paths import TOP, read
 
 ARCH = "x86_64-linux"
 # Who hands the packages out, where nobody is named: the mail is none that reaches anybody.
 SUPPLIER = "The yamlcanon authors <yamlcanon@example.org>"
+LINK = re.compile(r"(?<!!)\[((?:[^\[\]]|\[[^\[\]]*\])*)\]\(([^()\s]+)\)")
+IN_THE_WEB = re.compile(r"[A-Za-z][A-Za-z0-9+.-]*:|//|#")
 
 
 def say(text: str) -> None:
@@ -24,18 +29,18 @@ def end(text: str) -> NoReturn:
     sys.exit(1)
 
 
+def ended(*words: str, **how: Any) -> tuple[int, str]:
+    """Status and output of a command, errors among it."""
+    done = subprocess.run(words, stdout=subprocess.PIPE, stderr=subprocess.STDOUT, check=False, **how)
+    return done.returncode, done.stdout.decode(errors="replace")
+
+
 def run(*words: str, **how: Any) -> str:
     """What a command prints; its failure ends this, with what it said."""
-    done = subprocess.run(words, stdout=subprocess.PIPE, stderr=subprocess.PIPE, stdin=subprocess.DEVNULL, text=True, check=False, **how)
+    done = subprocess.run(words, capture_output=True, stdin=subprocess.DEVNULL, text=True, check=False, **how)
     if done.returncode:
-        end("%s: status %d\n%s%s" % (" ".join(words), done.returncode, done.stdout, done.stderr))
+        end(f"{' '.join(words)}: status {done.returncode}\n{done.stdout}{done.stderr}")
     return str(done.stdout)
-
-
-def are_there(*names: str) -> tuple[bool, str]:
-    """Whether these commands are there; where one is not, what needs it is left out, and that is said."""
-    lacking = [name for name in names if not shutil.which(name)]
-    return not lacking, " ".join(lacking)
 
 
 def git(*words: str) -> str:
@@ -45,6 +50,21 @@ def git(*words: str) -> str:
 def epoch() -> int:
     """The time that all files of a release bear: SOURCE_DATE_EPOCH, or when the commit was made."""
     return int(os.environ.get("SOURCE_DATE_EPOCH") or git("log", "-1", "--format=%ct"))
+
+
+def found(path: str, pattern: str) -> str:
+    first: str = re.findall(pattern, read(f"{TOP}/{path}"), re.M)[0]
+    return first
+
+
+def release() -> str:
+    """The version of what is packed, as 1.0.0: that of the newest heading of CHANGELOG.md."""
+    return found("CHANGELOG.md", r"^## (\d+\.\d+\.\d+)\b")
+
+
+def interface() -> tuple[int, int]:
+    """The number of the library's interface, which is in its name, and the number of what was added: those of the header."""
+    return divmod(int(found("include/yamlcanon.h", r"^#define YAMLCANON_VERSION (\d+)$")), 100)
 
 
 def bytes_of(path: str) -> bytes:
@@ -76,16 +96,27 @@ def zipped(data: bytes) -> bytes:
 
 def files_below(folder: str) -> list[str]:
     """The files of a folder, links among them, as sorted paths in it."""
-    found = []
+    paths = []
     for at, folders, names in os.walk(folder):
         links = [name for name in folders if os.path.islink(os.path.join(at, name))]
-        found += [os.path.relpath(os.path.join(at, name), folder) for name in names + links]
-    return sorted(found)
+        paths += [os.path.relpath(os.path.join(at, name), folder) for name in names + links]
+    return sorted(paths)
 
 
-def set_times(folder: str, time: int) -> None:
-    """Gives all that stands in a folder the same time."""
-    for at, folders, names in os.walk(folder):
-        for name in folders + names:
-            os.utime(os.path.join(at, name), (time, time), follow_symlinks=False)
-    os.utime(folder, (time, time))
+def without_dead_links(text: str, page: str, packed: Collection[str]) -> str:
+    """The text of a page of a package that has these files: a link to another file is only its words."""
+
+    def shown(link: re.Match[str]) -> str:
+        path = os.path.normpath(os.path.join(os.path.dirname(page), link[2].partition("#")[0]))
+        is_packed = path in packed or any(name.startswith(path + "/") for name in packed)
+        return link[0] if IN_THE_WEB.match(link[2]) or is_packed else link[1]
+
+    return LINK.sub(shown, text)
+
+
+def mend(top: str, names: Collection[str] | None = None) -> None:
+    """Takes the links to files that are not packed out of the pages below a folder. `names`: what is packed of it; else all."""
+    packed = {name for name in files_below(top) if names is None or name.split("/")[0] in names}
+    for name in packed:
+        if name.endswith(".md"):
+            write(f"{top}/{name}", without_dead_links(read(f"{top}/{name}"), name, packed))

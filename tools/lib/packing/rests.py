@@ -2,11 +2,10 @@
 import glob
 import re
 
-from lib import paths
 from lib.paths import read
-from .base import end, git, run
+from .base import end, git, release, run
 from .machines import JUDGED
-from .version import release
+from .notices import kit_folder
 
 PARTS = ("crates", "crates.txt", "HANDLES", "include", "library")
 CHANGED = ", with changes that are in no commit"
@@ -30,26 +29,22 @@ none. No run of the gate is named for these bytes. Each crate that is linked int
       (by rt); the tests, the mutants that have to be rejected and the runs of the gate are not said to have passed."""
 
 
-def kit_folder():
-    """The folder of the kit, which has to be there."""
-    return paths.kit_folder() or end("rt, the Rattle kit, is not found")
-
-
 def kit():
-    return read(kit_folder() + "/KIT-ID").strip()
-
-
-def commit():
-    return git("rev-parse", "HEAD")
+    return read(f"{kit_folder()}/KIT-ID").strip()
 
 
 def is_changed():
     return bool(git("status", "--porcelain"))
 
 
+def commit():
+    """The commit at hand, in words."""
+    return git("rev-parse", "HEAD") + CHANGED * is_changed()
+
+
 def source():
     """The line with which the gate's log begins."""
-    return "gate: begins on commit %s%s; kit %s" % (commit(), CHANGED if is_changed() else "", kit())
+    return f"gate: begins on commit {commit()}; kit {kit()}"
 
 
 def first_line(*words):
@@ -58,12 +53,11 @@ def first_line(*words):
 
 def compilers(machines):
     """The compilers, by what they tell: that of the proved code, and for each machine that of the library's C and of the link."""
-    own = sorted(glob.glob(kit_folder() + "/toolchain/**/bin/clang", recursive=True))
-    proved = first_line(own[0], "--version") if own else "not found"
-    return ["the proved code: the kit's %s" % proved] + [
-        "library/heap.c, library/calls.c, library/values.c and the library's link for %s: %s"
-        % (machine.name, first_line(machine.cc, "--version"))
-        for machine in machines
+    own = sorted(glob.glob(f"{kit_folder()}/toolchain/**/bin/clang", recursive=True))
+    sources = "library/heap.c, library/calls.c, library/values.c and the library's link"
+    return [
+        f"the proved code: the kit's {first_line(own[0], '--version') if own else 'not found'}",
+        *(f"{sources} for {machine.name}: {first_line(machine.cc, '--version')}" for machine in machines),
     ]
 
 
@@ -72,20 +66,19 @@ def gate_of(log):
     text = read(log)
     begun, sums = BEGINS.search(text), PASSED.findall(text)
     if not begun or not text.rstrip("\n").endswith("\ngate: passed") or not sums:
-        end("%s is no whole log of .ci/run" % log)
+        end(f"{log} is no whole log of .ci/run")
     if begun[2] or any(failed != "0" for _, failed in sums):
-        end("%s tells of a failure, or of changes that are in no commit" % log)
+        end(f"{log} tells of a failure, or of changes that are in no commit")
     if begun[3] != kit():
-        end("%s is of another kit, %s" % (log, begun[3]))
+        end(f"{log} is of another kit, {begun[3]}")
     if git("diff", "--name-only", begun[1], "--", *PARTS):
-        end("%s is of commit %s, since which sources have changed" % (log, begun[1]))
-    lines = " and ".join('"%s passed, %s failed"' % pair for pair in sums)
-    return "passed on commit %s, with %s" % (begun[1], lines)
+        end(f"{log} is of commit {begun[1]}, since which sources have changed")
+    lines = " and ".join(f'"{passed} passed, {failed} failed"' for passed, failed in sums)
+    return f"passed on commit {begun[1]}, with {lines}"
 
 
 def statement(log, machine, are_built=False):
     """The file BUILD of a release for a machine, which rests on the run of the gate whose log is given, or on none."""
     told = gate_of(log) if log else NONE
-    own = commit() + (CHANGED if is_changed() else "")
-    more = ("" if machine.target == JUDGED else ONE_COMPILER) + AS_THE_GATE_BUILT * are_built
-    return TEXT % (release(), machine.name, own, kit(), "; ".join(compilers([machine])), told + more)
+    more = ONE_COMPILER * (machine.target != JUDGED) + AS_THE_GATE_BUILT * are_built
+    return TEXT % (release(), machine.name, commit(), kit(), "; ".join(compilers([machine])), told + more)

@@ -7,97 +7,56 @@ import re
 import time
 import urllib.parse
 
-from lib.packing.version import release
-from .base import SUPPLIER, files_below, say, sum_of, write
-from .linked import UNKNOWN, crates
+from .base import SUPPLIER, files_below, release, say, sum_of, write
+from .notices import UNKNOWN, linked
 from .rests import compilers, kit
 
-OWN_LICENCE = "MIT OR Apache-2.0"
-OWN_COPYRIGHT = "Copyright (c) The yamlcanon authors"
+LICENCE, COPYRIGHT = "MIT OR Apache-2.0", "Copyright (c) The yamlcanon authors"
+WITH_PROGRAMS = re.compile(r"^yamlcanon(-[\d.]+-\w+-linux\.tar\.gz|_.*\.deb)$")
 # What is handed out, by the words of tools/notices: the name of each product, and the files that it is in.
 PRODUCTS = {
-    "the program": ("yamlcanon-program", re.compile(r"^yamlcanon(-[\d.]+-\w+-linux\.tar\.gz|_.*\.deb)$")),
-    "yamlreview": ("yamlreview-program", re.compile(r"^yamlcanon(-[\d.]+-\w+-linux\.tar\.gz|_.*\.deb)$")),
+    "the program": ("yamlcanon-program", WITH_PROGRAMS),
+    "yamlreview": ("yamlreview-program", WITH_PROGRAMS),
     "the library": ("libyamlcanon", re.compile(r"^(yamlcanon-[\d.]+-\w+-linux\.tar\.gz|libyamlcanon.*\.(tar\.gz|deb)|.*\.whl)$")),
 }
 
 
-def name_of(text):
-    return re.sub(r"[^A-Za-z0-9.-]", "-", text)
-
-
-def purl(kind, name, version, comment=None):
+def purl(kind, name, version, **more):
     """A package's name for those who look for known faults (https://github.com/package-url)."""
-    locator = "pkg:%s/%s@%s" % (kind, name, urllib.parse.quote(version, safe="."))
-    found = {"referenceCategory": "PACKAGE-MANAGER", "referenceType": "purl", "referenceLocator": locator}
-    return {**found, "comment": comment} if comment else found
+    locator = f"pkg:{kind}/{name}@{urllib.parse.quote(version, safe='.')}"
+    return {"referenceCategory": "PACKAGE-MANAGER", "referenceType": "purl", "referenceLocator": locator, **more}
 
 
 def package(name, version, licence, **more):
-    return {
-        "name": name,
-        "SPDXID": "SPDXRef-" + name_of("package-" + name),
-        "versionInfo": version,
-        "downloadLocation": UNKNOWN,
-        "filesAnalyzed": False,
-        "licenseConcluded": UNKNOWN,
-        "licenseDeclared": licence,
-        "copyrightText": UNKNOWN,
-        "supplier": UNKNOWN,
-        **more,
-    }
+    unknown = dict.fromkeys(("downloadLocation", "licenseConcluded", "copyrightText", "supplier"), UNKNOWN)
+    own = {"name": name, "SPDXID": "SPDXRef-package-" + re.sub(r"[^A-Za-z0-9.-]", "-", name), "versionInfo": version}
+    return {**own, **unknown, "filesAnalyzed": False, "licenseDeclared": licence, **more}
 
 
 def own_package(name, supplier, **more):
     """A package whose code is of this repository."""
-    return package(
-        name,
-        release(),
-        OWN_LICENCE,
-        supplier=supplier,
-        copyrightText=OWN_COPYRIGHT,
-        externalRefs=[purl("generic", name, release())],
-        **more,
-    )
+    about = {"supplier": supplier, "copyrightText": COPYRIGHT, "externalRefs": [purl("generic", name, release())]}
+    return package(name, release(), LICENCE, **about, **more)
 
 
 def crate_package(crate):
     """A crate of the kit. Where it is a port, the crates of Rust are named too: what is found in these may be in it."""
-    number = kit().split()[0]
-    ports = [purl("cargo", *it.split(), comment="It is a port of this crate of Rust, and not the crate itself.") for it in crate.after]
-    words = "In %s. %s" % (
-        ", ".join(crate.products),
-        "After %s." % ", ".join(crate.after) if crate.after else "Its page in the kit names no version of another crate.",
-    )
-    holders = "\n".join("Copyright " + holder for holder in crate.holders)
-    return package(
-        crate.name,
-        number,
-        crate.licence,
-        comment=words,
-        copyrightText=holders or UNKNOWN,
-        externalRefs=[purl("generic", "rattle-kit/" + crate.name, number), *ports],
-    )
-
-
-def file_entry(number, name, path):
-    sums = [{"algorithm": kind.upper(), "checksumValue": sum_of(path, kind)} for kind in ("sha1", "sha256")]
-    return {
-        "fileName": "./" + name,
-        "SPDXID": "SPDXRef-file-%d" % number,
-        "checksums": sums,
-        "licenseConcluded": UNKNOWN,
-        "licenseInfoInFiles": [UNKNOWN],
-        "copyrightText": UNKNOWN,
-    }
+    number, port = kit().split()[0], "It is a port of this crate of Rust, and not the crate itself."
+    refs = [purl("generic", "rattle-kit/" + crate.name, number), *(purl("cargo", *it.split(), comment=port) for it in crate.after)]
+    after = f"After {', '.join(crate.after)}." if crate.after else "Its page in the kit names no version of another crate."
+    holders = "\n".join("Copyright " + holder for holder in crate.holders())
+    words = f"In {', '.join(crate.products)}. {after}"
+    return package(crate.name, number, crate.declared(), comment=words, copyrightText=holders or UNKNOWN, externalRefs=refs)
 
 
 def entries(trees, folder):
     """The files of the trees, each by its name in the archive, and those that are handed out."""
-    pairs = [("%s/%s" % (top, name), "%s/%s" % (tree, name)) for top, tree in trees for name in files_below(tree)]
-    pairs += [(name, "%s/%s" % (folder, name)) for name in files_below(folder)]
+    pairs = [(f"{top}/{name}", f"{tree}/{name}") for top, tree in trees for name in files_below(tree)]
+    pairs += [(name, f"{folder}/{name}") for name in files_below(folder)]
     for number, (name, path) in enumerate(pair for pair in pairs if not os.path.islink(pair[1])):
-        yield file_entry(number, name, path)
+        sums = [{"algorithm": kind.upper(), "checksumValue": sum_of(path, kind)} for kind in ("sha1", "sha256")]
+        unknown = {"licenseConcluded": UNKNOWN, "licenseInfoInFiles": [UNKNOWN], "copyrightText": UNKNOWN}
+        yield {"fileName": "./" + name, "SPDXID": f"SPDXRef-file-{number}", "checksums": sums, **unknown}
 
 
 def verification(files):
@@ -108,58 +67,48 @@ def verification(files):
 
 def namespace(files):
     """A name that no other build has, and that the same bytes always have: by the sums of all files."""
-    sums = "".join("%s %s\n" % (entry["fileName"], entry["checksums"][1]["checksumValue"]) for entry in files)
-    return "https://yamlcanon.invalid/spdx/%s/%s" % (release(), hashlib.sha256(sums.encode()).hexdigest())
+    sums = "".join(f"{entry['fileName']} {entry['checksums'][1]['checksumValue']}\n" for entry in files)
+    return f"https://yamlcanon.invalid/spdx/{release()}/{hashlib.sha256(sums.encode()).hexdigest()}"
 
 
 def related(one, kind, other):
     return {"spdxElementId": one["SPDXID"], "relationshipType": kind, "relatedSpdxElement": other["SPDXID"]}
 
 
-def relations(whole, products, linked, tools, files):
+def relations(whole, products, crates, tools, files):
     """What is described, what each product has linked in, which products each file that is handed out has, and what made them."""
-    found = [{"spdxElementId": "SPDXRef-DOCUMENT", "relationshipType": "DESCRIBES", "relatedSpdxElement": whole["SPDXID"]}]
+    found = [related({"SPDXID": "SPDXRef-DOCUMENT"}, "DESCRIBES", whole)]
     found += [related(whole, "CONTAINS", it) for it in products.values()]
-    found += [related(products[word], "STATIC_LINK", crate_package(crate)) for crate in linked for word in crate.products]
+    found += [related(products[word], "STATIC_LINK", entry) for crate, entry in crates for word in crate.products]
     for word, product in products.items():
         found += [related(entry, "CONTAINS", product) for entry in files if PRODUCTS[word][1].match(entry["fileName"][2:])]
     return found + [related(tool, "BUILD_TOOL_OF", whole) for tool in tools]
 
 
 def document(trees, folder, build, made, machines, supplier):
-    files, linked = list(entries(trees, folder)), list(crates())
+    files, crates = list(entries(trees, folder)), [(crate, crate_package(crate)) for crate in linked()]
     by = "Organization: " + re.sub(r" <(.*)>$", "" if supplier == SUPPLIER else r" (\1)", supplier)
-    tools = [package("rattle-kit", kit(), UNKNOWN, comment="The toolchain that proved and built.")] + [
-        package("compiler-%d" % number, words.partition(": ")[2], UNKNOWN, comment=words)
-        for number, words in enumerate(compilers(machines), 1)
-    ]
+    tools = [package("rattle-kit", kit(), UNKNOWN, comment="The toolchain that proved and built.")]
+    for number, words in enumerate(compilers(machines), 1):
+        tools.append(package(f"compiler-{number}", words.partition(": ")[2], UNKNOWN, comment=words))
     products = {word: own_package(name, by) for word, (name, _) in PRODUCTS.items()}
     whole = own_package("yamlcanon", by, comment=build)
-    whole.update(
-        filesAnalyzed=True,
-        packageVerificationCode=verification(files),
-        hasFiles=[entry["SPDXID"] for entry in files],
-        licenseInfoFromFiles=[UNKNOWN],
-    )
+    whole.update(filesAnalyzed=True, packageVerificationCode=verification(files), licenseInfoFromFiles=[UNKNOWN])
+    whole["hasFiles"] = [entry["SPDXID"] for entry in files]
+    created = time.strftime("%Y-%m-%dT%H:%M:%SZ", time.gmtime(made))
     return {
-        "spdxVersion": "SPDX-2.3",
-        "dataLicense": "CC0-1.0",
-        "SPDXID": "SPDXRef-DOCUMENT",
-        "name": "yamlcanon-" + release(),
+        **{"spdxVersion": "SPDX-2.3", "dataLicense": "CC0-1.0", "SPDXID": "SPDXRef-DOCUMENT", "name": f"yamlcanon-{release()}"},
         "documentNamespace": namespace(files),
-        "creationInfo": {
-            "created": time.strftime("%Y-%m-%dT%H:%M:%SZ", time.gmtime(made)),
-            "creators": ["Tool: yamlcanon-tools-release", by],
-        },
-        "packages": [whole, *products.values(), *map(crate_package, linked), *tools],
+        "creationInfo": {"created": created, "creators": ["Tool: yamlcanon-tools-release", by]},
+        "packages": [whole, *products.values(), *(entry for _, entry in crates), *tools],
         "files": files,
-        "relationships": relations(whole, products, linked, tools, files),
+        "relationships": relations(whole, products, crates, tools, files),
     }
 
 
 def make(trees, folder, build, made, machines, supplier):
     """trees: of each tree the folder that it is in its archive, and its path."""
-    name = "yamlcanon-%s.spdx.json" % release()
+    name = f"yamlcanon-{release()}.spdx.json"
     text = json.dumps(document(trees, folder, build, made, machines, supplier), indent=1, sort_keys=True)
-    write("%s/%s" % (folder, name), text + "\n")
+    write(f"{folder}/{name}", text + "\n")
     say(name)

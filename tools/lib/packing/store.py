@@ -7,6 +7,7 @@ import hashlib
 import os
 import re
 
+from lib.packing.base import write
 from lib.paths import TOP, read
 
 PAGE = "docs/using/LIBRARY.md"
@@ -35,12 +36,6 @@ require example.org/yamlcanon v0.0.0
 
 replace example.org/yamlcanon => {module}
 """
-
-
-def write(path, text):
-    os.makedirs(os.path.dirname(path), exist_ok=True)
-    with open(path, "w", encoding="utf-8") as file:
-        file.write(text)
 
 
 def put_files(room):
