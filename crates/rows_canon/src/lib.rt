@@ -1,5 +1,5 @@
-//! Test cases of readers and writers that take little at a time, or fail, of comparisons of which one side is rejected, and of how
-//! many nodes are visited.
+//! Test cases of readers and writers that take little at a time, or fail, of comparisons of which one side is rejected, of how
+//! many nodes are visited, and of the values of streams.
 #![tactic(auto)]
 
 #[cfg(test)]
@@ -14,5 +14,7 @@ mod sides;
 mod stores;
 #[cfg(test)]
 mod streams;
+#[cfg(test)]
+mod value_rows;
 #[cfg(test)]
 mod visits;

@@ -1,5 +1,0 @@
-//! Test cases of the event notation.
-#![tactic(auto)]
-
-#[cfg(test)]
-mod lines;
