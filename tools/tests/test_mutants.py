@@ -296,10 +296,14 @@ class Changed(unittest.TestCase):
 
     def test_crates_that_differ_from_a_commit(self):
         self.assertEqual(changed_crates(self.top, "HEAD"), set())
-        self.put("src/new.rt", "")
+        self.put("src/new.rt", "//! A page.\nghost use Rattle.y.specs.{\n  one,\n};\nuse std::alloc::Global;\n")
+        self.put("proofs/new.antt", "one : ℕ\n")
+        self.put("../../crates.txt", "# crates\nx: y\ny:\n")
+        self.assertEqual(changed_crates(self.top, "HEAD"), set())
+        self.put("src/new.rt", "use std::alloc::Global;\nconst ONE: usize = 1;\n")
         self.assertEqual(changed_crates(self.top, "HEAD"), {"x"})
         self.commit()
-        self.put("../../crates.txt", "# crates\nx:\ny:\n")
+        self.put("../y/specs/new.antt", "use Rattle.x.specs.{two}\none : ℕ\n")
         self.assertEqual(changed_crates(self.top, "HEAD"), {"y"})
         self.assertEqual(changed_crates(self.top, landed(self.top)), {"x", "y"})
 

@@ -3,11 +3,12 @@ from __future__ import annotations
 
 import glob
 import os
+import re
 import subprocess
 import threading
 from concurrent.futures import ThreadPoolExecutor, as_completed
 
-from lib.crates import crates_below, crates_of, lines_of
+from lib.crates import crates_below, crates_of
 from lib.mutants.gate import Gate
 from lib.mutants.judging import OWN, passes, try_crate
 from lib.mutants.mutant import Mutant, mutants_of
@@ -59,16 +60,30 @@ def landed(root: str) -> str:
     return (base if base and base != here else git(root, "rev-parse", "HEAD^") or "").strip()
 
 
+def without_imports(text: str) -> list[str]:
+    """The lines of a source or of definitions, but for imports and comments."""
+    text = re.sub(r"(?m)^[ \t]*(?:pub )?(?:ghost )?use [^;{\n]*(?:\{[^}]*\})?[^;\n]*;?$", "", text)
+    lines = (line.strip() for line in text.split("\n"))
+    return [line for line in lines if line and not line.startswith(("//", "-- ", "pub mod ", "mod "))]
+
+
+def says_more(root: str, since: str, path: str) -> bool:
+    """Whether a file of a crate decides what a mutant is tried against, and has more than other imports and comments since a commit."""
+    if path.split("/")[2:3] not in (["src"], ["specs"], ["mutants.txt"], ["must-fail"]):
+        return False
+    was = git(root, "show", f"{since}:./{path}")
+    now = read(f"{root}/{path}") if os.path.isfile(f"{root}/{path}") else ""
+    return without_imports(was or "") != without_imports(now)
+
+
 def changed_crates(root: str, since: str | None) -> set[str] | None:
-    """The crates with a file or a line of crates.txt that is not as it was in a commit, or None where git does not know the commit."""
-    files = git(root, "diff", "--name-only", "--relative", since, "--") if since else None
-    was = git(root, "show", f"{since}:./crates.txt") if since else None
-    if files is None or was is None:
+    """The crates whose code, definitions or mutants are not as they were in a commit, or None where git does not know the commit."""
+    files = git(root, "diff", "--name-only", "--no-renames", "--relative", since, "--") if since else None
+    if files is None or since is None or git(root, "show", f"{since}:./crates.txt") is None:
         return None
     new = git(root, "ls-files", "--others", "--exclude-standard") or ""
-    of_files = {path.split("/")[1] for path in (files + new).splitlines() if path.startswith("crates/")}
-    of_lines = {name for name, line in lines_of(root) if line not in was.split("\n")}
-    return (of_files | of_lines) & set(crates_of(root))
+    paths = [path for path in (files + new).splitlines() if path.startswith("crates/")]
+    return {path.split("/")[1] for path in paths if says_more(root, since, path)} & set(crates_of(root))
 
 
 def one_of_each_function(mutants: list[Mutant]) -> list[Mutant]:
