@@ -6,7 +6,7 @@ ghost use Rattle.review_folders.specs.Names.{IsNext, IsNearer};
 
 use crate::entry::{Entry, Has, path_in};
 use review_args::Diff;
-use review_files::telling::tell_unread;
+use review_files::telling::{put_line, tell_unread};
 use review_files::unread::Unread;
 use review_patterns::fits_glob;
 use std::alloc::Global;
@@ -16,6 +16,10 @@ use std::rt::Files;
 use std::{fs, io};
 use yaml_sum::reason::reason_of;
 use yaml_text::fault::Fault;
+
+/// What is said of two folders without files.
+const NOTHING: &str =
+    "yamlreview: nothing is compared: neither folder has a file that matches --include (*.yaml, *.yml, *.json if none is given)\n";
 
 /// Whether a name is that of a folder.
 fn is_folder<T: Files>(rt: &T, name: &str) -> bool {
@@ -218,7 +222,7 @@ impl BothNames {
 }
 
 /// The names of the files in both folders for which one of the globs stands. Why a folder is not read goes to standard error; the status
-/// is given.
+/// is given. If there is no such file, a line there says so.
 pub fn names_of<T: Files + AllocGlobal + Clone + Drop, E: Write>(
     rt: &T,
     alloc: Global,
@@ -236,5 +240,8 @@ pub fn names_of<T: Files + AllocGlobal + Clone + Drop, E: Write>(
         Ok(names) => names,
         Err(unread) => return Err(tell_unread(alloc, asked.right, unread, err)),
     };
+    if left.is_empty() && right.is_empty() {
+        put_line(NOTHING, err);
+    }
     Ok(BothNames { left, right })
 }
