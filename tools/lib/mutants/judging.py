@@ -173,7 +173,8 @@ def passes(verdict: str, is_known: bool) -> bool:
 def is_proved(room: Room, trials: list[Trial]) -> bool:
     """Whether the functions of these trials are proved as they are: where they are not, no refusal tells anything."""
     said, _ = check_round(room, [Trial(it.mutant, [], {}) for it in trials])
-    return said is not None and all(status == "proved" for status in said.status.values())
+    # (of a function that is passed as a value, the prover says that it is proved where its callers give what it asks)
+    return said is not None and all(status.startswith("proved") for status in said.status.values())
 
 
 def try_crate(root: str, crate: str, mutants: list[Mutant]) -> tuple[float, int]:
