@@ -275,6 +275,14 @@ class Tried(unittest.TestCase):
         with self.assertRaises(SystemExit):
             self.tried(lambda new, aside: "fn x::one: `search` did not prove `a`\nfn x::two: proved\n")
 
+    def test_function_that_is_passed_as_a_value_is_proved_for_its_callers(self):
+        lines = ["fn x::one: proved", "fn x::fn::one::is_a: proved where its callers give what it asks"]
+        for more, proved in (([], True), (["fn x::two: not proved"], False), (["fn x::two: no proof: it calls `x::one`"], False)):
+            said = Said("\n".join(lines + more))
+            self.assertEqual(len(said.status), len(lines + more))
+            with unittest.mock.patch.object(judging, "check_round", return_value=(said, [])):
+                self.assertEqual(judging.is_proved(None, []), proved)
+
 
 class Changed(unittest.TestCase):
     def setUp(self):
