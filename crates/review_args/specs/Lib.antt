@@ -1,4 +1,3 @@
-pub mod Forms
 pub mod Order
 pub mod Grammar
 pub mod Words

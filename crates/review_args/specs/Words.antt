@@ -15,16 +15,16 @@ use Rattle.review_patterns.specs.declared.pattern.Pattern.{Pattern}
 use Rattle.review_args.specs.Grammar.{IsProgram}
 use Rattle.review_args.specs.declared.words.Asked.{Asked}
 use Rattle.review_args.specs.declared.words.Asked.TheVariants as asks
-use Rattle.review_args.specs.declared.words.Diff.{Diff}
-use Rattle.review_args.specs.declared.words.Form.{Form}
-use Rattle.review_args.specs.declared.words.Form.TheVariants as forms
+use Rattle.review_text.specs.declared.options.Diff.{Diff}
+use Rattle.review_text.specs.declared.options.Form.{Form}
+use Rattle.review_text.specs.declared.options.Form.TheVariants as forms
 use Rattle.review_args.specs.declared.words.Format.{Format}
 use Rattle.review_args.specs.declared.words.Format.TheVariants as formats
 use Rattle.review_args.specs.declared.words.Merge.{Merge}
-use Rattle.review_args.specs.declared.words.Page.{Page}
-use Rattle.review_args.specs.declared.words.Page.TheVariants as pages
-use Rattle.review_args.specs.declared.words.Paths.{Paths}
-use Rattle.review_args.specs.declared.words.Paths.TheVariants as hows
+use Rattle.review_text.specs.declared.options.Page.{Page}
+use Rattle.review_text.specs.declared.options.Page.TheVariants as pages
+use Rattle.review_text.specs.declared.options.Paths.{Paths}
+use Rattle.review_text.specs.declared.options.Paths.TheVariants as hows
 use Rattle.review_args.specs.declared.words.Report.{Report}
 use Rattle.review_args.specs.declared.words.Show.{Show}
 use Rattle.review_args.specs.declared.words.Sum.{Sum}

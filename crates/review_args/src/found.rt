@@ -20,8 +20,9 @@ ghost use Rattle.review_args.specs.Words.{
   texts_in,
 };
 
-use crate::words::{CONTEXT, Form, Format, Page, Paths};
+use crate::words::Format;
 use clap::ArgMatches;
+use review_text::options::{CONTEXT, Form, Page, Paths};
 use std::alloc::{AllocError, Global};
 
 /// The first value of an argument.

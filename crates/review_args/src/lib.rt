@@ -10,4 +10,4 @@ pub mod words;
 
 pub use order::in_order;
 pub use reading::{read_keys, read_words};
-pub use words::{Asked, Diff, Form, Format, Merge, Page, Paths, Report, Show, Sum, Warn};
+pub use words::{Asked, Format, Merge, Report, Show, Sum, Warn};

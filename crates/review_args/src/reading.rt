@@ -38,10 +38,11 @@ use crate::found::{
     is_there, lines_or, loud_lines_or, page_of, paths_of, texts_of, value_of,
 };
 use crate::grammar::grammar;
-use crate::words::{Asked, Diff, LINES, Merge, Report, Show, Sum, Warn};
+use crate::words::{Asked, LINES, Merge, Report, Show, Sum, Warn};
 use clap::error::ErrorKind;
 use clap::{ArgMatches, Error};
 use review_patterns::{Pattern, is_glob, read_pattern};
+use review_text::options::Diff;
 use std::alloc::{AllocError, Global};
 
 /// How many differences are counted where no number is given.

@@ -4,8 +4,8 @@ use Rattle.std.specs.Prelude.{◌≤◌}
 use Rattle.yaml_text.specs.CountedModel.{inner_of, faults_of}
 use Rattle.yaml_text.specs.declared.counted.Counted.{Counted}
 use Rattle.review_patterns.specs.declared.pattern.Pattern.{Pattern}
-use Rattle.review_args.specs.declared.words.Diff.{Diff}
-use Rattle.review_args.specs.declared.words.Page.{Page}
+use Rattle.review_text.specs.declared.options.Diff.{Diff}
+use Rattle.review_text.specs.declared.options.Page.{Page}
 use Rattle.review_folders.specs.Pages.{FolderShows}
 use Rattle.review_folders.specs.Printed.{FolderPrints}
 use Rattle.review_folders.specs.declared.entry.Entry.{Entry}

@@ -6,10 +6,10 @@ use Rattle.yaml_text.specs.declared.fault.Fault.{Fault}
 use Rattle.yaml_text.specs.declared.fault.Fault.TheVariants.{OutOfMemory, ReadFault, WriteFault}
 use Rattle.yaml_text.specs.declared.side.Side.{Side}
 use Rattle.yaml_text.specs.declared.counted.Counted.{Counted}
-use Rattle.review_args.specs.declared.words.Form.{Form}
+use Rattle.review_text.specs.declared.options.Form.{Form}
 use Rattle.review_patterns.specs.declared.pattern.Pattern.{Pattern}
-use Rattle.review_args.specs.declared.words.Diff.{Diff}
-use Rattle.review_args.specs.declared.words.Page.{Page}
+use Rattle.review_text.specs.declared.options.Diff.{Diff}
+use Rattle.review_text.specs.declared.options.Page.{Page}
 use Rattle.review_files.specs.Lines.{TakesLine}
 use Rattle.review_files.specs.Named.{AreNamed, NotBothRead, IsAnswer}
 use Rattle.review_files.specs.Statuses.{fault_status, unread_status}

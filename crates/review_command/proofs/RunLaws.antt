@@ -1,6 +1,6 @@
 -- What `warn` does, by the warnings that are asked for.
 use Rattle.std.proofs.Common.{◌≡◌, ℕ, Bor, List, Option}
-use Rattle.review_args.specs.declared.words.Page.{Page}
+use Rattle.review_text.specs.declared.options.Page.{Page}
 use Rattle.review_args.specs.declared.words.Report.{Report}
 use Rattle.review_args.specs.declared.words.Warn.{Warn}
 use Rattle.review_command.specs.Runs.{AsksWarnings, ReportsTell, PagesTell}

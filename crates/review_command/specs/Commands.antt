@@ -11,8 +11,8 @@ use Rattle.review_patterns.specs.declared.pattern.Pattern.{Pattern}
 use Rattle.review_args.specs.Words.{Asks, HasKeys, Refuses}
 use Rattle.review_args.specs.declared.words.Asked.{Asked}
 use Rattle.review_args.specs.declared.words.Asked.TheVariants as asks
-use Rattle.review_args.specs.declared.words.Diff.{Diff}
-use Rattle.review_args.specs.declared.words.Page.{Page}
+use Rattle.review_text.specs.declared.options.Diff.{Diff}
+use Rattle.review_text.specs.declared.options.Page.{Page}
 use Rattle.review_files.specs.Lines.{TakesLine, bare_line}
 use Rattle.review_files.specs.Statuses.{fault_status}
 use Rattle.review_folders.specs.Pages.{FolderShows}

@@ -4,8 +4,8 @@ use Rattle.yaml_text.specs.declared.counted.Counted.{Counted}
 use Rattle.yaml_canon.specs.Comparing.{Compares}
 use Rattle.yaml_text.specs.Writers.{Printed}
 use Rattle.review_patterns.specs.declared.pattern.Pattern.{Pattern}
-use Rattle.review_args.specs.declared.words.Diff.{Diff}
-use Rattle.review_args.specs.declared.words.Page.{Page}
+use Rattle.review_text.specs.declared.options.Diff.{Diff}
+use Rattle.review_text.specs.declared.options.Page.{Page}
 use Rattle.review_formats.specs.declared.finding.Part.{Part}
 use Rattle.review_folders.specs.Parts.{ListsAll, ShowsLines, IsPartsText}
 use Rattle.review_lines.specs.declared.listed.Listed.{Listed}

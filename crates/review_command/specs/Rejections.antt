@@ -6,8 +6,8 @@ use Rattle.yaml_text.specs.declared.side.Side.{Side}
 use Rattle.yaml_text.specs.declared.counted.Counted.{Counted}
 use Rattle.yaml_command.specs.Printing.{PrintFails}
 use Rattle.review_patterns.specs.declared.pattern.Pattern.{Pattern}
-use Rattle.review_args.specs.declared.words.Diff.{Diff}
-use Rattle.review_args.specs.declared.words.Page.{Page}
+use Rattle.review_text.specs.declared.options.Diff.{Diff}
+use Rattle.review_text.specs.declared.options.Page.{Page}
 use Rattle.review_compare.specs.Compared.{DiffLines, DiffLists}
 use Rattle.review_lines.specs.declared.listed.Listed.{Listed}
 use Rattle.review_files.specs.Lines.{TakesLine, bare_line}

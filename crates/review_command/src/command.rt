@@ -12,7 +12,7 @@ ghost use Rattle.review_merge.specs.Merges.{no_merge_status};
 
 use crate::diff::{NoDiff, diff, diff_page};
 use clap::Error;
-use review_args::{Asked, Diff, Merge, Page, Report, Sum, in_order, read_keys, read_words};
+use review_args::{Asked, Merge, Report, Sum, in_order, read_keys, read_words};
 use review_files::telling::{UNUSABLE, put_line, tell_bare, tell_unread, tell_usage};
 use review_files::unread::Unread;
 use review_folders::{Host, are_folders, folder_lines, folder_page, names_of};
@@ -22,6 +22,7 @@ use review_patterns::Pattern;
 use review_reports::pages::pages;
 use review_reports::reports::{Kind, reports};
 use review_show::show_files;
+use review_text::options::{Diff, Page};
 use review_text::put_shown;
 use std::alloc::Global;
 use std::io::{Read, Write};

@@ -7,7 +7,6 @@ ghost use Rattle.review_command.specs.Rejections.{Refuses, DiffRefuses, PageRefu
 ghost use Rattle.review_command.specs.declared.diff.NoDiff.TheVariants.{Fault as NoText};
 ghost use Rattle.yaml_text.specs.declared.fault.Fault.TheVariants.{OutOfMemory};
 
-use review_args::{Diff, Page};
 use review_compare::{compare_sides, list_sides};
 use review_files::files::{NotBoth, read_both};
 use review_files::rejected::{Named, put_not_compared, put_rejections};
@@ -16,6 +15,7 @@ use review_folders::{lines_shown, list_found, parts_text};
 use review_formats::Part;
 use review_lines::Listed;
 use review_patterns::Pattern;
+use review_text::options::{Diff, Page};
 use std::alloc::Global;
 use std::io::{Read, Write};
 use yaml_canon::Side;

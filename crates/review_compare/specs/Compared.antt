@@ -1,7 +1,7 @@
 -- The differences of two streams, as lines and as a list.
 use Rattle.std.specs.Prelude.{ℕ, Bool, List}
 use Rattle.review_patterns.specs.declared.pattern.Pattern.{Pattern}
-use Rattle.review_args.specs.declared.words.Diff.{Diff}
+use Rattle.review_text.specs.declared.options.Diff.{Diff}
 use Rattle.review_text.specs.declared.both.Both.{Both}
 use Rattle.review_lines.specs.Compared.{TellsStreams}
 use Rattle.review_lines.specs.Listed.{ListsStreams}

@@ -1,8 +1,8 @@
 -- The lines of differences as JSON.
 use Rattle.std.specs.Prelude.{◌≡◌, ℕ, Bool, true, false, List, []}
-use Rattle.review_args.specs.declared.words.Form.TheVariants.{Json}
-use Rattle.review_args.specs.declared.words.Paths.TheVariants.{Plain}
-use Rattle.review_args.specs.declared.words.Diff.{Diff}
+use Rattle.review_text.specs.declared.options.Form.TheVariants.{Json}
+use Rattle.review_text.specs.declared.options.Paths.TheVariants.{Plain}
+use Rattle.review_text.specs.declared.options.Diff.{Diff}
 use Rattle.review_compare.specs.Compared.{DiffLines}
 
 -- So many lines are asked for, in JSON, with places, and else with nothing that an option asks for.

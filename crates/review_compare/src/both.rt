@@ -11,11 +11,11 @@ ghost use Rattle.yaml_canon.specs.Comparing.{Compares};
 ghost use Rattle.review_compare.specs.Compared.{DiffLines};
 ghost use Rattle.review_compare.specs.Sides.{BothAre};
 
-use review_args::Diff;
 use review_lines::{Compared, compare};
 use review_patterns::Pattern;
 use review_places::trace::{Trace, Traced};
 use review_text::Both;
+use review_text::options::Diff;
 use std::alloc::Global;
 use yaml_canon::both::{BothForests, forest_of_both, forest_of_both_with};
 use yaml_canon::{Side, canonical_into};

@@ -10,8 +10,8 @@ ghost use Rattle.yaml_canon.specs.FaultPlaces.{TellsSidesPlace};
 ghost use Rattle.review_compare.specs.Json.{AsksJson, JsonLines};
 
 use crate::both::compare_sides;
-use review_args::{Diff, Form, Paths};
 use review_lines::Compared;
+use review_text::options::{Diff, Form, Paths};
 use std::alloc::Global;
 use yaml_canon::{Side, same};
 use yaml_text::fault::Fault;

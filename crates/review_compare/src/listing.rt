@@ -4,9 +4,9 @@ ghost use Rattle.yaml_canon.specs.Comparing.{Compares};
 ghost use Rattle.review_compare.specs.Compared.{DiffLists};
 
 use crate::both::{forests_of, is_traced, merged, traced_both};
-use review_args::Diff;
 use review_lines::{Listed, list_differences};
 use review_patterns::Pattern;
+use review_text::options::Diff;
 use std::alloc::Global;
 use yaml_canon::Side;
 

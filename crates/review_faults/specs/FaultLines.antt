@@ -6,8 +6,8 @@ use Rattle.yaml_text.specs.Fault.{fault_number, fault_name}
 use Rattle.yaml_text.specs.declared.fault.Fault.{Fault}
 use Rattle.yaml_text.specs.declared.fault.Fault.TheVariants as faults
 use Rattle.yaml_place.specs.declared.place.Place.{Place}
-use Rattle.review_args.specs.declared.words.Form.{Form}
-use Rattle.review_args.specs.declared.words.Form.TheVariants as form
+use Rattle.review_text.specs.declared.options.Form.{Form}
+use Rattle.review_text.specs.declared.options.Form.TheVariants as form
 use Rattle.review_text.specs.Objects.{count_data, text_data, said_data, object_line}
 use Rattle.review_text.specs.declared.json.Said.TheVariants as said
 use Rattle.serde_json.specs.Data.{Data}

@@ -7,9 +7,9 @@ use Rattle.yaml_definitions.specs.model.Event.{Event, sequence_start, mapping_st
 use Rattle.yaml_definitions.specs.model.Text.{mark_len}
 use Rattle.yaml_definitions.specs.grammar.Reading.{Reads}
 use Rattle.yaml_place.specs.LineModel.{IsPlace}
-use Rattle.review_args.specs.Forms.{more_text}
-use Rattle.review_args.specs.declared.words.Form.{Form}
-use Rattle.review_args.specs.declared.words.Form.TheVariants as form
+use Rattle.review_text.specs.Forms.{more_text}
+use Rattle.review_text.specs.declared.options.Form.{Form}
+use Rattle.review_text.specs.declared.options.Form.TheVariants as form
 use Rattle.review_text.specs.Objects.{count_data, text_data, object_line}
 use Rattle.review_text.specs.Shown.{front}
 use Rattle.review_text.specs.Terminal.{terminal}

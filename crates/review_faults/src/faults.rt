@@ -7,10 +7,10 @@ ghost use Rattle.review_faults.specs.FaultLines.{called, byte_part, line_of, col
 ghost use Rattle.review_faults.specs.Heads.{place_part, head};
 
 use crate::spots::{Point, Told, find_told, place_at_point};
-use review_args::Form;
 use review_places::places::{mark_len, unmarked};
 use review_text::fronts::{put_shown, put_source_line};
 use review_text::json::{Said, put_object, text_of};
+use review_text::options::Form;
 use review_text::put_visible;
 use std::alloc::Global;
 use yaml_place::Place;

@@ -4,7 +4,7 @@ use Rattle.yaml_text.specs.declared.fault.Fault.{Fault}
 use Rattle.yaml_text.specs.declared.side.Side.{Side}
 use Rattle.yaml_canon.specs.Claims.{CanonicalRefuses}
 use Rattle.yaml_canon.specs.FaultPlaces.{TellsPlace}
-use Rattle.review_args.specs.declared.words.Form.{Form}
+use Rattle.review_text.specs.declared.options.Form.{Form}
 use Rattle.review_faults.specs.FaultLines.{TellsFault}
 use Rattle.review_files.specs.Told.{TellsFaults, TellsBoth, TellsNotCompared, no_memory, side_name}
 use Rattle.review_files.specs.declared.rejected.Named.{Named}

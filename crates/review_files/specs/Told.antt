@@ -7,7 +7,7 @@ use Rattle.yaml_text.specs.declared.side.Side.{Side}
 use Rattle.yaml_text.specs.declared.side.Side.TheVariants.{Left, Right}
 use Rattle.yaml_canon.specs.Claims.{IsCanonicalText, CanonicalRefuses}
 use Rattle.yaml_canon.specs.FaultPlaces.{TellsPlace}
-use Rattle.review_args.specs.declared.words.Form.{Form}
+use Rattle.review_text.specs.declared.options.Form.{Form}
 use Rattle.review_faults.specs.FaultLines.{TellsFault}
 use Rattle.review_files.specs.Lines.{fault_line, unread_line}
 use Rattle.review_files.specs.Statuses.{unread_status}

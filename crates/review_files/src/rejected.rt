@@ -4,9 +4,9 @@ ghost use Rattle.review_files.specs.Told.{TellsUnread, TellsFile, TellsBoth, Tel
 
 use crate::telling::{put_fault_line, put_unread};
 use crate::unread::{Unread, greater};
-use review_args::Form;
 use review_compare::fault_of;
 use review_faults::put_fault;
+use review_text::options::Form;
 use std::alloc::Global;
 use yaml_canon::Side;
 use yaml_text::fault::Fault;

@@ -9,7 +9,7 @@ use Rattle.yaml_text.specs.Writers.{Printed}
 use Rattle.yaml_command.specs.Printing.{PrintFails}
 use Rattle.review_text.proofs.Pieces.{drop_next}
 use Rattle.review_patterns.specs.declared.pattern.Pattern.{Pattern}
-use Rattle.review_args.specs.declared.words.Diff.{Diff}
+use Rattle.review_text.specs.declared.options.Diff.{Diff}
 use Rattle.review_files.specs.Lines.{TakesLine, bare_line}
 use Rattle.review_files.specs.Statuses.{fault_status}
 use Rattle.review_folders.specs.declared.entry.Entry.{Entry}

@@ -8,8 +8,8 @@ use Rattle.yaml_text.specs.declared.counted.Counted.{Counted}
 use Rattle.yaml_command.specs.Printing.{PrintFails}
 use Rattle.review_text.proofs.Pieces.{drop_next}
 use Rattle.review_patterns.specs.declared.pattern.Pattern.{Pattern}
-use Rattle.review_args.specs.declared.words.Diff.{Diff}
-use Rattle.review_args.specs.declared.words.Page.{Page}
+use Rattle.review_text.specs.declared.options.Diff.{Diff}
+use Rattle.review_text.specs.declared.options.Page.{Page}
 use Rattle.review_formats.specs.declared.finding.Part.{Part}
 use Rattle.review_files.specs.Lines.{TakesLine}
 use Rattle.review_files.specs.Statuses.{fault_status}

@@ -7,9 +7,9 @@ use Rattle.yaml_text.specs.declared.side.Side.{Side}
 use Rattle.yaml_canon.specs.Comparing.{Compares}
 use Rattle.yaml_command.specs.Shelves.{IsOf}
 use Rattle.review_patterns.specs.declared.pattern.Pattern.{Pattern}
-use Rattle.review_args.specs.declared.words.Diff.{Diff}
-use Rattle.review_args.specs.declared.words.Form.{Form}
-use Rattle.review_args.specs.declared.words.Page.{Page}
+use Rattle.review_text.specs.declared.options.Diff.{Diff}
+use Rattle.review_text.specs.declared.options.Form.{Form}
+use Rattle.review_text.specs.declared.options.Page.{Page}
 use Rattle.review_formats.specs.declared.finding.Finding.{Finding}
 use Rattle.review_formats.specs.declared.finding.Shown.{Shown}
 use Rattle.review_lines.specs.declared.listed.Listed.{Listed}

@@ -5,8 +5,8 @@ use Rattle.yaml_text.specs.declared.side.Side.{Side}
 use Rattle.yaml_canon.specs.Comparing.{Compares}
 use Rattle.yaml_command.specs.Shelves.{IsOf}
 use Rattle.review_patterns.specs.declared.pattern.Pattern.{Pattern}
-use Rattle.review_args.specs.declared.words.Diff.{Diff}
-use Rattle.review_args.specs.declared.words.Form.{Form}
+use Rattle.review_text.specs.declared.options.Diff.{Diff}
+use Rattle.review_text.specs.declared.options.Form.{Form}
 use Rattle.review_lines.specs.declared.listed.Listed.{Listed}
 use Rattle.review_compare.specs.Compared.{DiffLists}
 use Rattle.review_files.specs.Named.{IsUnread, NotBothRead}

@@ -8,10 +8,10 @@ use Rattle.yaml_text.specs.Writers.{Printed, Broken}
 use Rattle.yaml_canon.specs.Claims.{CanonicalRefuses}
 use Rattle.yaml_canon.specs.FaultPlaces.{TellsPlace}
 use Rattle.review_patterns.specs.declared.pattern.Pattern.{Pattern}
-use Rattle.review_args.specs.declared.words.Diff.{Diff}
-use Rattle.review_args.specs.declared.words.Form.{Form}
-use Rattle.review_args.specs.declared.words.Page.{Page}
-use Rattle.review_args.specs.declared.words.Page.TheVariants.{Html, Markdown, Sarif, Github}
+use Rattle.review_text.specs.declared.options.Diff.{Diff}
+use Rattle.review_text.specs.declared.options.Form.{Form}
+use Rattle.review_text.specs.declared.options.Page.{Page}
+use Rattle.review_text.specs.declared.options.Page.TheVariants.{Html, Markdown, Sarif, Github}
 use Rattle.review_formats.specs.Findings.{sign_says}
 use Rattle.review_formats.specs.LeftOut.{no_left_out}
 use Rattle.review_formats.specs.declared.finding.Finding.{Finding}

@@ -2,8 +2,8 @@
 use Rattle.std.specs.Prelude.{◌≡◌, ℕ, List, ◌++◌, Option, Some, None, String, codes, string_bytes}
 use Rattle.std.specs.declared.alloc.Global.{Global}
 use Rattle.std.specs.Str.{IsUtf8}
-use Rattle.review_args.specs.declared.words.Page.{Page}
-use Rattle.review_args.specs.declared.words.Page.TheVariants.{Html, Markdown, Sarif, Github}
+use Rattle.review_text.specs.declared.options.Page.{Page}
+use Rattle.review_text.specs.declared.options.Page.TheVariants.{Html, Markdown, Sarif, Github}
 use Rattle.review_formats.specs.declared.finding.Finding.{Finding}
 use Rattle.review_formats.specs.declared.finding.Findings.{Findings}
 use Rattle.review_formats.specs.declared.finding.Part.{Part}

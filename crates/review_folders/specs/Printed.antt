@@ -8,9 +8,9 @@ use Rattle.yaml_canon.specs.Comparing.{Compares}
 use Rattle.yaml_command.specs.Printing.{PrintFails}
 use Rattle.yaml_command.specs.Shelves.{IsOf}
 use Rattle.review_patterns.specs.declared.pattern.Pattern.{Pattern}
-use Rattle.review_args.specs.declared.words.Diff.{Diff}
-use Rattle.review_args.specs.declared.words.Form.{Form}
-use Rattle.review_args.specs.declared.words.Form.TheVariants as form
+use Rattle.review_text.specs.declared.options.Diff.{Diff}
+use Rattle.review_text.specs.declared.options.Form.{Form}
+use Rattle.review_text.specs.declared.options.Form.TheVariants as form
 use Rattle.review_text.specs.Objects.{text_data, object_line}
 use Rattle.review_text.specs.Terminal.{terminal}
 use Rattle.review_compare.specs.Compared.{DiffLines}

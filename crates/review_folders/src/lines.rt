@@ -8,7 +8,6 @@ ghost use Rattle.review_folders.specs.Folders.{NewTold};
 ghost use Rattle.review_folders.specs.Printed.{has_lines, file_object, name_line, name_text, alone_line, alone_text, head_text, lines_text, AsksFiles, BothTold, EntryTold, PrintsEntry, CutsEntry, FolderPrints};
 
 use crate::entry::{Entry, Has, are_equal, path_in, status_of};
-use review_args::{Diff, Form};
 use review_compare::compare_sides;
 use review_files::files::read_file;
 use review_files::rejected::{Named, put_not_compared, put_rejection, put_rejections};
@@ -17,6 +16,7 @@ use review_files::unread::greater;
 use review_lines::Compared;
 use review_patterns::Pattern;
 use review_text::json::{Said, put_object};
+use review_text::options::{Diff, Form};
 use review_text::put_shown;
 use review_text::text::put_all;
 use std::alloc::Global;

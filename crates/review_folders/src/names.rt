@@ -5,10 +5,10 @@ ghost use Rattle.review_patterns.specs.Globs.{begins_with_dot, fits_glob};
 ghost use Rattle.review_folders.specs.Names.{IsNext, IsNearer};
 
 use crate::entry::{Entry, Has, path_in};
-use review_args::Diff;
 use review_files::telling::{put_line, tell_unread};
 use review_files::unread::Unread;
 use review_patterns::fits_glob;
+use review_text::options::Diff;
 use std::alloc::Global;
 use std::cmp::Ordering;
 use std::io::Write;

@@ -7,7 +7,6 @@ ghost use Rattle.review_folders.specs.Pages.{BytesFaults, FileFaults, alone_rule
 
 use crate::entry::{Entry, Has, are_equal, path_in, status_of};
 use crate::parts::{lines_shown, list_found, parts_text};
-use review_args::{Diff, Page};
 use review_compare::{fault_of, list_sides};
 use review_files::files::read_file;
 use review_files::rejected::{Named, put_not_compared, put_rejection, put_rejections};
@@ -16,6 +15,7 @@ use review_files::unread::{Unread, greater};
 use review_formats::{Finding, LeftOut, Level, Part, Sides, Sign};
 use review_patterns::Pattern;
 use review_reports::pages::fault_list;
+use review_text::options::{Diff, Page};
 use review_text::put_visible;
 use std::alloc::Global;
 use std::io::Write;

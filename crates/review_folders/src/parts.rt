@@ -2,11 +2,11 @@
 ghost use Rattle.std.specs.Prelude.{◌≡◌, IfOk, IfErr, string_bytes};
 ghost use Rattle.review_folders.specs.Parts.{ListsAll, IsShown, ShowsLines, AreParts, IsPartsText};
 
-use review_args::{Diff, Page};
 use review_formats::{Finding, Findings, Part, Shown};
 use review_lines::Listed;
 use review_reports::findings::differences_found;
 use review_reports::pages::page_text;
+use review_text::options::{Diff, Page};
 use review_text::put_visible;
 use std::alloc::Global;
 use std::str;

@@ -4,7 +4,7 @@ use Rattle.std.proofs.Common.{◌≡◌, ℕ, Bool, List, [], Option, Result, Ve
 use Rattle.std.specs.declared.alloc.Global.{Global}
 use Rattle.yaml_canon.specs.Comparing.{Compares}
 use Rattle.yaml_command.specs.Shelves.{IsOf}
-use Rattle.review_args.specs.declared.words.Diff.{Diff}
+use Rattle.review_text.specs.declared.options.Diff.{Diff}
 use Rattle.review_compare.specs.Compared.{DiffLines}
 use Rattle.review_files.specs.Named.{IsUnread}
 use Rattle.review_files.specs.declared.rejected.Named.{Named}

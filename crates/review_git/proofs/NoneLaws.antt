@@ -4,10 +4,10 @@ use Rattle.std.proofs.lemmas.Bool.{eqb-true}
 use Rattle.yaml_definitions.proofs.Members.{and_both}
 use Rattle.yaml_diff.specs.declared.difference.Difference.{Difference}
 use Rattle.yaml_diff.specs.declared.difference.Found.{Found}
-use Rattle.review_args.specs.declared.words.Diff.{Diff}
+use Rattle.review_text.specs.declared.options.Diff.{Diff}
 use Rattle.review_text.specs.declared.both.Both.{Both}
-use Rattle.review_args.specs.declared.words.Form.{Form}
-use Rattle.review_args.specs.declared.words.Form.TheVariants as form
+use Rattle.review_text.specs.declared.options.Form.{Form}
+use Rattle.review_text.specs.declared.options.Form.TheVariants as form
 use Rattle.review_formats.specs.LeftOut.{is_none, left_out_text}
 use Rattle.review_formats.specs.declared.left_out.LeftOut.{LeftOut}
 use Rattle.review_lines.specs.Compared.{left_out_of, TellsEach, TellsDifferences, TellsFound, TellsAsked}

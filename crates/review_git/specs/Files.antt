@@ -6,9 +6,9 @@ use Rattle.std.specs.declared.alloc.Global.{Global}
 use Rattle.yaml_text.specs.declared.side.Side.{Side as Of}
 use Rattle.yaml_canon.specs.Comparing.{Compares}
 use Rattle.yaml_command.specs.Shelves.{IsOf}
-use Rattle.review_args.specs.declared.words.Diff.{Diff}
-use Rattle.review_args.specs.declared.words.Form.TheVariants.{Line}
-use Rattle.review_args.specs.declared.words.Paths.TheVariants.{Plain}
+use Rattle.review_text.specs.declared.options.Diff.{Diff}
+use Rattle.review_text.specs.declared.options.Form.TheVariants.{Line}
+use Rattle.review_text.specs.declared.options.Paths.TheVariants.{Plain}
 use Rattle.review_text.specs.Terminal.{terminal}
 use Rattle.review_compare.specs.Compared.{DiffLines}
 use Rattle.review_files.specs.Named.{IsUnread, NotBothRead}

@@ -1,6 +1,6 @@
 -- What is printed of what git asks for.
 use Rattle.std.specs.Prelude.{◌≡◌, ℕ, List, [], ◌∷◌, ◌++◌, Option, codes}
-use Rattle.review_args.specs.declared.words.Form.TheVariants.{Line}
+use Rattle.review_text.specs.declared.options.Form.TheVariants.{Line}
 use Rattle.review_text.specs.Terminal.{terminal}
 use Rattle.review_files.specs.Told.{TellsFile}
 use Rattle.review_files.specs.declared.rejected.Named.{Named}

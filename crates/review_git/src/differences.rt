@@ -1,6 +1,6 @@
 //! What two files have differently.
 ghost use Rattle.std.specs.Prelude.{◌≡◌, ◌++◌, ℕ, List, IfOk, OnOk, MatchOption, codes, string_bytes, IfErr};
-ghost use Rattle.review_args.specs.declared.words.Form.TheVariants.{Line};
+ghost use Rattle.review_text.specs.declared.options.Form.TheVariants.{Line};
 ghost use Rattle.review_files.specs.Named.{NotBothRead};
 ghost use Rattle.review_files.specs.Told.{TellsBoth};
 ghost use Rattle.review_git.specs.Files.{AreRead, AsksLines, TellsDifferences, TellsRead, TellsFiles};
@@ -10,11 +10,11 @@ ghost use Rattle.review_git.specs.Texts.{OfFiles, OfNewFile, IsNew};
 use crate::asked::{Kind, Pair, Style};
 use crate::git_show::put_shown_lines;
 use crate::heads::put_alone;
-use review_args::{Diff, Form, Paths};
 use review_compare::compare_sides;
 use review_files::files::read_file;
 use review_files::rejected::{Named, put_not_compared, put_rejection, put_rejections};
 use review_files::unread::Unread;
+use review_text::options::{Diff, Form, Paths};
 use std::alloc::Global;
 use yaml_command::shelf::Shelf;
 use yaml_text::fault::Fault;

@@ -4,7 +4,7 @@ use Rattle.std.proofs.Math.ListN.{drop_of_length-le}
 use Rattle.std.specs.List.{sum_by}
 use Rattle.std.proofs.lemmas.List.{append_assoc, append-nil}
 use Rattle.yaml_diff.specs.declared.difference.Difference.{Difference}
-use Rattle.review_args.specs.declared.words.Diff.{Diff}
+use Rattle.review_text.specs.declared.options.Diff.{Diff}
 use Rattle.review_text.specs.declared.both.Both.{Both}
 use Rattle.review_formats.specs.declared.left_out.LeftOut.{LeftOut}
 use Rattle.review_lines.specs.Lines.{line_text, lines_text, rest_text}

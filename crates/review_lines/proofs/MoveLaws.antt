@@ -8,7 +8,7 @@ use Rattle.std.proofs.lemmas.Bool.{eqb-true}
 use Rattle.std.proofs.lemmas.List.{length-reverse, length-map}
 use Rattle.yaml_diff.specs.declared.difference.Found.{Found}
 use Rattle.yaml_diff.specs.declared.difference.Move.{Move}
-use Rattle.review_args.specs.declared.words.Diff.{Diff}
+use Rattle.review_text.specs.declared.options.Diff.{Diff}
 use Rattle.review_folds.specs.Moves.{Groups}
 use Rattle.review_folds.specs.declared.moves.Group.{Group}
 use Rattle.review_labels.specs.Labels.{label, AreKeys}
@@ -22,8 +22,8 @@ use Rattle.yaml_diff.specs.Moves.{move_line_of, moved_line}
 use Rattle.yaml_diff.specs.declared.difference.Step as code
 use Rattle.yaml_diff.specs.declared.difference.Step.TheVariants.{Item}
 use Rattle.yaml_diff.specs.declared.difference.Difference.{Difference}
-use Rattle.review_args.specs.declared.words.Paths.{Paths}
-use Rattle.review_args.specs.declared.words.Paths.TheVariants.{Plain, Jq, JsonPointer}
+use Rattle.review_text.specs.declared.options.Paths.{Paths}
+use Rattle.review_text.specs.declared.options.Paths.TheVariants.{Plain, Jq, JsonPointer}
 use Rattle.review_text.specs.PathText.{path_text, step_text, bracketed}
 use Rattle.review_lines.specs.Compared.{is_numbered, room_of, path_as, TellsMembers, is_plain, list_path, range_of, before_text, range_path, group_text, last_of, IsFirst, TellsGroup, TellsGroups, TellsMoves}
 use Rattle.review_lines.specs.declared.lines.Line.{Line}

@@ -22,7 +22,7 @@ use Rattle.yaml_script.specs.Script.{IsScript}
 use Rattle.yaml_script.specs.Printed.{script_text}
 use Rattle.yaml_script.specs.declared.script.Edit.{Edit}
 use Rattle.yaml_diff.specs.Lines.{way_of}
-use Rattle.review_args.specs.declared.words.Diff.{Diff}
+use Rattle.review_text.specs.declared.options.Diff.{Diff}
 use Rattle.review_text.specs.declared.both.Both.{Both}
 
 -- the node of this number is this scalar

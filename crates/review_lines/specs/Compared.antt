@@ -20,9 +20,9 @@ use Rattle.yaml_diff.specs.declared.difference.Found.{Found}
 use Rattle.yaml_script.specs.Script.{IsScript}
 use Rattle.yaml_script.specs.Printed.{script_text}
 use Rattle.yaml_script.specs.declared.script.Edit.{Edit}
-use Rattle.review_args.specs.declared.words.Diff.{Diff}
-use Rattle.review_args.specs.declared.words.Form.{Form}
-use Rattle.review_args.specs.declared.words.Form.TheVariants as form
+use Rattle.review_text.specs.declared.options.Diff.{Diff}
+use Rattle.review_text.specs.declared.options.Form.{Form}
+use Rattle.review_text.specs.declared.options.Form.TheVariants as form
 use Rattle.review_patterns.specs.declared.pattern.Pattern.{Pattern}
 use Rattle.review_ignore.specs.Ignored.{Keeps}
 use Rattle.review_folds.specs.Folds.{Folds}
@@ -36,8 +36,8 @@ use Rattle.review_text.specs.Shown.{front, shown}
 use Rattle.review_text.specs.NodeText.{text_of}
 use Rattle.review_text.specs.PathText.{bracketed, start_text, step_text, path_text}
 use Rattle.review_paths.specs.Pasted.{pasted}
-use Rattle.review_args.specs.declared.words.Paths.{Paths}
-use Rattle.review_args.specs.declared.words.Paths.TheVariants.{Plain, Jq, JsonPointer}
+use Rattle.review_text.specs.declared.options.Paths.{Paths}
+use Rattle.review_text.specs.declared.options.Paths.TheVariants.{Plain, Jq, JsonPointer}
 use Rattle.review_text.specs.declared.both.Both.{Both}
 use Rattle.review_values.specs.Members.{SaysMembers}
 use Rattle.review_values.specs.declared.members.Members.{Members}

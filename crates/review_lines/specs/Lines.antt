@@ -3,9 +3,9 @@ use Rattle.std.specs.Prelude.{ℕ, zero, suc, Bool, cond, List, [], ◌∷◌, �
 use Rattle.std.specs.declared.alloc.Global.{Global}
 use Rattle.std.specs.Fmt.{decimal}
 use Rattle.yaml_place.specs.declared.place.Place.{Place}
-use Rattle.review_args.specs.declared.words.Form.{Form}
-use Rattle.review_args.specs.declared.words.Form.TheVariants as form
-use Rattle.review_args.specs.declared.words.Diff.{Diff}
+use Rattle.review_text.specs.declared.options.Form.{Form}
+use Rattle.review_text.specs.declared.options.Form.TheVariants as form
+use Rattle.review_text.specs.declared.options.Diff.{Diff}
 use Rattle.review_formats.specs.LeftOut.{is_none, between_text}
 use Rattle.review_formats.specs.declared.left_out.LeftOut.{LeftOut}
 use Rattle.review_text.specs.Hidden.{visible, json_visible}

@@ -1,7 +1,7 @@
 -- What is listed of two streams.
 use Rattle.std.specs.Prelude.{◌≡◌, ◌==◌, ◌&&◌, ◌-◌, ℕ, false, length, List}
 use Rattle.yaml_diff.specs.declared.difference.Found.{Found}
-use Rattle.review_args.specs.declared.words.Diff.{Diff}
+use Rattle.review_text.specs.declared.options.Diff.{Diff}
 use Rattle.review_patterns.specs.declared.pattern.Pattern.{Pattern}
 use Rattle.review_ignore.specs.Ignored.{Keeps}
 use Rattle.review_text.specs.declared.both.Both.{Both}

@@ -7,7 +7,7 @@ use Rattle.yaml_graph.specs.declared.graph.Graph.{Graph}
 use Rattle.yaml_tree.specs.declared.node.NodeId.{NodeId}
 use Rattle.yaml_diff.specs.Found.{FindsItems, moves_of}
 use Rattle.yaml_diff.specs.declared.difference.Found.{Found}
-use Rattle.review_args.specs.declared.words.Diff.{Diff}
+use Rattle.review_text.specs.declared.options.Diff.{Diff}
 use Rattle.review_patterns.specs.declared.pattern.Pattern.{Pattern}
 use Rattle.review_text.specs.declared.both.Both.{Both}
 

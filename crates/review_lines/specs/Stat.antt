@@ -5,9 +5,9 @@ use Rattle.std.specs.Option.{is_some, is_none}
 use Rattle.std.specs.Fmt.{decimal}
 use Rattle.yaml_diff.specs.declared.difference.Difference.{Difference}
 use Rattle.yaml_diff.specs.declared.difference.Found.{Found}
-use Rattle.review_args.specs.declared.words.Diff.{Diff}
-use Rattle.review_args.specs.declared.words.Form.{Form}
-use Rattle.review_args.specs.declared.words.Form.TheVariants as form
+use Rattle.review_text.specs.declared.options.Diff.{Diff}
+use Rattle.review_text.specs.declared.options.Form.{Form}
+use Rattle.review_text.specs.declared.options.Form.TheVariants as form
 use Rattle.review_text.specs.Terminal.{terminal}
 
 -- ---- kinds: of each difference just one is true

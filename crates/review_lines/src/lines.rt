@@ -4,9 +4,9 @@ ghost use Rattle.review_text.specs.Hidden.{visible};
 ghost use Rattle.review_lines.specs.Lines.{column, place_text, more_text, rest_object, rest_json, rest_text, others_text};
 
 use crate::stat::{put_number, put_whole};
-use review_args::{Diff, Form};
 use review_formats::LeftOut;
 use review_text::json::text_of;
+use review_text::options::{Diff, Form};
 use review_text::{put_json, put_visible};
 use review_values::Members;
 use review_values::writing::{put_place_json, put_raw, put_text};

@@ -5,9 +5,9 @@ ghost use Rattle.yaml_rank.specs.RanksView.{RanksAre};
 ghost use Rattle.yaml_diff.specs.Found.{FindsItems, moves_of};
 ghost use Rattle.review_lines.specs.Searched.{least_room, search_room, Searches};
 
-use review_args::Diff;
 use review_patterns::Pattern;
 use review_text::both::Both;
+use review_text::options::Diff;
 use std::alloc::Global;
 use yaml_diff::{Found, stream_differences};
 use yaml_graph::graph::Graph;

@@ -2,7 +2,7 @@
 ghost use Rattle.std.specs.Prelude.{◌≡◌, ◌++◌, decimal, string_bytes, OnOk, IfOk, IfErr};
 ghost use Rattle.review_lines.specs.Stat.{is_added, is_removed, is_changed, added, removed, changed, moved, moves_text, whole_text, stat_line, stat_json, numbers_text, stat_text};
 
-use review_args::{Diff, Form};
+use review_text::options::{Diff, Form};
 use review_text::put_shown;
 use std::alloc::Global;
 use yaml_diff::{Difference, Found};

@@ -8,8 +8,8 @@ ghost use Rattle.review_text.specs.Shown.{front};
 ghost use Rattle.review_lines.specs.Compared.{IsScalar, part_text, ShowsParts, ShowsChanges};
 
 use crate::lines::Changes;
-use review_args::Diff;
 use review_text::both::Both;
+use review_text::options::Diff;
 use review_text::text::front;
 use review_values::Room;
 use std::alloc::Global;

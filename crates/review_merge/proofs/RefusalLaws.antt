@@ -7,7 +7,7 @@ use Rattle.yaml_text.specs.Writers.{Broken}
 use Rattle.yaml_command.specs.Printing.{PrintFails}
 use Rattle.std.specs.Prelude.{Option}
 use Rattle.std.specs.Option.{unwrap_or}
-use Rattle.review_args.specs.declared.words.Form.TheVariants.{Line}
+use Rattle.review_text.specs.declared.options.Form.TheVariants.{Line}
 use Rattle.review_files.specs.Told.{TellsFaults}
 use Rattle.review_merge.specs.Refusals.{TellsEach, result_name}
 use Rattle.review_merge.specs.declared.merge.Names.{Names}

@@ -4,7 +4,7 @@ use Rattle.std.specs.Option.{is_some, option_map, unwrap_or}
 use Rattle.yaml_text.specs.declared.counted.Counted.{Counted}
 use Rattle.yaml_text.specs.declared.fault.Fault.TheVariants.{OutOfMemory, WriteFault}
 use Rattle.yaml_text.specs.Writers.{Broken}
-use Rattle.review_args.specs.declared.words.Form.TheVariants.{Line}
+use Rattle.review_text.specs.declared.options.Form.TheVariants.{Line}
 use Rattle.review_files.specs.Named.{ReadsNamed, ReadsNot}
 use Rattle.review_files.specs.Told.{TellsFaults, TellsUnread}
 use Rattle.review_files.specs.declared.unread.Unread.{Unread}

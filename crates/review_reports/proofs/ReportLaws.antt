@@ -9,7 +9,7 @@ use Rattle.yaml_text.specs.declared.fault.Fault.TheVariants.{WriteFault}
 use Rattle.yaml_text.specs.declared.counted.Counted.{Counted}
 use Rattle.yaml_command.specs.Printing.{PrintFails}
 use Rattle.review_text.proofs.Pieces.{drop_next}
-use Rattle.review_args.specs.declared.words.Form.{Form}
+use Rattle.review_text.specs.declared.options.Form.{Form}
 use Rattle.review_reports.specs.declared.reports.Kind.{Kind}
 use Rattle.review_reports.specs.Reports.{HasText, TellsFile, CutsFile, TellsFiles}
 

@@ -4,7 +4,7 @@ use Rattle.yaml_text.specs.declared.fault.Fault.{Fault}
 use Rattle.yaml_text.specs.declared.fault.Fault.TheVariants.{WriteFault}
 use Rattle.yaml_text.specs.declared.counted.Counted.{Counted}
 use Rattle.yaml_command.specs.Printing.{PrintFails}
-use Rattle.review_args.specs.declared.words.Page.{Page}
+use Rattle.review_text.specs.declared.options.Page.{Page}
 use Rattle.review_formats.specs.declared.finding.Finding.{Finding}
 use Rattle.review_files.specs.Statuses.{fault_status}
 use Rattle.review_reports.specs.declared.reports.Kind.{Kind}

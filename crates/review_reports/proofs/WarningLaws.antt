@@ -3,7 +3,7 @@ use Rattle.std.proofs.Common.{◌≡◌, ℕ, zero, suc, ◌+◌, ◌<◌, true,
 use Rattle.std.specs.Borrow.{Bor}
 use Rattle.std.proofs.lemmas.Bool.{eqb-true, ne_eqb}
 use Rattle.std.proofs.lemmas.List.{take_more}
-use Rattle.review_args.specs.declared.words.Form.{Form}
+use Rattle.review_text.specs.declared.options.Form.{Form}
 use Rattle.review_args.specs.declared.words.Warn.{Warn}
 use Rattle.review_formats.specs.declared.finding.Finding.{Finding}
 use Rattle.review_faults.proofs.WarnLaws.{none_told}

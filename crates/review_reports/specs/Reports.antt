@@ -4,7 +4,7 @@ use Rattle.yaml_text.specs.declared.fault.Fault.{Fault}
 use Rattle.yaml_text.specs.declared.fault.Fault.TheVariants.{TooLong, OutOfMemory, WriteFault}
 use Rattle.yaml_text.specs.declared.counted.Counted.{Counted}
 use Rattle.yaml_text.specs.Writers.{Printed, Broken}
-use Rattle.review_args.specs.declared.words.Form.{Form}
+use Rattle.review_text.specs.declared.options.Form.{Form}
 use Rattle.review_args.specs.declared.words.Warn.{Warn}
 use Rattle.review_faults.specs.FaultLines.{TellsFault}
 use Rattle.review_faults.specs.Warned.{ListsFirst, warnings_text}

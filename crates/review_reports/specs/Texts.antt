@@ -1,7 +1,7 @@
 -- What is found as text, by the form of the page.
 use Rattle.std.specs.Prelude.{◌≡◌, ℕ, List, [], ◌∷◌, None, true, codes}
-use Rattle.review_args.specs.declared.words.Page.{Page}
-use Rattle.review_args.specs.declared.words.Page.TheVariants.{Html, Markdown, Sarif, Github}
+use Rattle.review_text.specs.declared.options.Page.{Page}
+use Rattle.review_text.specs.declared.options.Page.TheVariants.{Html, Markdown, Sarif, Github}
 use Rattle.review_formats.specs.Github.{github_text}
 use Rattle.review_formats.specs.LeftOut.{no_left_out}
 use Rattle.review_formats.specs.Markdown.{markdown_text}

@@ -8,7 +8,7 @@ ghost use Rattle.review_reports.specs.Pages.{AreFoundWarnings, FindsWarnings, Fi
 
 use crate::findings::{fault_found, warning_found};
 use crate::reports::{Kind, room_of, warned_status};
-use review_args::{Page, Report, Warn};
+use review_args::{Report, Warn};
 use review_compare::fault_of;
 use review_faults::{Warning, list_warnings};
 use review_files::files::read_named;
@@ -16,6 +16,7 @@ use review_files::telling::{tell_bare, tell_unread};
 use review_files::unread::{Unread, greater};
 use review_formats::{Finding, Findings, LeftOut, Part, github_text, markdown_text, sarif_text};
 use review_html::html_text;
+use review_text::options::Page;
 use std::alloc::Global;
 use std::io::{Read, Write};
 use yaml_command::shelf::Shelf;

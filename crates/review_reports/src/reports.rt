@@ -5,12 +5,13 @@ ghost use Rattle.review_faults.specs.Again.{CannotRead, CannotTell};
 ghost use Rattle.review_faults.specs.FaultLines.{TellsFault};
 ghost use Rattle.review_reports.specs.Reports.{room_for, AddsWarnings, Adds, TellsBytes, HasText, HasNoText, TellsFile, CutsFile, TellsFiles};
 
-use review_args::{Form, Report, Warn};
+use review_args::{Report, Warn};
 use review_compare::fault_of;
 use review_faults::{list_warnings, put_fault, put_warnings};
 use review_files::files::read_named;
 use review_files::telling::{tell_bare, tell_unread};
 use review_files::unread::{Unread, greater};
+use review_text::options::Form;
 use std::alloc::Global;
 use std::io::{Read, Write};
 use yaml_command::shelf::Shelf;

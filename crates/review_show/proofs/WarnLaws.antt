@@ -2,7 +2,7 @@
 use Rattle.std.proofs.Common.{◌≡◌, inl, inr, ℕ, Bool, ◌==◌, not, List, [], length, ◌∙◌, ap}
 use Rattle.yaml_text.specs.declared.fault.Fault.{Fault}
 use Rattle.yaml_text.specs.declared.fault.Fault.TheVariants.{OutOfMemory}
-use Rattle.review_args.specs.declared.words.Form.TheVariants.{Line}
+use Rattle.review_text.specs.declared.options.Form.TheVariants.{Line}
 use Rattle.review_args.specs.declared.words.Format.{Format}
 use Rattle.review_args.specs.declared.words.Format.TheVariants.{Yaml, AsRead, Json}
 use Rattle.review_faults.proofs.WarnLaws.{none_told}

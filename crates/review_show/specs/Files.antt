@@ -10,7 +10,7 @@ use Rattle.yaml_shown.specs.Refused.{ShowRefuses, AsReadRefuses, JsonRefuses}
 use Rattle.yaml_shown.specs.Shows.{Shows, ShowsAsRead}
 use Rattle.yaml_shown.specs.declared.unshown.Unshown.{Unshown}
 use Rattle.yaml_shown.specs.declared.unshown.Unshown.TheVariants.{Rejected}
-use Rattle.review_args.specs.declared.words.Form.TheVariants.{Line}
+use Rattle.review_text.specs.declared.options.Form.TheVariants.{Line}
 use Rattle.review_args.specs.declared.words.Format.{Format}
 use Rattle.review_args.specs.declared.words.Format.TheVariants.{Yaml, AsRead, Json}
 use Rattle.review_args.specs.declared.words.Show.{Show}

@@ -4,7 +4,7 @@ use Rattle.yaml_text.specs.declared.fault.Fault.{Fault}
 use Rattle.yaml_text.specs.declared.fault.Fault.TheVariants.{TextTooLong, OutOfMemory}
 use Rattle.yaml_shown.specs.declared.unshown.Unshown.{Unshown}
 use Rattle.yaml_shown.specs.declared.unshown.Unshown.TheVariants.{Rejected, NoJson, Unlike}
-use Rattle.review_args.specs.declared.words.Form.TheVariants.{Line}
+use Rattle.review_text.specs.declared.options.Form.TheVariants.{Line}
 use Rattle.review_text.specs.Terminal.{terminal}
 use Rattle.review_faults.specs.Again.{CannotRead, CannotTell}
 use Rattle.review_faults.specs.FaultLines.{TellsFault, text_in}

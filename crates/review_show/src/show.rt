@@ -10,12 +10,13 @@ ghost use Rattle.review_args.specs.declared.words.Format.{Format};
 ghost use Rattle.review_show.specs.Unshown.{too_long, unlike, TellsRejected, PutsUnshown, CannotTellNone};
 
 use review_args::words::LINES;
-use review_args::{Form, Format, Show};
+use review_args::{Format, Show};
 use review_faults::{list_warnings, put_fault, put_no_json, put_warnings};
 use review_files::files::read_named;
 use review_files::rejected::put_no_bytes;
 use review_files::telling::{put_fault_line, put_line, tell_bare};
 use review_files::unread::{Unread, greater};
+use review_text::options::Form;
 use review_text::put_shown;
 use std::alloc::Global;
 use std::io::{Read, Write};

@@ -1,5 +1,6 @@
 pub mod Alike
 pub mod Fills
+pub mod Forms
 pub mod Hidden
 pub mod NodeText
 pub mod Objects

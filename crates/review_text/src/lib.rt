@@ -6,6 +6,7 @@ pub mod both;
 pub mod fronts;
 pub mod hidden;
 pub mod json;
+pub mod options;
 pub mod path;
 pub mod tag_words;
 pub mod text;

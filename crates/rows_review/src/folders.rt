@@ -1,6 +1,6 @@
 //! Two folders of which a file is not there any more when it is opened.
-use review_args::{Diff, Form, Page, Paths};
 use review_folders::{Entry, Has, folder_page};
+use review_text::options::{Diff, Form, Page, Paths};
 use std::io;
 use std::test::Fail;
 use yaml_command::shelf::Shelf;

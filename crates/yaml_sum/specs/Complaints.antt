@@ -8,7 +8,7 @@ use Rattle.yaml_text.specs.declared.fault.Fault.{Fault}
 use Rattle.yaml_text.specs.declared.counted.Counted.{Counted}
 use Rattle.yaml_spell.specs.Writers.{Sent, CutOff}
 use Rattle.yaml_message.specs.Words.{fault_message}
-use Rattle.review_args.specs.declared.words.Form.TheVariants as form
+use Rattle.review_text.specs.declared.options.Form.TheVariants as form
 use Rattle.review_faults.specs.FaultLines.{TellsFault}
 use Rattle.yaml_sum.specs.Lines.{told_name}
 use Rattle.yaml_sum.specs.declared.reason.Reason.{Reason}

@@ -10,8 +10,8 @@ ghost use Rattle.yaml_sum.specs.Stops.{halt_line};
 
 use crate::line::{push, push_told_name};
 use crate::stop::{Halt, Stop};
-use review_args::Form;
 use review_faults::put_fault;
+use review_text::options::Form;
 use std::alloc::Global;
 use std::io::Write;
 use std::str;

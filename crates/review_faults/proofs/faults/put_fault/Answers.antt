@@ -1,8 +1,8 @@
 use Rattle.std.proofs.Common.{◌≡◌, List, ℕ, ◌++◌, string_bytes, sym, subst}
 use Rattle.std.specs.Prelude.{Result, Ok, Err, OnOk}
 use Rattle.yaml_text.specs.declared.fault.Fault.{Fault}
-use Rattle.review_args.specs.declared.words.Form.{Form}
-use Rattle.review_args.specs.declared.words.Form.TheVariants as form
+use Rattle.review_text.specs.declared.options.Form.{Form}
+use Rattle.review_text.specs.declared.options.Form.TheVariants as form
 use Rattle.review_faults.specs.FaultLines.{HasTold, IsTold, TellsFault}
 use Rattle.review_faults.specs.declared.spots.Told.{Told}
 use Rattle.review_faults.proofs.faults.put_fault.Goals as goal
