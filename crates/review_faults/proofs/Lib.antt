@@ -3,5 +3,6 @@ mod CauseLaws
 pub mod FormLaws
 mod KeyLaws
 mod LabelLaws
+mod NoJsonLaws
 mod SpotLaws
 pub mod WarnLaws

@@ -44,7 +44,7 @@ pub struct Warnings {
 }
 
 /// The place of an offset, from that of another one. It costs more where it lies before that.
-fn go_on(text: &[u8], from: usize, place: Place, to: usize) -> Place
+pub(crate) fn go_on(text: &[u8], from: usize, place: Place, to: usize) -> Place
     requires at { IsPlace text.now from place.line place.column }
     requires within { to ≤ length text.now }
     ensures { IsPlace text.now to result.line result.column }

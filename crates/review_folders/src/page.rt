@@ -94,6 +94,7 @@ fn content_sides(
     };
     Ok(Some(Sides {
         sign,
+        others: 0,
         left,
         right,
         left_place: None,

@@ -1,12 +1,22 @@
 -- Pieces, one behind the other.
-use Rattle.std.proofs.Common.{◌≡◌, ℕ, ◌+◌, ◌<◌, ◌≤◌, List, [], ◌∷◌, ◌++◌, map, drop, length, get_or, sym, ◌∙◌, ap, add-one}
-use Rattle.std.specs.Prelude.{Result, Ok, Err, OnOk}
+use Rattle.std.proofs.Common.{◌≡◌, ℕ, zero, suc, ◌+◌, ◌<◌, ◌≤◌, List, [], ◌∷◌, ◌++◌, map, drop, length, get_or, refl, sym, ◌∙◌, ap, subst, add-one}
+use Rattle.std.specs.Prelude.{Result, Ok, Err, OnOk, codes}
+use Rattle.std.specs.Fmt.{decimal}
 use Rattle.std.specs.List.{flat_map, push}
 use Rattle.std.proofs.Math.Seq.{drop-cons}
 use Rattle.std.proofs.Math.ListN.{drop_of_length-le}
 use Rattle.std.proofs.lemmas.List.{append_assoc, append-nil}
 use Rattle.review_formats.specs.declared.piece.Piece.{Piece}
+use Rattle.review_formats.specs.Findings.{others_text}
 use Rattle.review_formats.specs.Pieces.{piece_text, pieces_text}
+
+-- how many others aliases show, if there are some
+pub others_none : (n : ℕ) (o : List ℕ) → n ≡ 0 → o ≡ o ++ others_text n
+others_none n o e = subst (λ z. o ≡ o ++ others_text z) (sym e) (sym (append-nil o))
+
+pub others_some : (n : ℕ) (o b : List ℕ) → (n ≡ 0 → ⊥) → b ≡ o ++ (codes " (and " ++ (decimal n ++ codes " more through aliases)")) → b ≡ o ++ others_text n
+others_some zero o b h e = absurd (h refl)
+others_some (suc n) o b h e = e
 
 pub drop_next : {X : Type 0} (xs : List X) (i : ℕ) (d : X) → i < length xs → drop i xs ≡ get_or xs i d ∷ drop (i + 1) xs
 drop_next xs i d l = rw add-one (drop-cons xs i d l)

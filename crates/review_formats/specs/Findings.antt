@@ -1,7 +1,9 @@
 -- What is found in files, and the words for it.
-use Rattle.std.specs.Prelude.{ℕ, ◌-◌, ◌^◌, min, Bool, List, length, codes}
+use Rattle.std.specs.Prelude.{ℕ, zero, suc, ◌-◌, ◌^◌, min, Bool, List, [], ◌++◌, length, codes}
+use Rattle.std.specs.Fmt.{decimal}
 use Rattle.std.specs.List.{list_all, sum_by}
 use Rattle.review_formats.specs.declared.finding.Part.{Part}
+use Rattle.review_formats.specs.declared.finding.Sides.{Sides}
 use Rattle.review_formats.specs.declared.finding.Sign.{Sign}
 use Rattle.review_formats.specs.declared.finding.Sign.TheVariants.{Changed, Left, Right, Moved}
 use Rattle.review_formats.specs.declared.left_out.LeftOut.{LeftOut}
@@ -26,6 +28,15 @@ sign_says Changed = codes "changed"
 sign_says Left = codes "only on the left"
 sign_says Right = codes "only on the right"
 sign_says Moved = codes "moved"
+
+-- how many other differences aliases show, if there are some
+abbrev pub others_text : ℕ → List ℕ
+others_text zero = []
+others_text (suc n) = codes " (and " ++ (decimal (suc n) ++ codes " more through aliases)")
+
+-- what a difference says of the two sides, and how many others it stands for
+unfoldable pub sides_says : Sides → List ℕ
+sides_says sides = sign_says sides.sign ++ others_text sides.others
 
 -- how many differences and moves were found in these parts and are not listed, as far as a number of 64 bits counts, and whether all were looked for
 abbrev pub differences_in : List Part → ℕ

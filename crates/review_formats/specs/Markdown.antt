@@ -6,7 +6,7 @@ use Rattle.std.specs.Fmt.{decimal}
 use Rattle.yaml_place.specs.declared.place.Place.{Place}
 use Rattle.review_formats.specs.Changes.{without_tab, changed_lines}
 use Rattle.review_formats.specs.Escaped.{escaped}
-use Rattle.review_formats.specs.Findings.{sign_says, left_out_of, count_of}
+use Rattle.review_formats.specs.Findings.{sides_says, left_out_of, count_of}
 use Rattle.review_formats.specs.LeftOut.{between_text}
 use Rattle.review_formats.specs.declared.escape.Escape.TheVariants.{Markdown}
 use Rattle.review_formats.specs.declared.finding.Finding.{Finding}
@@ -42,7 +42,7 @@ place_cell (Some place) = codes " " ++ (decimal place.line ++ (codes ":" ++ (dec
 -- a difference: what it is, its path, what each side has, and where
 abbrev pub difference_row : Finding → Sides → List ℕ
 difference_row one sides =
-    codes "| " ++ (sign_says sides.sign ++ (codes " |" ++ (cell_text one.path ++ (cell_text sides.left ++ (cell_text sides.right
+    codes "| " ++ (sides_says sides ++ (codes " |" ++ (cell_text one.path ++ (cell_text sides.left ++ (cell_text sides.right
     ++ (place_cell sides.left_place ++ (place_cell sides.right_place ++ codes "\n")))))))
 
 -- a fault or a warning: its file and place, its name, its path and what is said of it

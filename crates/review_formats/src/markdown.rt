@@ -99,7 +99,7 @@ fn put_difference(out: &mut String, finding: &Finding, sides: &Sides) -> Result<
     ensures err { IfErr result (λ fault. fault ≡ Fault.OutOfMemory) }
 {
     out.push_str("| ")?;
-    out.push_str(sides.sign.says())?;
+    sides.put_says(out)?;
     out.push_str(" |")?;
     put_cell(out, &finding.path)?;
     put_cell(out, &sides.left)?;

@@ -6,7 +6,7 @@ use Rattle.std.specs.Fmt.{decimal}
 use Rattle.yaml_place.specs.declared.place.Place.{Place}
 use Rattle.review_formats.specs.Changes.{without_tab, changed_lines}
 use Rattle.review_formats.specs.Escaped.{escaped}
-use Rattle.review_formats.specs.Findings.{sign_says}
+use Rattle.review_formats.specs.Findings.{sides_says}
 use Rattle.review_formats.specs.declared.escape.Escape.TheVariants.{Html}
 use Rattle.review_formats.specs.declared.finding.Finding.{Finding}
 use Rattle.review_formats.specs.declared.finding.Sides.{Sides}
@@ -91,7 +91,7 @@ values_by part sides None Left = both_text part sides
 values_by part sides None Right = both_text part sides
 
 abbrev pub sides_text : ℕ → Sides → List ℕ
-sides_text part sides = codes "<p>" ++ (sign_says sides.sign ++ (places_by part sides sides.changes sides.sign ++ (codes "</p>\n" ++ values_by part sides sides.changes sides.sign)))
+sides_text part sides = codes "<p>" ++ (sides_says sides ++ (places_by part sides sides.changes sides.sign ++ (codes "</p>\n" ++ values_by part sides sides.changes sides.sign)))
 
 -- ---- a fault or a warning
 

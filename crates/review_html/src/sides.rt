@@ -216,7 +216,7 @@ fn put_sides(out: &mut String, part: usize, sides: &Sides) -> Result<(), Fault>
     ensures err { IfErr result (λ fault. fault ≡ Fault.OutOfMemory) }
 {
     out.push_str("<p>")?;
-    out.push_str(sides.sign.says())?;
+    sides.put_says(out)?;
     put_places(out, part, sides)?;
     out.push_str("</p>\n")?;
     put_values(out, part, sides)

@@ -167,10 +167,10 @@ moves_untold columns folds plain both asked f groups seen told seen_moves ls roo
 
 -- ---- a list
 
-pub found_listed : (both : Both) (asked : Diff) (f : Found) (listed : Listed) (seen : List Difference) (lines : List Line) (room untold : ℕ) → seen ≡ f.list.items → lines ≡ listed.lines.items → TellsDifferences false both asked seen lines → room ≡ asked.lines - length lines
+pub found_listed : (both : Both) (asked : Diff) (f : Found) (listed : Listed) (seen : List Difference) (lines : List Line) (room untold : ℕ) → seen ≡ f.list.items → lines ≡ listed.lines.items → TellsDifferences true both asked seen lines → room ≡ asked.lines - length lines
     → TellsMoves false both asked f room listed.moves.items untold → listed.left_out ≡ left_out_of f lines untold → listed.same ≡ ((f.whole && (length f.list.items == 0)) && (length f.moves.items == 0)) → ListsFound both asked f listed
 found_listed both asked f listed seen lines room untold s k h r m w n = record {
-  differences = subst (TellsDifferences false both asked f.list.items) k (subst (λ z. TellsDifferences false both asked z lines) s h);
+  differences = subst (TellsDifferences true both asked f.list.items) k (subst (λ z. TellsDifferences true both asked z lines) s h);
   untold = untold;
   moves = subst (λ z. TellsMoves false both asked f z listed.moves.items untold) (r ∙ ap (λ z. asked.lines - length z) k) m;
   left_out = w ∙ ap (λ z. left_out_of f z untold) k;

@@ -186,7 +186,7 @@ TellsEach both asked [] [] = Unit {0}
 TellsEach both asked (d ∷ ds) (l ∷ ls) = (TellsOne both asked d.0 l × (l.count ≡ d.1)) × TellsEach both asked ds ls
 TellsEach both asked _ _ = ⊥
 
--- Each difference has a line, or the line of another one of the same nodes tells it; the latter in columns alone, if that is asked for. Of these lines the first ones, as many as are asked for.
+-- Each difference has a line, or the line of another one of the same nodes tells it; the latter not in JSON, and only if that is asked for. Of these lines the first ones, as many as are asked for.
 pub record TellsDifferences (columns : Bool) (both : Both) (asked : Diff) (list : List Difference) (lines : List Line) : Type 0 where
   pub counts : List ℕ
   pub folds : Folds (columns && asked.folds) list counts

@@ -9,9 +9,9 @@ use Rattle.review_lines.specs.Searched.{Searches}
 use Rattle.review_lines.specs.Compared.{left_out_of, TellsDifferences, TellsMoves}
 use Rattle.review_lines.specs.declared.listed.Listed.{Listed}
 
--- A line for each difference and then one for each pair of items that moved, all together as many as are asked for, and what is left out.
+-- A line for each difference, or for those of one change that aliases show, and then one for each pair of items that moved, all together as many as are asked for, and what is left out.
 pub record ListsFound (both : Both) (asked : Diff) (f : Found) (listed : Listed) : Type 0 where
-  pub differences : TellsDifferences false both asked f.list.items listed.lines.items
+  pub differences : TellsDifferences true both asked f.list.items listed.lines.items
   pub untold : ℕ
   pub moves : TellsMoves false both asked f (asked.lines - length listed.lines.items) listed.moves.items untold
   pub left_out : listed.left_out ≡ left_out_of f listed.lines.items untold

@@ -301,7 +301,7 @@ fn lines_with(
     Ok(lines)
 }
 
-/// The lines of differences, as many as are asked for. In columns, of those of the same cause one tells all, if that is asked for.
+/// The lines of differences, as many as are asked for. But for JSON, of those of the same cause one tells all, if that is asked for.
 #[tactic(auto, using(crate::proofs::CompareLaws::differences_told))]
 pub(crate) fn lines_of(
     alloc: Global,

@@ -41,7 +41,7 @@ fn lines_listed(
     ensures ok { IfOk result (ListsFound both.now asked.now found.now) }
     ensures err { IfErr result (λ fault. fault ≡ Fault.OutOfMemory) }
 {
-    let lines = lines_of(alloc, both, &found.list, asked, false, sides)?;
+    let lines = lines_of(alloc, both, &found.list, asked, true, sides)?;
     let room = asked.lines.saturating_sub(lines.len());
     let moves = lines_of_moves(alloc, both, asked, sides, found, room, false)?;
     let left_out = left_out(found, &lines, &moves);

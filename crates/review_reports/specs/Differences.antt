@@ -1,6 +1,6 @@
 -- What a page says of a difference.
-use Rattle.std.specs.Prelude.{◌≡◌, ℕ, List, [], ◌∷◌, ◌++◌, Option, Some, None, codes, option_map, string_bytes}
-use Rattle.review_formats.specs.Findings.{sign_word, sign_says}
+use Rattle.std.specs.Prelude.{◌≡◌, ◌-◌, ℕ, List, [], ◌∷◌, ◌++◌, Option, Some, None, codes, option_map, string_bytes}
+use Rattle.review_formats.specs.Findings.{sign_word, sides_says}
 use Rattle.review_formats.specs.declared.finding.Finding.{Finding}
 use Rattle.review_formats.specs.declared.finding.Level.TheVariants as levels
 use Rattle.review_formats.specs.declared.finding.Sides.{Sides}
@@ -37,12 +37,13 @@ sides_text (Some left) None = codes ": " ++ left
 sides_text None (Some right) = codes ": " ++ right
 sides_text None None = []
 
-abbrev pub message_text : Sign → Option (List ℕ) → Option (List ℕ) → List ℕ
-message_text sign left right = sign_says sign ++ sides_text left right
+abbrev pub message_text : List ℕ → Option (List ℕ) → Option (List ℕ) → List ℕ
+message_text says left right = says ++ sides_text left right
 
--- Both sides as the line has them, with escapes for the characters that would not be seen.
+-- Both sides as the line has them, and how many other differences it tells, with escapes for the characters that would not be seen.
 pub record AreSides (line : Line) (sides : Sides) : Type 0 where
   pub sign : sides.sign ≡ sign_of line.left line.right
+  pub others : sides.others ≡ line.count - 1
   pub left : option_map string_bytes sides.left ≡ option_map (λ text. visible (string_bytes text)) line.left
   pub right : option_map string_bytes sides.right ≡ option_map (λ text. visible (string_bytes text)) line.right
   pub left_place : sides.left_place ≡ line.left_place
@@ -59,7 +60,7 @@ pub record IsDifference (left right : List ℕ) (line : Line) (one : Finding) : 
   pub file : string_bytes one.file ≡ file_of sides.sign left right
   pub place : one.place ≡ place_of sides.sign line
   pub path : option_map string_bytes one.path ≡ Some (visible (string_bytes line.path))
-  pub message : string_bytes one.message ≡ message_text sides.sign (option_map string_bytes sides.left) (option_map string_bytes sides.right)
+  pub message : string_bytes one.message ≡ message_text (sides_says sides) (option_map string_bytes sides.left) (option_map string_bytes sides.right)
 
 -- these differences, one by one
 abbrev pub AreDifferences : List ℕ → List ℕ → List Line → List Finding → Type 0

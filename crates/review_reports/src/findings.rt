@@ -1,5 +1,6 @@
 //! What is found, by its parts.
 ghost use Rattle.std.specs.Prelude.{◌≡◌, ◌++◌, codes, option_map, IfOk, IfErr, OnOk, string_bytes};
+ghost use Rattle.review_formats.specs.Findings.{sides_says};
 ghost use Rattle.review_text.specs.Hidden.{visible};
 ghost use Rattle.review_text.specs.Shown.{front};
 ghost use Rattle.review_faults.specs.Again.{CannotTell};
@@ -62,11 +63,11 @@ fn put_sides(out: &mut String, sides: &Sides) -> Result<(), Fault>
 
 /// What is said of a difference behind its path.
 fn message_of(alloc: Global, sides: &Sides) -> Result<String, Fault>
-    ensures ok { IfOk result (λ s. string_bytes s ≡ message_text sides.now.sign (option_map string_bytes sides.now.left) (option_map string_bytes sides.now.right)) }
+    ensures ok { IfOk result (λ s. string_bytes s ≡ message_text (sides_says sides.now) (option_map string_bytes sides.now.left) (option_map string_bytes sides.now.right)) }
     ensures err { IfErr result (λ fault. fault ≡ Fault.OutOfMemory) }
 {
     let mut out = String::new(alloc);
-    out.push_str(sides.sign.says())?;
+    sides.put_says(&mut out)?;
     put_sides(&mut out, sides)?;
     Ok(out)
 }
@@ -89,6 +90,7 @@ fn sides_of(alloc: Global, line: &Line) -> Result<Sides, Fault>
 {
     Ok(Sides {
         sign: sign_of(line),
+        others: line.count.saturating_sub(1),
         left: visible_of(alloc, &line.left)?,
         right: visible_of(alloc, &line.right)?,
         left_place: line.left_place,

@@ -8,7 +8,7 @@ use Rattle.review_text.specs.declared.options.Form.TheVariants.{Line}
 use Rattle.review_text.specs.Terminal.{terminal}
 use Rattle.review_faults.specs.Again.{CannotRead, CannotTell}
 use Rattle.review_faults.specs.FaultLines.{TellsFault, text_in}
-use Rattle.review_faults.specs.NoJson.{BeginsSomewhere}
+use Rattle.review_faults.specs.NoJson.{TellsLacks}
 use Rattle.review_files.specs.Lines.{fault_line}
 
 -- The text that `show` would write has another length than the canonical one, so fault 20 has words of its own.
@@ -24,10 +24,10 @@ TellsRejected name bytes TextTooLong text = text ≡ too_long name
 TellsRejected name bytes OutOfMemory text = text ≡ fault_line name OutOfMemory
 TellsRejected name bytes fault text = TellsFault Line name bytes fault text
 
--- The text is written behind another one. Of a file that JSON cannot express it begins with the file's name, and with some place of it.
+-- The text is written behind another one. Of a file that JSON cannot express nodes are told, each with the file's name and with some place of it.
 abbrev pub PutsUnshown : List ℕ → List ℕ → Unshown → List ℕ → List ℕ → Type 0
 PutsUnshown name bytes (Rejected fault) old new = (text : List ℕ) × (new ≡ old ++ text) × TellsRejected name bytes fault text
-PutsUnshown name bytes NoJson old new = (text : List ℕ) × (new ≡ old ++ text) × BeginsSomewhere name (text_in bytes) text
+PutsUnshown name bytes NoJson old new = TellsLacks name (text_in bytes) old new
 PutsUnshown name bytes Unlike old new = new ≡ old ++ unlike name
 
 -- what an error says: memory is refused, or the bytes, which are read again, have no reading
