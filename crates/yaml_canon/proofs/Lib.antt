@@ -1,6 +1,8 @@
 mod ForestLaws
 mod RefusedLaws
 mod RootRanks
+mod Measuring
+mod SpelledLaws
 mod BothLaws
 pub mod ClaimLaws
 mod PlacedLaws

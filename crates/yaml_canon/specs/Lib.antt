@@ -2,6 +2,7 @@ pub mod Read
 pub mod Refused
 pub mod RefusedRanks
 pub mod Ranks
+pub mod Spelled
 pub mod Both
 pub mod Two
 pub mod Claims

@@ -11,6 +11,8 @@ pub mod run;
 mod same_ranks;
 pub mod same_streams;
 mod sides;
+pub mod spell;
+mod spelled_ranks;
 mod target;
 mod two;
 
@@ -18,6 +20,5 @@ pub use canonical_text::canonical;
 pub use placing::canonical_into;
 pub use run::run_canonical;
 pub use same_streams::same;
-pub use yaml_spell::spell;
-pub use yaml_spell::spell::canonical_len;
+pub use spell::canonical_len;
 pub use yaml_text::{Side, gather, gathering, side};

@@ -8,6 +8,7 @@ ghost use Rattle.yaml_canon.specs.FaultPlaces.{TellsPlace};
 ghost use Rattle.yaml_canon.specs.Targets.{PutsArranged, ArrangedFails, PutsCanonical, PutFails};
 
 use crate::ranks::ranked_forest;
+use crate::spelled_ranks::SpelledRanks;
 use std::alloc::Global;
 use yaml_spell::ranked::RankedNodes;
 use yaml_text::fault::Fault;
@@ -61,5 +62,6 @@ pub(crate) fn spell_stream<T: Target>(
     ensures same { T.same target.old target.new }
 {
     let forest = ranked_forest(alloc, bytes)?;
-    target.put(alloc, &forest.ranked, &forest.roots)
+    let ranks = SpelledRanks::new(alloc, &forest.ranked)?;
+    target.put(alloc, &ranks, &forest.roots)
 }

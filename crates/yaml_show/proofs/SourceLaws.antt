@@ -15,7 +15,7 @@ use Rattle.yaml_tree.specs.View.{Inside, items_in, entries_in, inside_tree, Insi
 use Rattle.yaml_rank.specs.RanksView.{RanksAre}
 use Rattle.yaml_rank.specs.declared.ranks.Ranks.{Ranks}
 use Rattle.yaml_graph.proofs.GraphOf.{kind_inside, tag_at, inside_at, graph-made, graph-below}
-use Rattle.yaml_spell.specs.RankView.{rank_in}
+use Rattle.yaml_rank.specs.TreeRanks.{rank_in}
 use Rattle.yaml_spell.specs.RankedNodes.{RanksTell}
 
 below-more : (i k : ℕ) (x : Inside) → i ≤ k → InsideBelow i x → InsideBelow k x

@@ -16,12 +16,12 @@ use crate::nodes::Nodes;
 use crate::place::Place;
 use crate::source::SourceGraph;
 use std::alloc::Global;
+use yaml_rank::ranked_graph::RankedGraph;
 use yaml_show_scalar::{Out, Stop};
 use yaml_spell::ranked::RankedNodes;
-use yaml_spell::ranked_graph::RankedGraph;
-use yaml_spell::shown::Inside;
 use yaml_text::core_tag;
 use yaml_text::limits::text_limit;
+use yaml_tree::shown::Inside;
 
 /// The greatest level of a collection in block style. One that is deeper is on one line, so that indentation does not grow further.
 const DEEPEST: usize = 64;

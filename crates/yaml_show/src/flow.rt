@@ -12,8 +12,8 @@ use yaml_show_scalar::scalar::put_scalar;
 use yaml_show_scalar::tag::put_tag_before;
 use yaml_show_scalar::{Out, Quotes, Stop};
 use yaml_spell::ranked::RankedNodes;
-use yaml_spell::shown::Inside;
 use yaml_text::core_tag;
+use yaml_tree::shown::Inside;
 
 /// Whether a scalar has so few bytes that its text is no longer than a key's may be, whatever escapes it needs.
 fn is_short_scalar(tag: &str, content: &str) -> bool

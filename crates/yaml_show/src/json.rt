@@ -19,15 +19,15 @@ use crate::flow::put_separator;
 use crate::nodes::Nodes;
 use crate::unwritten::Unwritten;
 use std::alloc::Global;
+use yaml_rank::ranked_graph::RankedGraph;
 use yaml_show_scalar::escapes::put_json_string;
 use yaml_show_scalar::number::{is_in_words, put_float};
 use yaml_show_scalar::tag::is_resolved;
 use yaml_show_scalar::{Out, Stop};
 use yaml_spell::ranked::RankedNodes;
-use yaml_spell::ranked_graph::RankedGraph;
-use yaml_spell::shown::Inside;
 use yaml_text::core_tag;
 use yaml_text::limits::text_limit;
+use yaml_tree::shown::Inside;
 
 /// Whether JSON has a scalar of this tag and content.
 #[tactic(auto, unfolding(crate::specs::JsonTrees::scalar_has_json, yaml_definitions::specs::model::Tag::core_tag))]

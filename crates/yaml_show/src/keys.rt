@@ -14,7 +14,7 @@ use std::alloc::Global;
 use yaml_show_scalar::scalar::put_scalar;
 use yaml_show_scalar::{Out, Quotes, Stop};
 use yaml_spell::ranked::RankedNodes;
-use yaml_spell::shown::Inside;
+use yaml_tree::shown::Inside;
 
 /// The greatest number of characters of a key in a block mapping.
 const KEY_LIMIT: usize = 1_023;

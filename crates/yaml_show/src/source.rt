@@ -1,12 +1,12 @@
 //! A graph whose mappings have their entries in the order of the source.
 use yaml_graph::graph::Graph;
 use yaml_graph::node::NodeKind;
+use yaml_rank::ranked_graph::RankedGraph;
 use yaml_rank::ranks::Ranks;
 use yaml_spell::node::short_len;
 use yaml_spell::ranked::RankedNodes;
-use yaml_spell::ranked_graph::RankedGraph;
-use yaml_spell::shown::{Inside, Shown};
 use yaml_tree::node::NodeId;
+use yaml_tree::shown::{Inside, Shown};
 
 /// A graph whose mappings have their entries in the order of the source. The ranks are those of its nodes.
 #[derive(Clone, Copy)]
@@ -20,7 +20,7 @@ impl<'g, 't> RankedNodes<NodeId> for SourceGraph<'g, 't> {
     ghost use Rattle.yaml_definitions.specs.model.Order.{arranged};
     ghost use Rattle.yaml_graph.specs.GraphView.{nodes_of, tree};
     ghost use Rattle.yaml_rank.specs.RanksView.{RanksAre};
-    ghost use Rattle.yaml_spell.specs.RankView.{rank_in};
+    ghost use Rattle.yaml_rank.specs.TreeRanks.{rank_in};
 
     ghost stands = { λ s. RanksAre s.graph.now s.ranks.now };
 

@@ -15,9 +15,6 @@ use Rattle.yaml_definitions.specs.model.Serial.{SerialNode}
 use Rattle.yaml_definitions.specs.canonical.NodeText.{node_text}
 use Rattle.yaml_definitions.specs.canonical.Spell.{serial_of, serial_of_arranged, spell, spell_bytes}
 use Rattle.yaml_tree.specs.TreeLists.{trees, pairs}
-use Rattle.yaml_graph.specs.GraphView.{roots_of, tree, forest}
-use Rattle.yaml_tree.specs.declared.node.NodeId.{NodeId}
-use Rattle.yaml_graph.specs.declared.graph.Graph.{Graph}
 use Rattle.yaml_tree.specs.View.{Inside, content, items, entries, InsideBelow, inside_tree}
 use Rattle.yaml_spell.specs.declared.names.State.TheVariants.{Unseen}
 use Rattle.yaml_spell.specs.NamesView.{Given}
@@ -137,11 +134,6 @@ spell_whole f = ap encode_utf8_all (same_text f)
     same_text : (h : List Tree) → spell_more h [] ≡ spell h
     same_text [] = refl
     same_text (t ∷ h) = ap (λ z. 45 ∷ 45 ∷ 45 ∷ 32 ∷ node_text (serial_of t) (10 ∷ z)) (same_text h)
-
--- the roots of a graph, arranged, have the text of its forest
-pub graph_text : (g : Graph) (roots : List NodeId) → roots ≡ roots_of g → arranged_bytes (map (λ i. arranged (tree g i.0)) roots) ≡ spell_bytes (forest g)
-graph_text g roots e =
-    ap (λ z. arranged_bytes (map (λ (i : NodeId). arranged (tree g i.0)) z)) e ∙ ap encode_utf8_all (arranged_same (λ (i : NodeId). tree g i.0) (roots_of g) []) ∙ spell_whole (forest g)
 
 -- ---- texts that are too long
 

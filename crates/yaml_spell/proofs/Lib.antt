@@ -6,12 +6,10 @@ mod SpelledLaws
 pub mod PageLaws
 pub mod RoomLaws
 mod PartLaws
-mod RankLaws
 pub mod WalkLaws
 mod ShortLaws
 pub mod ShownLaws
 mod ShortWalk
-mod GraphNodes
 mod WriteLaws
 mod Anchors
 mod Markings

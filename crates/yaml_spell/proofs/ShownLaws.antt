@@ -10,9 +10,9 @@ use Rattle.yaml_definitions.specs.canonical.NodeText.{node_text}
 use Rattle.yaml_definitions.specs.canonical.Spell.{short, text_len}
 use Rattle.yaml_tree.specs.TreeLists.{trees, pairs}
 use Rattle.yaml_tree.specs.View.{InsideBelow, inside_tree, items_in, entries_in}
-use Rattle.yaml_spell.specs.declared.shown.Inside.{Inside}
-use Rattle.yaml_spell.specs.declared.shown.Inside.TheVariants.{Scalar, Sequence, Mapping}
-use Rattle.yaml_spell.specs.RankedNodes.{inside_shown}
+use Rattle.yaml_tree.specs.declared.shown.Inside.{Inside}
+use Rattle.yaml_tree.specs.declared.shown.Inside.TheVariants.{Scalar, Sequence, Mapping}
+use Rattle.yaml_tree.specs.Shown.{inside_shown}
 use Rattle.yaml_spell.specs.ShortNodes.{short_len, if_short, scalar_len, brackets_len, shown_len}
 use Rattle.yaml_spell.proofs.WalkLaws.{brackets, two_square, two_curly}
 

@@ -11,7 +11,6 @@ pub mod Kinds
 pub mod ShortNodes
 pub mod RankedNodes
 pub mod Walked
-pub mod RankView
 pub mod Anchored
 pub mod Repeats
 pub mod Documents

@@ -4,19 +4,10 @@ use Rattle.std.specs.List.{All}
 use Rattle.yaml_definitions.specs.model.Tree.{Tree, Trees, Pairs}
 use Rattle.yaml_definitions.specs.model.Same.{Same}
 use Rattle.yaml_tree.specs.TreeLists.{trees, pairs}
-use Rattle.yaml_tree.specs.View.{InsideBelow, inside_tree, content, items, entries}
-use Rattle.yaml_tree.specs.View as view
+use Rattle.yaml_tree.specs.View.{InsideBelow, inside_tree}
 use Rattle.yaml_tree.specs.Insides.{Held}
 use Rattle.yaml_spell.specs.declared.names.Names.{Names}
-use Rattle.yaml_spell.specs.declared.shown.Inside.{Inside}
-use Rattle.yaml_spell.specs.declared.shown.Inside.TheVariants as shown
 use Rattle.yaml_spell.specs.NamesView.{ranks_in}
-
--- what is inside a node, with its parts by number
-abbrev pub inside_shown : {I : Type 0} → (I → ℕ) → Inside I → view.Inside
-inside_shown number (shown.Scalar x) = content x.now
-inside_shown number (shown.Sequence is) = items (map number is.now)
-inside_shown number (shown.Mapping es) = entries (map (λ p. (number p.0, number p.1)) es.now)
 
 -- The parts of each node are nodes, and two nodes have one rank exactly if their trees are the same.
 pub record RanksTell (count : ℕ) (tree : ℕ → Tree) (rank : Tree → ℕ) : Type 0 where

@@ -8,8 +8,8 @@ use Rattle.yaml_definitions.specs.model.Serial.{SerialNode, scalar_at, sequence_
 use Rattle.yaml_definitions.specs.canonical.Spell.{short, text_len}
 use Rattle.yaml_definitions.specs.canonical.TagText.{tag_text, written_tag}
 use Rattle.yaml_definitions.specs.model.Tree.{Tree, scalar, sequence, mapping, a_scalar, a_sequence, a_mapping}
-use Rattle.yaml_spell.specs.declared.shown.Inside.{Inside}
-use Rattle.yaml_spell.specs.declared.shown.Inside.TheVariants as shown
+use Rattle.yaml_tree.specs.declared.shown.Inside.{Inside}
+use Rattle.yaml_tree.specs.declared.shown.Inside.TheVariants as shown
 
 -- ---- of a tree
 

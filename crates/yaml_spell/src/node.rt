@@ -5,9 +5,9 @@ ghost use Rattle.yaml_spell.specs.ShortNodes.{if_short, scalar_len, brackets_len
 
 use crate::length::Length;
 use crate::parts::{Kind, put_scalar, put_tag};
-use crate::shown::{Inside, Shown};
 use crate::sink::Sink;
 use yaml_text::limits::short_limit;
+use yaml_tree::shown::{Inside, Shown};
 
 /// A content of more bytes is not short: each character has four bytes at most, and is written by one or
 /// more. So a long content is not read again each time that its node is met.

@@ -2,10 +2,11 @@
 ghost use Rattle.std.specs.Prelude.{◌≡◌, ◌<◌, ℕ};
 ghost use Rattle.yaml_definitions.specs.model.Tree.{Tree};
 ghost use Rattle.yaml_tree.specs.View.{inside_tree, InsideBelow};
-ghost use Rattle.yaml_spell.specs.RankedNodes.{inside_shown, RanksTell};
+ghost use Rattle.yaml_tree.specs.Shown.{inside_shown};
+ghost use Rattle.yaml_spell.specs.RankedNodes.{RanksTell};
 ghost use Rattle.yaml_spell.specs.ShortNodes.{short_len};
 
-use crate::shown::Shown;
+use yaml_tree::shown::Shown;
 
 /// Nodes that are ranked. Each is named by an id, and shows its parts by theirs.
 pub trait RankedNodes<I> {

@@ -1,25 +1,18 @@
-//! The canonical text of a graph's documents.
+//! The canonical text of documents whose nodes are ranked.
 ghost use Rattle.std.specs.Prelude.{◌≡◌, ◌<◌, ◌≤◌, length, map, OnOk, IfErr, IfOk};
 ghost use Rattle.yaml_definitions.specs.model.Limits.{text_limit};
-ghost use Rattle.yaml_definitions.specs.canonical.Spell.{spell_bytes};
-ghost use Rattle.yaml_graph.specs.GraphView.{forest};
-ghost use Rattle.yaml_rank.specs.RanksView.{RanksAre};
 ghost use Rattle.yaml_spell.specs.NamesView.{ranks_in};
 ghost use Rattle.yaml_spell.specs.Stops.{fault_of};
 ghost use Rattle.yaml_spell.specs.Pieces.{Puts, Fails};
-ghost use Rattle.yaml_spell.specs.Documents.{arranged_text, arranged_more, arranged_bytes, RefusesLength, RefusesArranged};
+ghost use Rattle.yaml_spell.specs.Documents.{arranged_text, arranged_more, arranged_bytes, RefusesArranged};
 ghost use Rattle.yaml_spell.specs.RankedNodes.{Ready, Rooted, tree_of};
 
 use crate::length::Length;
 use crate::names::Names;
 use crate::ranked::RankedNodes;
-use crate::ranked_graph::RankedGraph;
 use crate::sink::Sink;
 use crate::stop::Stop;
 use crate::walk::{notice, write_node};
-use std::alloc::Global;
-use yaml_graph::graph::Graph;
-use yaml_rank::ranks::Ranks;
 use yaml_text::fault::Fault;
 use yaml_text::limits::text_limit;
 
@@ -83,17 +76,4 @@ pub fn ranked_len<I: Copy, V: RankedNodes<I>>(
     let mut length = Length::new(text_limit());
     write_ranked(view, names, roots, &mut length, &mut ())?;
     Ok(length.len())
-}
-
-/// The length of the canonical text of a graph's documents, in bytes. The ranks must be those of the graph. No text is made.
-/// `TextTooLong` if the text would be longer than the limit.
-pub fn canonical_len(alloc: Global, graph: &Graph<'_>, ranks: &Ranks) -> Result<usize, Fault>
-    requires { RanksAre graph.now ranks.now }
-    ensures ok { IfOk result (λ len. len ≡ length (spell_bytes (forest graph.now))) }
-    ensures fits { IfOk result (λ len. len ≤ text_limit) }
-    ensures err { IfErr result (RefusesLength (forest graph.now)) }
-{
-    let view = RankedGraph { graph, ranks };
-    let mut names = Names::new(alloc, view.len())?;
-    ranked_len(&view, &mut names, graph.roots())
 }

@@ -12,9 +12,9 @@ ghost use Rattle.yaml_spell.specs.Walked.{noticed, noticed_all, noticed_pairs, o
 use crate::names::{Names, Opening};
 use crate::parts::{Kind, put_alias, put_anchor, put_scalar, put_tag};
 use crate::ranked::RankedNodes;
-use crate::shown::Inside;
 use crate::sink::Sink;
 use crate::stop::Stop;
+use yaml_tree::shown::Inside;
 
 /// Notes which ranks are met in the tree of a node, and which come again. A node that comes again is
 /// not entered. A short one, of which there are many, costs no call.

@@ -16,5 +16,4 @@ pub mod StoreOf
 pub mod RanksOf
 pub mod RanksView
 mod TagOrder
-mod WalkedLaws
-mod Measuring
+pub mod WalkedLaws

@@ -76,13 +76,13 @@ pub ranked-as : (v : View) (nodes nodes2 : List Node) (text text2 is is2 : List 
 ranked-as v nodes nodes2 text text2 is is2 es es2 ranks first r a b c d =
     subst (λ z. AllRanked v z text2 is2 es2 ranks first) a (subst (λ z. AllRanked v nodes z is2 es2 ranks first) b (subst (λ z. AllRanked v nodes text z es2 ranks first) c (subst (λ z. AllRanked v nodes text is z ranks first) d r)))
 
--- what is kept of the lists of a store, once they are ranked, whatever is kept beside
-pub listed-as : (s : Store) (good : Good s) → IsLow s → (are : List ℕ) → PlacesAre (tags_of s) are → (nodes : List Node) (text is is2 : List ℕ) (es es2 : List (ℕ × ℕ)) (places : List ℕ) (ranks first : Vec ℕ Global) (shorts : Vec ℕ Global) (visits : Visits)
+-- what is kept of the lists of a store, once they are ranked
+pub listed-as : (s : Store) (good : Good s) → IsLow s → (are : List ℕ) → PlacesAre (tags_of s) are → (nodes : List Node) (text is is2 : List ℕ) (es es2 : List (ℕ × ℕ)) (places : List ℕ) (ranks first : Vec ℕ Global) (visits : Visits)
     → nodes ≡ s.nodes.items → text ≡ text_of s.text → is ≡ s.items.items → es ≡ s.entries.items → places ≡ are → length is2 ≡ length is → length es2 ≡ length es
     → AllWhole (border s.text) s.nodes.items
     → (Stored (view_of s good) nodes text is es places → AllRanked (view_of s good) nodes text is2 es2 ranks.items first.items)
-    → StoreListed s good record { tags = s.tags; text = s.text; items = with_items s.items is2; entries = with_items s.entries es2; nodes = s.nodes; ranks = ranks; first = first; shorts = shorts; visits = visits }
-listed-as s good low are p nodes text is is2 es es2 places ranks first shorts visits a b c d e long wide whole ranked =
+    → StoreListed s good record { tags = s.tags; text = s.text; items = with_items s.items is2; entries = with_items s.entries es2; nodes = s.nodes; ranks = ranks; first = first; visits = visits }
+listed-as s good low are p nodes text is is2 es es2 places ranks first visits a b c d e long wide whole ranked =
     let m : length is2 ≡ length s.items.items = long ∙ ap length c in
     let n : length es2 ≡ length s.entries.items = wide ∙ ap length d in
     let f : (with_items s.items is2).items ≡ is2 = with_items_is s.items is2 (omega (arith, m, s.items.ok.0)) in

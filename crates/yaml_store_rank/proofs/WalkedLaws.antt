@@ -1,9 +1,9 @@
--- Ranks as ranked nodes.
+-- The trees of ranks.
 use Rattle.std.proofs.Common.{◌≡◌, ℕ, zero, suc, ◌+◌, ◌<◌, Bool, true, false, not, cond, List, [], ◌∷◌, length, map, get_or, slice_index, refl, sym, ◌∙◌, ap, subst, arith}
 use Rattle.std.specs.Prelude.{Some}
 use Rattle.std.specs.List.{slice_get, slice_range, position_or_len, All}
 use Rattle.std.specs.Str.{IsUtf8}
-use Rattle.std.proofs.lemmas.List.{get_or-map, length-map}
+use Rattle.std.proofs.lemmas.List.{length-map}
 use Rattle.std.proofs.lemmas.List.Elements.{All-map, All-tail}
 use Rattle.yaml_definitions.specs.model.Tree.{Tree, scalar}
 use Rattle.yaml_definitions.specs.model.Order.{arranged}
@@ -16,10 +16,8 @@ use Rattle.yaml_tree.specs.Insides.{Held, HeldBelow}
 use Rattle.yaml_tree.proofs.Lists.{get-map, get-unmap}
 use Rattle.yaml_tree.proofs.InsideLaws.{held-length, inside-same, held-tree}
 use Rattle.yaml_tree.proofs.Numbering.{get-there, get-within}
-use Rattle.yaml_spell.specs.declared.shown.Inside.{Inside}
-use Rattle.yaml_spell.specs.RankedNodes.{RanksTell, inside_shown}
-use Rattle.yaml_spell.specs.ShortNodes.{short_len, shown_len}
-use Rattle.yaml_spell.proofs.ShownLaws.{short-is}
+use Rattle.yaml_tree.specs.declared.shown.Inside.{Inside}
+use Rattle.yaml_tree.specs.Shown.{inside_shown}
 use Rattle.yaml_store.specs.declared.store.Store.{Store}
 use Rattle.yaml_store_rank.specs.declared.ranking.Ranked.{Ranked}
 use Rattle.yaml_store.specs.declared.nodes.Node.{Node}
@@ -30,7 +28,7 @@ use Rattle.yaml_store.specs.TextModel.{text_of, border, IsWhole, PlaceWhole}
 use Rattle.yaml_store.specs.StoreModel.{place_of, inside_of, tag_at, Within}
 use Rattle.yaml_store.specs.StoreGrows.{Good, IsText}
 use Rattle.yaml_store.specs.StoreView.{tree_of, tag_in, inside_at, view_of}
-use Rattle.yaml_store_rank.specs.StoreRanks.{short_at, StoreListed, StoreRanked}
+use Rattle.yaml_store_rank.specs.StoreRanks.{StoreListed, StoreRanked}
 use Rattle.yaml_store_rank.specs.RanksView.{first_of, rank_tag, rank_inside, rank_tree}
 use Rattle.yaml_store_rank.specs.Walked.{count_from, rank_held, walked_trees, walked_tree, walked_rank, ranks_of, RanksTaken}
 use Rattle.yaml_store_rank.proofs.RanksOf.{first-tree}
@@ -111,7 +109,8 @@ module _ (s : Store) (good : Good s) (c : Ranked) (are : StoreListed s good c) w
   taken-trees [] all = refl
   taken-trees (i ∷ nodes) all = λ z. (node-ranked i (all 0 0 (omega arith))).1 z ∷ taken-trees nodes (All-tail (λ i. i < length (ranks_of c)) i nodes all) z
 
-  same-is : (q r : ℕ) → q < N → r < N → same (walked_tree c q) (walked_tree c r) ≡ true → q ≡ r
+  -- two ranks whose trees are the same are one
+  pub same-is : (q r : ℕ) → q < N → r < N → same (walked_tree c q) (walked_tree c r) ≡ true → q ≡ r
   same-is q r a b h =
       let i = are.ranked.firsts q (first_of c q) (get-there c.first.items q 0 a) in
       let j = are.ranked.firsts r (first_of c r) (get-there c.first.items r 0 b) in
@@ -136,15 +135,6 @@ module _ (s : Store) (good : Good s) (c : Ranked) (are : StoreListed s good c) w
   inside-below r l =
       let b = rank-parts-below s good c are r l in
       (λ k d m. let z = b.0 k d m in omega (arith, z, l), λ k d m. let z = b.1 k d m in let x = z.0 in let y = z.1 in (omega (arith, x, l), omega (arith, y, l)))
-
-  pub walked-tells : RanksTell N (walked_tree c) (walked_rank c)
-  walked-tells = record {
-    made = λ r l. (rank_held c r, inside-below r l, walked-made r l);
-    tell = λ q r a b. (
-      λ e. let z : q ≡ r = sym (rank-is q a) ∙ e ∙ rank-is r b in subst (λ k. same (walked_tree c q) (walked_tree c k) ≡ true) z (same_refl (walked_tree c q)),
-      λ e. ap (λ k. walked_rank c (walked_tree c k)) (same-is q r a b e),
-    );
-  }
 
   pub first-within : (r i : ℕ) → r < N → i ≡ get_or c.first.items r i → i < length c.nodes.items
   first-within r i l e = subst (λ z. i < length z) (sym are.nodes) (are.ranked.firsts r i (get-there c.first.items r i l ∙ ap Some (sym e))).0
@@ -192,17 +182,6 @@ module _ (s : Store) (good : Good s) (c : Ranked) (are : StoreListed s good c) w
 
     pub parts-shown : InsideBelow N (inside_shown number x)
     parts-shown = subst (InsideBelow N) (sym inside) (inside-below r l)
-
-    -- and tells how long it is, if it is short
-    pub short-shown-is : shown_len tag x ≡ short_at s (first_of c r)
-    short-shown-is = sym (short-is number (walked_tree c) (walked_tree c r) tag x tree-shown) ∙ ap short_len (walked-is r l)
-
--- how long a rank is, if it is short
-pub short-told : (s : Store) (good : Good s) (c : Ranked) → StoreRanked s good c → (r b : ℕ) → r < length c.first.items → b ≡ get_or c.shorts.items r b → b ≡ short_len (walked_tree c r)
-short-told s good c are r b l e = e ∙ ap (λ z. get_or z r b) are.shorts ∙ get_or-map (short_at s) c.first.items r 0 b l ∙ ap short_len (sym (walked-is s good c are.listed r l))
-
-pub shorts-long : (s : Store) (good : Good s) (c : Ranked) → StoreRanked s good c → length c.shorts.items ≡ length c.first.items
-shorts-long s good c are = ap length are.shorts ∙ length-map c.first.items (short_at s)
 
 -- ranks in place of nodes
 pub ranks-taken : (c : Ranked) (nodes : List ℕ) → All (λ i. i < length (ranks_of c)) nodes → RanksTaken c nodes (map (slice_index (ranks_of c)) nodes)

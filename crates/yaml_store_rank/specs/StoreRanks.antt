@@ -1,13 +1,11 @@
 -- The nodes of a store, ranked.
-use Rattle.std.specs.Prelude.{◌≡◌, ℕ, length, map}
-use Rattle.yaml_definitions.specs.model.Order.{arranged}
+use Rattle.std.specs.Prelude.{◌≡◌, ℕ, length}
 use Rattle.yaml_tree.specs.Visited.{count_of}
-use Rattle.yaml_spell.specs.ShortNodes.{short_len}
 use Rattle.yaml_store.specs.declared.store.Store.{Store}
 use Rattle.yaml_store_rank.specs.declared.ranking.Ranked.{Ranked}
 use Rattle.yaml_store.specs.TextModel.{text_of, border, AllWhole}
 use Rattle.yaml_store.specs.StoreGrows.{Good, tags_of}
-use Rattle.yaml_store.specs.StoreView.{tree_of, view_of}
+use Rattle.yaml_store.specs.StoreView.{view_of}
 use Rattle.yaml_store_rank.specs.Ranking.{AllRanked}
 
 -- The nodes of the store are ranked, and their parts are ranks.
@@ -22,16 +20,11 @@ pub record StoreListed (s : Store) (good : Good s) (r : Ranked) : Type 0 where
 abbrev pub Listed : Ranked → Type 0
 Listed r = (s : Store) × (good : Good s) × StoreListed s good r
 
--- how many bytes the arranged tree of the node of this number takes, if it is short, else 0
-abbrev pub short_at : Store → ℕ → ℕ
-short_at s i = short_len (arranged (tree_of s i))
-
 -- how many nodes were visited
 abbrev pub visits_of : Ranked → ℕ
 visits_of r = count_of r.visits
 
--- The same, it is known which ranks are short, and how long they are, and each node was visited once.
+-- The same, and each node was visited once.
 pub record StoreRanked (s : Store) (good : Good s) (r : Ranked) : Type 0 where
   pub listed : StoreListed s good r
-  pub shorts : r.shorts.items ≡ map (short_at s) r.first.items
   pub visited : visits_of r ≡ length s.nodes.items

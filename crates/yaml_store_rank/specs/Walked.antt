@@ -1,4 +1,4 @@
--- Ranks as ranked nodes: each number is its own rank.
+-- The trees of ranks.
 use Rattle.std.specs.Prelude.{◌≡◌, ℕ, zero, suc, ◌<◌, List, [], ◌∷◌, length, map, slice_index}
 use Rattle.std.specs.List.{All, position_or_len}
 use Rattle.yaml_definitions.specs.model.Tree.{Tree}

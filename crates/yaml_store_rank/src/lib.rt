@@ -14,7 +14,6 @@ mod number;
 mod places;
 pub mod ranking;
 mod settle;
-mod shorts;
 mod slot;
 mod walked;
 

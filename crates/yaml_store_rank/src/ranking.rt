@@ -16,7 +16,6 @@ use crate::lists::Lists;
 use crate::number::number;
 use crate::places::places;
 use crate::settle::settle;
-use crate::shorts::shorts;
 use std::alloc::Global;
 use yaml_store::no_memory::NoMemory;
 use yaml_store::nodes::{Kind, Node};
@@ -36,12 +35,9 @@ pub struct Ranked<'s> {
     pub(crate) entries: Vec<(u32, u32)>,
     pub(crate) nodes: Vec<Node>,
     /// The rank of each node.
-    pub(crate) ranks: Vec<u32>,
+    pub ranks: Vec<u32>,
     /// The node that stands for each rank.
-    pub(crate) first: Vec<u32>,
-    /// How many bytes each rank takes if it is short, else 0: measured here once, and not at each of its
-    /// nodes. Filled in last.
-    pub(crate) shorts: Vec<u8>,
+    pub first: Vec<u32>,
     pub(crate) visits: Visits,
 }
 
@@ -150,7 +146,7 @@ pub fn compact_rank<'s>(alloc: Global, store: Store<'s>) -> Result<Ranked<'s>, F
     }
     let places = places(alloc, &tags)?;
     let (ranks, first, visits) = rank_all(alloc, &nodes, &text, &mut items, &mut entries, &places)?;
-    let mut ranked = Ranked {
+    Ok(Ranked {
         tags,
         text,
         items,
@@ -158,9 +154,6 @@ pub fn compact_rank<'s>(alloc: Global, store: Store<'s>) -> Result<Ranked<'s>, F
         nodes,
         ranks,
         first,
-        shorts: Vec::new(alloc),
         visits,
-    };
-    ranked.shorts = shorts(alloc, &ranked)?;
-    Ok(ranked)
+    })
 }

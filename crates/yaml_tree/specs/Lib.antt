@@ -13,3 +13,4 @@ pub mod Places
 pub mod Levels
 pub mod Keys
 pub mod Numbers
+pub mod Shown

@@ -2,7 +2,7 @@
 ghost use Rattle.std.specs.Prelude.{◌<◌, length, map, IfOk};
 ghost use Rattle.std.specs.List.{All};
 ghost use Rattle.std.specs.String.{string_bytes};
-ghost use Rattle.yaml_spell.specs.RankedNodes.{inside_shown};
+ghost use Rattle.yaml_tree.specs.Shown.{inside_shown};
 ghost use Rattle.yaml_store_rank.specs.Walked.{StandsFor, walked_tree};
 ghost use Rattle.yaml_values.specs.Denotes.{Denotes};
 ghost use Rattle.yaml_values.specs.Making.{MakesInside, MakesValue};
@@ -12,10 +12,9 @@ use crate::tags::TagPlaces;
 use crate::texts::{place, put_text};
 use crate::value::{Span, Value, scalar_kind};
 use std::alloc::Global;
-use yaml_spell::ranked::RankedNodes;
-use yaml_spell::shown::{Inside, Shown};
 use yaml_store_rank::Ranked;
 use yaml_text::fault::Fault;
+use yaml_tree::shown::{Inside, Shown};
 
 /// The values of a stream. Those of the documents are the first parts, so many.
 #[derive(Drop)]

@@ -1,6 +1,6 @@
 use Rattle.std.proofs.Common.{ap}
 use Rattle.std.specs.String.{string_bytes}
-use Rattle.yaml_spell.specs.RankedNodes.{inside_shown}
+use Rattle.yaml_tree.specs.Shown.{inside_shown}
 use Rattle.yaml_values.proofs.ValueLaws.{makes-mapping}
 use Rattle.yaml_values.proofs.making.put_inside.Goals as goal
 

@@ -1,7 +1,7 @@
 use Rattle.std.proofs.Common.{◌≡◌, ◌+◌, length, refl, sym, subst, arith}
 use Rattle.std.specs.String.{string_bytes}
 use Rattle.yaml_tree.specs.View.{inside_tree}
-use Rattle.yaml_spell.specs.RankedNodes.{inside_shown}
+use Rattle.yaml_tree.specs.Shown.{inside_shown}
 use Rattle.yaml_store_rank.specs.Walked.{walked_tree}
 use Rattle.yaml_values.specs.Making.{AreMade}
 use Rattle.yaml_values.proofs.ValueLaws.{made-more, denotes}
