@@ -27,6 +27,7 @@ complete -c yamlreview -n '__fish_seen_subcommand_from warn' -l allow -x -d 'Do 
 complete -c yamlreview -n '__fish_seen_subcommand_from show' -l format -x -a 'yaml json' -d 'Choose the form'
 complete -c yamlreview -n '__fish_seen_subcommand_from show' -l check -d 'Name files that are not as show writes them'
 complete -c yamlreview -n '__fish_seen_subcommand_from show' -l keep-order -d 'Write entries in the order of the file'
+complete -c yamlreview -n '__fish_seen_subcommand_from show' -l sharing -d 'Write nodes that come again as aliases'
 complete -c yamlreview -n '__fish_seen_subcommand_from show' -l strict -d 'Do not show a file that has a warning'
 complete -c yamlreview -n '__fish_seen_subcommand_from show' -l textconv -d 'Write a rejected file as it is'
 complete -c yamlreview -n '__fish_seen_subcommand_from sum' -l files-from -r -F -d 'Take names from a list'

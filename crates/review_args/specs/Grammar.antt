@@ -123,7 +123,7 @@ abbrev pub warn : Choices → App
 warn choices = command (codes "warn") (files ∷ flag (codes "strict") ∷ repeated (codes "allow") ∷ lines ∷ form choices ∷ [])
 
 abbrev pub show : Choices → App
-show choices = command (codes "show") (files ∷ flag (codes "check") ∷ format choices ∷ flag (codes "keep-order") ∷ flag (codes "strict") ∷ flag (codes "textconv") ∷ [])
+show choices = command (codes "show") (files ∷ flag (codes "check") ∷ format choices ∷ flag (codes "keep-order") ∷ flag (codes "sharing") ∷ flag (codes "strict") ∷ flag (codes "textconv") ∷ [])
 
 abbrev pub sum : App
 sum = command (codes "sum")

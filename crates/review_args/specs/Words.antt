@@ -105,11 +105,16 @@ page_in rows = if has (codes "format") (codes "html") rows then Some pages.Html
 abbrev pub format_in : List Row → Format
 format_in rows = if has (codes "format") (codes "json") rows then formats.Json
     else (if is_on (codes "keep-order") rows then formats.AsRead
-    else formats.Yaml)
+    else (if is_on (codes "sharing") rows then formats.Sharing
+    else formats.Yaml))
 
 -- the order of the source is asked for, and JSON
 abbrev pub keeps_json : List Row → Bool
 keeps_json rows = is_on (codes "keep-order") rows && has (codes "format") (codes "json") rows
+
+-- anchors and aliases are asked for, and JSON or the order of the source
+abbrev pub shares_otherwise : List Row → Bool
+shares_otherwise rows = is_on (codes "sharing") rows && (is_on (codes "keep-order") rows || has (codes "format") (codes "json") rows)
 
 -- `--paths`, which is for lines of text
 abbrev pub paths_in : List Row → Paths
@@ -186,6 +191,7 @@ pub record AsksShow (rows : List Row) (show : Show) : Type 0 where
   pub is_strict : show.is_strict ≡ is_on (codes "strict") rows
   pub one : has_two_modes rows ≡ false
   pub ordered : keeps_json rows ≡ false
+  pub shared : shares_otherwise rows ≡ false
 
 -- more than one of FILE, `--files-from` and `--check`
 abbrev pub are_several : List Row → Bool
@@ -291,7 +297,7 @@ RefusesDiff rows k = RefusesPatterns rows k
     ⊎ ((k ≡ kind.ArgumentConflict) × (is_some (page_in rows) ≡ true) × (is_on (codes "stat") rows ≡ true))))
 
 abbrev pub RefusesShow : List Row → ErrorKind → Type 0
-RefusesShow rows k = (k ≡ kind.OutOfMemory) ⊎ ((k ≡ kind.ArgumentConflict) × ((has_two_modes rows ≡ true) ⊎ (keeps_json rows ≡ true)))
+RefusesShow rows k = (k ≡ kind.OutOfMemory) ⊎ ((k ≡ kind.ArgumentConflict) × ((has_two_modes rows ≡ true) ⊎ ((keeps_json rows ≡ true) ⊎ (shares_otherwise rows ≡ true))))
 
 abbrev pub RefusesSum : List Row → ErrorKind → Type 0
 RefusesSum rows k = (k ≡ kind.OutOfMemory) ⊎ ((k ≡ kind.ArgumentConflict) × ((are_several rows ≡ true) ⊎ (lacks_list rows ≡ true)))

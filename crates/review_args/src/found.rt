@@ -225,6 +225,8 @@ pub(crate) fn format_of(matches: &ArgMatches<'_>) -> Format
         Format::Json
     } else if is_on(matches, "keep-order") {
         Format::AsRead
+    } else if is_on(matches, "sharing") {
+        Format::Sharing
     } else {
         Format::Yaml
     }

@@ -214,6 +214,11 @@ fn show<'a>(alloc: Global, choices: &Choices<'a>) -> Result<Command<'a>, AllocEr
         ),
         flag(
             alloc,
+            "sharing",
+            "Write a node that comes again as an alias, with the anchors of the canonical text"
+        ),
+        flag(
+            alloc,
             "strict",
             "Do not show a file with a warning, and end with status 1"
         ),

@@ -29,6 +29,7 @@ ghost use Rattle.review_args.specs.Words.{
   has_keys,
   has_two_modes,
   keeps_json,
+  shares_otherwise,
   keys_in,
   lacks_list,
 };
@@ -280,6 +281,16 @@ fn keeps_json(inner: &ArgMatches<'_>) -> bool
     is_on(inner, "keep-order") && has(inner, "format", "json")
 }
 
+/// What is wrong with `--sharing` where JSON or the order of the source is asked for.
+const NO_SHARING: &str = "--sharing is for YAML, and cannot be used with --keep-order";
+
+/// Whether anchors and aliases are asked for, and JSON or the order of the source.
+fn shares_otherwise(inner: &ArgMatches<'_>) -> bool
+    ensures { result ≡ shares_otherwise (rows_of (found_of inner.now)) }
+{
+    is_on(inner, "sharing") && (is_on(inner, "keep-order") || has(inner, "format", "json"))
+}
+
 /// What the words of `show` ask for.
 fn show_of<'a>(alloc: Global, inner: &ArgMatches<'a>) -> Result<Show<'a>, Error>
     ensures ok { IfOk result (AsksShow (rows_of (found_of inner.now))) }
@@ -290,6 +301,9 @@ fn show_of<'a>(alloc: Global, inner: &ArgMatches<'a>) -> Result<Show<'a>, Error>
     }
     if keeps_json(inner) {
         return Err(refusal(alloc, ErrorKind::ArgumentConflict, NO_ORDER)?);
+    }
+    if shares_otherwise(inner) {
+        return Err(refusal(alloc, ErrorKind::ArgumentConflict, NO_SHARING)?);
     }
     Ok(Show {
         files: files_of(alloc, inner)?,

@@ -31,6 +31,8 @@ pub enum Format {
     Yaml,
     /// YAML in block style, with entries in the order of the source.
     AsRead,
+    /// YAML in block style, with the anchors and aliases of the canonical text.
+    Sharing,
     /// A line of JSON for each document.
     Json,
 }

@@ -5,7 +5,7 @@ use Rattle.yaml_text.specs.declared.fault.Fault.TheVariants as faults
 use Rattle.yaml_definitions.specs.model.Tree.{Tree}
 use Rattle.yaml_show.specs.Layout.{shown_text}
 use Rattle.yaml_shown.specs.Refused.{RefusesBy, ShowRefuses, lines_text}
-use Rattle.yaml_shown.specs.Shows.{readable}
+use Rattle.yaml_shown.specs.Shows.{readable, readable_sharing}
 use Rattle.yaml_shown.specs.declared.unshown.Unshown.{Unshown}
 use Rattle.yaml_shown.specs.declared.unshown.Unshown.TheVariants as why
 use Rattle.review_args.specs.declared.words.Format.{Format}
@@ -43,6 +43,9 @@ none_memory format.Yaml bytes why.Unlike error h t = absurd h
 none_memory format.AsRead bytes (why.Rejected fault) error h t = refusal_memory shown_text bytes fault error h t
 none_memory format.AsRead bytes why.NoJson error h t = absurd h
 none_memory format.AsRead bytes why.Unlike error h t = absurd h
+none_memory format.Sharing bytes (why.Rejected fault) error h t = refusal_memory readable_sharing bytes fault error h t
+none_memory format.Sharing bytes why.NoJson error h t = absurd h
+none_memory format.Sharing bytes why.Unlike error h t = absurd h
 none_memory format.Json bytes (why.Rejected fault) error h t = refusal_memory lines_text bytes fault error h t
 none_memory format.Json bytes why.NoJson error h (inl e) = e
 none_memory format.Json bytes why.NoJson error h (inr n) = absurd (n h.1.events h.1.reads)

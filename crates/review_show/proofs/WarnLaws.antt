@@ -4,7 +4,7 @@ use Rattle.yaml_text.specs.declared.fault.Fault.{Fault}
 use Rattle.yaml_text.specs.declared.fault.Fault.TheVariants.{OutOfMemory}
 use Rattle.review_text.specs.declared.options.Form.TheVariants.{Line}
 use Rattle.review_args.specs.declared.words.Format.{Format}
-use Rattle.review_args.specs.declared.words.Format.TheVariants.{Yaml, AsRead, Json}
+use Rattle.review_args.specs.declared.words.Format.TheVariants.{Yaml, AsRead, Sharing, Json}
 use Rattle.review_faults.proofs.WarnLaws.{none_told}
 use Rattle.review_faults.specs.Again.{CannotRead}
 use Rattle.review_faults.specs.Warned.{ListsWarnings, warnings_text}
@@ -25,4 +25,5 @@ pub text_memory : (f : Format) (bytes text : List ℕ) (error : Fault) → IsTex
 text_memory f bytes text error t (inl e) = e
 text_memory Yaml bytes text error t (inr h) = absurd (h t.means.means.events t.means.means.reads)
 text_memory AsRead bytes text error t (inr h) = absurd (h t.means.means.events t.means.means.reads)
+text_memory Sharing bytes text error t (inr h) = absurd (h t.means.means.events t.means.means.reads)
 text_memory Json bytes text error t (inr h) = absurd (h t.alike.bytes_mean.means.events t.alike.bytes_mean.means.reads)

@@ -6,13 +6,13 @@ use Rattle.yaml_text.specs.declared.counted.Counted.{Counted}
 use Rattle.yaml_text.specs.Writers.{Printed}
 use Rattle.yaml_command.specs.Printing.{PrintFails}
 use Rattle.yaml_shown.specs.Lines.{LinesOf}
-use Rattle.yaml_shown.specs.Refused.{ShowRefuses, AsReadRefuses, JsonRefuses}
-use Rattle.yaml_shown.specs.Shows.{Shows, ShowsAsRead}
+use Rattle.yaml_shown.specs.Refused.{ShowRefuses, AsReadRefuses, SharingRefuses, JsonRefuses}
+use Rattle.yaml_shown.specs.Shows.{Shows, ShowsAsRead, ShowsSharing}
 use Rattle.yaml_shown.specs.declared.unshown.Unshown.{Unshown}
 use Rattle.yaml_shown.specs.declared.unshown.Unshown.TheVariants.{Rejected}
 use Rattle.review_text.specs.declared.options.Form.TheVariants.{Line}
 use Rattle.review_args.specs.declared.words.Format.{Format}
-use Rattle.review_args.specs.declared.words.Format.TheVariants.{Yaml, AsRead, Json}
+use Rattle.review_args.specs.declared.words.Format.TheVariants.{Yaml, AsRead, Sharing, Json}
 use Rattle.review_args.specs.declared.words.Show.{Show}
 use Rattle.review_text.specs.Terminal.{terminal}
 use Rattle.review_faults.specs.Warned.{ListsFirst, warnings_text}
@@ -31,6 +31,7 @@ use Rattle.review_show.specs.Unshown.{PutsUnshown}
 abbrev pub IsText : Format → List ℕ → List ℕ → Type 0
 IsText Yaml bytes text = Shows bytes text
 IsText AsRead bytes text = ShowsAsRead bytes text
+IsText Sharing bytes text = ShowsSharing bytes text
 IsText Json bytes text = LinesOf bytes text
 
 -- why nothing is
@@ -39,6 +40,8 @@ HasNone Yaml bytes (Rejected fault) = ShowRefuses bytes fault
 HasNone Yaml bytes _ = ⊥
 HasNone AsRead bytes (Rejected fault) = AsReadRefuses bytes fault
 HasNone AsRead bytes _ = ⊥
+HasNone Sharing bytes (Rejected fault) = SharingRefuses bytes fault
+HasNone Sharing bytes _ = ⊥
 HasNone Json bytes why = JsonRefuses bytes why
 
 -- What is printed of a file that is shown. `--check` prints the name of a file that is another text, and nothing of one that is the same.

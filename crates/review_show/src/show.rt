@@ -22,7 +22,7 @@ use std::alloc::Global;
 use std::io::{Read, Write};
 use yaml_command::shelf::Shelf;
 use yaml_command::streams::write_out;
-use yaml_shown::{Unshown, show, show_as_read, show_json};
+use yaml_shown::{Unshown, show, show_as_read, show_json, show_sharing};
 use yaml_text::counted::Counted;
 use yaml_text::fault::Fault;
 
@@ -48,6 +48,10 @@ fn text_of(alloc: Global, bytes: &[u8], format: Format) -> Result<String, Unshow
             Err(fault) => Err(Unshown::Rejected(fault)),
         },
         Format::AsRead => match show_as_read(alloc, bytes) {
+            Ok(text) => Ok(text),
+            Err(fault) => Err(Unshown::Rejected(fault)),
+        },
+        Format::Sharing => match show_sharing(alloc, bytes) {
             Ok(text) => Ok(text),
             Err(fault) => Err(Unshown::Rejected(fault)),
         },

@@ -5,13 +5,15 @@ use Rattle.std.specs.Str.{chars, chars_after, continuation_len, lead_bits}
 use Rattle.std.proofs.lemmas.Bool.{cond_both}
 use Rattle.std.proofs.lemmas.Bool.Decides.{nat_tests}
 use Rattle.std.proofs.lemmas.List.{append_assoc}
-use Rattle.yaml_definitions.specs.model.Tree.{Tree}
+use Rattle.yaml_definitions.specs.model.Tree.{Tree, scalar, sequence, mapping}
 use Rattle.yaml_show_scalar.specs.Stops.{Stops}
 use Rattle.yaml_show_scalar.specs.declared.stop.Stop.{Stop}
 use Rattle.yaml_show_scalar.specs.declared.stop.Stop.TheVariants.{TooLong, OutOfMemory}
 use Rattle.yaml_show_scalar.proofs.StopLaws.{stops_longer}
 use Rattle.yaml_show.specs.Flow.{is_short, key_text, fits}
+use Rattle.yaml_show.specs.Sharing.{key_room, has_room}
 use Rattle.yaml_show.proofs.LayoutLaws.{measured}
+use Rattle.yaml_show.proofs.SharingLaws.{room_measured}
 
 module _ (limit limit' : ℕ) (text : List ℕ) (whole : List ℕ) (stop : Stop) (l : limit' ≡ limit) (h : Stops limit' text stop) where
   pub before_one : (a rest : List ℕ) → whole ≡ (text ++ a) ++ rest → Stops limit whole stop
@@ -51,3 +53,18 @@ too_long_key t limit old l e s stop is stops =
     let h : limit < length (old ++ key_text t) = subst (Stops limit (old ++ key_text t)) is stops in
     let n : length (old ++ key_text t) ≡ length (key_text t) = ap (λ z. length (z ++ key_text t)) e in
     sym (beyond (length (chars (key_text t))) (omega (arith, l, n, h, bytes_of_chars (key_text t)))) ∙ measured t (key_text t) s refl
+
+few_room : (t : Tree) → key_room t ≤ 1023
+few_room (scalar g x) = omega arith
+few_room (sequence g ts) = omega arith
+few_room (mapping g ps) = omega arith
+
+beyond_room : (n room : ℕ) → room ≤ 1023 → 1023 < n → nat_le n room ≡ false
+beyond_room n room l h = grind (arith, nat_tests)
+
+-- nor has it room
+pub too_long_room : (t : Tree) (limit : ℕ) (old : List ℕ) → limit ≡ 4096 → old ≡ [] → is_short t ≡ false → (stop : Stop) → stop ≡ TooLong → Stops limit (old ++ key_text t) stop → false ≡ has_room t
+too_long_room t limit old l e s stop is stops =
+    let h : limit < length (old ++ key_text t) = subst (Stops limit (old ++ key_text t)) is stops in
+    let n : length (old ++ key_text t) ≡ length (key_text t) = ap (λ z. length (z ++ key_text t)) e in
+    sym (beyond_room (length (chars (key_text t))) (key_room t) (few_room t) (omega (arith, l, n, h, bytes_of_chars (key_text t)))) ∙ room_measured t (key_text t) (key_room t) s refl refl

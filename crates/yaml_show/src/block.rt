@@ -24,7 +24,7 @@ use yaml_text::limits::text_limit;
 use yaml_tree::shown::Inside;
 
 /// The greatest level of a collection in block style. One that is deeper is on one line, so that indentation does not grow further.
-const DEEPEST: usize = 64;
+pub(crate) const DEEPEST: usize = 64;
 
 /// Writes a node and the end of its line. Its parts, or the further lines of a scalar, are at this level.
 #[cycle(block)]

@@ -37,7 +37,7 @@ pub(crate) fn is_short<I: Copy, V: RankedNodes<I>>(view: &V, id: I) -> bool
 }
 
 /// Whether a key has no `? ` before it. A key of a block mapping is short as a whole, so no key in it needs one.
-fn is_simple_key<I: Copy, V: RankedNodes<I>>(view: &V, key: I, in_key: bool) -> bool
+pub(crate) fn is_simple_key<I: Copy, V: RankedNodes<I>>(view: &V, key: I, in_key: bool) -> bool
     requires stands { V.stands view.now }
     requires within { V.number key < V.count view.now }
     ensures { result ≡ is_simple in_key (V.tree view.now (V.number key)) }

@@ -20,7 +20,7 @@ use yaml_tree::shown::Inside;
 const KEY_LIMIT: usize = 1_023;
 
 /// A text of more bytes has more characters than that.
-const KEY_BYTES: usize = 4_096;
+pub(crate) const KEY_BYTES: usize = 4_096;
 
 /// Writes a collection as a key of a block mapping, without its `:`.
 fn put_flow_key<I: Copy, V: RankedNodes<I>>(view: &V, id: I, out: &mut Out) -> Result<(), Stop>
@@ -55,7 +55,7 @@ pub(crate) fn put_key<I: Copy, V: RankedNodes<I>>(
 }
 
 /// How many characters a text has.
-fn char_count(text: &str) -> usize
+pub(crate) fn char_count(text: &str) -> usize
     ensures { result ≡ length (chars text.now) }
 {
     text.chars().count()

@@ -20,10 +20,11 @@ use Rattle.law_one_reading.proofs.Documents.{one_meaning}
 use Rattle.law_read_back.proofs.Meanings.{spellings_mean}
 use Rattle.yaml_show.specs.JsonText.{json_text}
 use Rattle.yaml_show.specs.Layout.{shown_text}
+use Rattle.yaml_show.specs.Sharing.{sharing_shown}
 use Rattle.yaml_canon.specs.Claims.{AllOf, MeansAlone, IsCanonicalText}
 use Rattle.yaml_shown.specs.Alike.{MeanAlike}
 use Rattle.yaml_shown.specs.Lines.{joined, all_have_json, AreTheirs, SameIsJsonAlike}
-use Rattle.yaml_shown.specs.Shows.{readable, ReadsBack, IsShownText, ShowsBy, SameIsShownAlike}
+use Rattle.yaml_shown.specs.Shows.{ReadsBack, IsShownText, ShowsBy, SameIsShownAlike, SameIsSharedAlike}
 
 -- ---- documents that are alike
 
@@ -129,22 +130,32 @@ shows_canonical write bytes text c never =
 
 -- ---- the law
 
-module _ (f g : List Tree) (a : AllOf Keyed f) (b : AllOf Keyed g) (e : map arranged f ≡ map arranged g) where
-  reads_back : ReadsBack readable f → ReadsBack readable g
-  reads_back (h, m, l) = (h, subst (λ z. MeansAlone z h) (ap shown_text e) m, arranged_alike g h (sym e ∙ alike_arranged f h a m.keyed l))
+-- of a text that is one of arranged documents
+module _ (text_of : List Tree → List ℕ) where
+  abbrev write : List Tree → List ℕ
+  write f = text_of (map arranged f)
 
-shown_alike : (f g : List Tree) → AllOf Keyed f → AllOf Keyed g → map arranged f ≡ map arranged g → (s t : List ℕ) → IsShownText readable f s → IsShownText readable g t → s ≡ t
-shown_alike f g a b e s t (inl (p, h)) (inl (q, k)) = h ∙ ap shown_text e ∙ sym k
-shown_alike f g a b e s t (inl (p, h)) (inr (q, k)) = absurd (q (reads_back f g a b e p))
-shown_alike f g a b e s t (inr (p, h)) (inl (q, k)) = absurd (p (reads_back g f b a (sym e) q))
-shown_alike f g a b e s t (inr (p, h)) (inr (q, k)) = h ∙ same_spelled f g e ∙ sym k
+  reads_back : (f g : List Tree) → AllOf Keyed f → AllOf Keyed g → map arranged f ≡ map arranged g → ReadsBack write f → ReadsBack write g
+  reads_back f g a b e (h, m, l) = (h, subst (λ z. MeansAlone z h) (ap text_of e) m, arranged_alike g h (sym e ∙ alike_arranged f h a m.keyed l))
+
+  shown_alike : (f g : List Tree) → AllOf Keyed f → AllOf Keyed g → map arranged f ≡ map arranged g → (s t : List ℕ) → IsShownText write f s → IsShownText write g t → s ≡ t
+  shown_alike f g a b e s t (inl (p, h)) (inl (q, k)) = h ∙ ap text_of e ∙ sym k
+  shown_alike f g a b e s t (inl (p, h)) (inr (q, k)) = absurd (q (reads_back f g a b e p))
+  shown_alike f g a b e s t (inr (p, h)) (inl (q, k)) = absurd (p (reads_back g f b a (sym e) q))
+  shown_alike f g a b e s t (inr (p, h)) (inr (q, k)) = h ∙ same_spelled f g e ∙ sym k
+
+  same_is_alike : (left right text other : List ℕ) → MeanAlike left right → ShowsBy write left text → ShowsBy write right other → text ≡ other
+  same_is_alike left right text other m p q =
+      let i : p.forest ≡ m.meant = m.bytes_mean.only p.forest p.means.means in
+      let j : q.forest ≡ m.shown = m.text_means.only q.forest q.means.means in
+      let e = alike_arranged m.meant m.shown m.bytes_mean.keyed m.text_means.keyed m.alike in
+      shown_alike p.forest q.forest p.means.keyed q.means.keyed (ap (map arranged) i ∙ e ∙ ap (map arranged) (sym j)) text other p.shown q.shown
 
 pub same_is_shown_alike : SameIsShownAlike
-same_is_shown_alike left right text other m p q =
-    let i : p.forest ≡ m.meant = m.bytes_mean.only p.forest p.means.means in
-    let j : q.forest ≡ m.shown = m.text_means.only q.forest q.means.means in
-    let e = alike_arranged m.meant m.shown m.bytes_mean.keyed m.text_means.keyed m.alike in
-    shown_alike p.forest q.forest p.means.keyed q.means.keyed (ap (map arranged) i ∙ e ∙ ap (map arranged) (sym j)) text other p.shown q.shown
+same_is_shown_alike = same_is_alike shown_text
+
+pub same_is_shared_alike : SameIsSharedAlike
+same_is_shared_alike = same_is_alike sharing_shown
 
 pub same_is_json_alike : SameIsJsonAlike
 same_is_json_alike left right text other m p q =

@@ -13,7 +13,7 @@ use Rattle.yaml_show_scalar.specs.declared.stop.Stop.TheVariants as stops
 use Rattle.yaml_show.specs.JsonText.{line_stream}
 use Rattle.yaml_show.specs.Layout.{shown_text}
 use Rattle.yaml_shown.specs.Lines.{all_have_json}
-use Rattle.yaml_shown.specs.Shows.{readable}
+use Rattle.yaml_shown.specs.Shows.{readable, readable_sharing}
 use Rattle.yaml_shown.specs.declared.unshown.Unshown.{Unshown}
 use Rattle.yaml_shown.specs.declared.unshown.Unshown.TheVariants.{Rejected, NoJson, Unlike}
 
@@ -33,6 +33,10 @@ ShowRefuses = RefusesBy readable
 -- by `show_as_read`
 abbrev pub AsReadRefuses : List ℕ → Fault → Type 0
 AsReadRefuses = RefusesBy shown_text
+
+-- by `show_sharing`
+abbrev pub SharingRefuses : List ℕ → Fault → Type 0
+SharingRefuses = RefusesBy readable_sharing
 
 -- the length of the text or want of memory is all that is wrong
 abbrev pub IsLengthOrMemory : Fault → Type 0

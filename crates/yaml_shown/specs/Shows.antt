@@ -6,18 +6,24 @@ use Rattle.yaml_definitions.specs.model.Same.{Alike}
 use Rattle.yaml_definitions.specs.canonical.Spell.{spell_bytes}
 use Rattle.yaml_canon.specs.Claims.{MeansAlone}
 use Rattle.yaml_show.specs.Layout.{shown_text}
+use Rattle.yaml_show.specs.Sharing.{sharing_shown}
 use Rattle.yaml_shown.specs.Alike.{MeanAlike}
-use Rattle.yaml_shown.specs.declared.order.Order.{Order}
-use Rattle.yaml_shown.specs.declared.order.Order.TheVariants.{ByKey, AsRead}
+use Rattle.yaml_shown.specs.declared.manner.Manner.{Manner}
+use Rattle.yaml_shown.specs.declared.manner.Manner.TheVariants.{ByKey, AsRead, Sharing}
 
 -- the readable text of documents
 abbrev pub readable : List Tree → List ℕ
 readable f = shown_text (map arranged f)
 
--- what is written of documents: their readable text; or the same with entries in the order of the source
-abbrev pub written_in : Order → List Tree → List ℕ
+-- the same with the anchors and aliases of their canonical text
+abbrev pub readable_sharing : List Tree → List ℕ
+readable_sharing f = sharing_shown (map arranged f)
+
+-- what is written of documents: their readable text; the same with entries in the order of the source; or with anchors and aliases
+abbrev pub written_in : Manner → List Tree → List ℕ
 written_in ByKey = readable
 written_in AsRead = shown_text
+written_in Sharing = readable_sharing
 
 module _ (write : List Tree → List ℕ) where
   -- What is written is a stream that means the same documents.
@@ -42,6 +48,14 @@ Shows = ShowsBy readable
 abbrev pub ShowsAsRead : List ℕ → List ℕ → Type 0
 ShowsAsRead = ShowsBy shown_text
 
+-- what `show_sharing` answers
+abbrev pub ShowsSharing : List ℕ → List ℕ → Type 0
+ShowsSharing = ShowsBy readable_sharing
+
 -- Streams that mean the same are shown as the same bytes.
 abbrev pub SameIsShownAlike : Type 0
 SameIsShownAlike = (left right text other : List ℕ) → MeanAlike left right → Shows left text → Shows right other → text ≡ other
+
+-- So are they with anchors and aliases.
+abbrev pub SameIsSharedAlike : Type 0
+SameIsSharedAlike = (left right text other : List ℕ) → MeanAlike left right → ShowsSharing left text → ShowsSharing right other → text ≡ other

@@ -13,13 +13,13 @@ ghost use Rattle.yaml_show_scalar.specs.Stops.{Stops};
 ghost use Rattle.yaml_shown.specs.Refused.{RefusesBy, JsonRefuses, lines_text, fault_of};
 ghost use Rattle.yaml_shown.specs.Shows.{written_in};
 
-use crate::order::Order;
+use crate::manner::Manner;
 use crate::unshown::Unshown;
 use std::alloc::Global;
 use yaml_canon::both::{BothForests, forest_of_both};
 use yaml_canon::canonical;
 use yaml_rank::rank;
-use yaml_show::{Nodes, Unwritten, block_text, json_lines, source_text};
+use yaml_show::{Nodes, Unwritten, block_text, json_lines, sharing_text, source_text};
 use yaml_show_scalar::Stop;
 use yaml_text::fault::Fault;
 
@@ -58,26 +58,27 @@ fn stopped(stop: Stop) -> Fault
     }
 }
 
-/// The text of ranked documents, with entries in this order.
-fn text_in(alloc: Global, nodes: &Nodes<'_>, order: Order) -> Result<String, Stop>
+/// The text of ranked documents, written so.
+fn text_in(alloc: Global, nodes: &Nodes<'_>, manner: Manner) -> Result<String, Stop>
     requires { RanksAre nodes.now.graph nodes.now.ranks }
-    ensures ok { IfOk result (λ text. string_bytes text ≡ written_in order (root_trees nodes.now.graph)) }
-    ensures err { IfErr result (Stops text_limit (written_in order (root_trees nodes.now.graph))) }
+    ensures ok { IfOk result (λ text. string_bytes text ≡ written_in manner (root_trees nodes.now.graph)) }
+    ensures err { IfErr result (Stops text_limit (written_in manner (root_trees nodes.now.graph))) }
 {
-    match order {
-        Order::ByKey => block_text(alloc, nodes),
-        Order::AsRead => source_text(alloc, nodes),
+    match manner {
+        Manner::ByKey => block_text(alloc, nodes),
+        Manner::AsRead => source_text(alloc, nodes),
+        Manner::Sharing => sharing_text(alloc, nodes),
     }
 }
 
-/// The readable text of the documents that these bytes mean, with entries in this order.
+/// The readable text of the documents that these bytes mean, written so.
 ///
 /// # Errors
 /// Those of `canonical`. 20: the readable text would be too long.
 #[tactic(auto, using(crate::proofs::ShownLaws::refused_shown))]
-pub(crate) fn readable_text(alloc: Global, bytes: &[u8], order: Order) -> Result<String, Fault>
-    ensures text { IfOk result (λ text. (f : List Tree) → Means bytes.now f → string_bytes text ≡ written_in order f) }
-    ensures refused { IfErr result (RefusesBy (written_in order) bytes.now) }
+pub(crate) fn readable_text(alloc: Global, bytes: &[u8], manner: Manner) -> Result<String, Fault>
+    ensures text { IfOk result (λ text. (f : List Tree) → Means bytes.now f → string_bytes text ≡ written_in manner f) }
+    ensures refused { IfErr result (RefusesBy (written_in manner) bytes.now) }
 {
     let Ok(forests) = forest_of_both(alloc, bytes, b"") else {
         return Err(rejection(alloc, bytes));
@@ -85,7 +86,7 @@ pub(crate) fn readable_text(alloc: Global, bytes: &[u8], order: Order) -> Result
     let Some(nodes) = ranked(alloc, &forests) else {
         return Err(rejection(alloc, bytes));
     };
-    match text_in(alloc, &nodes, order) {
+    match text_in(alloc, &nodes, manner) {
         Ok(text) => Ok(text),
         Err(stop) => Err(stopped(stop)),
     }

@@ -6,13 +6,13 @@ ghost use Rattle.yaml_definitions.specs.model.Proper.{Admitted};
 ghost use Rattle.yaml_definitions.specs.model.Means.{Means};
 ghost use Rattle.yaml_shown.specs.Alike.{MeanAlike};
 ghost use Rattle.yaml_shown.specs.Lines.{LinesOf};
-ghost use Rattle.yaml_shown.specs.Refused.{RefusesBy, ShowRefuses, AsReadRefuses, IsLengthOrMemory, JsonRefuses};
-ghost use Rattle.yaml_shown.specs.Shows.{written_in, ShowsBy, Shows, ShowsAsRead};
+ghost use Rattle.yaml_shown.specs.Refused.{RefusesBy, ShowRefuses, AsReadRefuses, SharingRefuses, IsLengthOrMemory, JsonRefuses};
+ghost use Rattle.yaml_shown.specs.Shows.{written_in, ShowsBy, Shows, ShowsAsRead, ShowsSharing};
 
 use crate::checking::is_alike;
 use crate::joining::join;
 use crate::json::are_json_lines;
-use crate::order::Order;
+use crate::manner::Manner;
 use crate::presenting::{readable_text, written_lines};
 use crate::unshown::Unshown;
 use std::alloc::Global;
@@ -23,32 +23,32 @@ use yaml_text::fault::Fault;
 /// What begins a document that is on one line.
 const DOCUMENT: &str = "--- ";
 
-/// The readable text of the stream in these bytes, with entries in this order, if it is one that means the same.
+/// The readable text of the stream in these bytes, written so, if it is one that means the same.
 #[tactic(auto, using(crate::proofs::ShownLaws::memory_shown))]
-fn block_shown(alloc: Global, bytes: &[u8], order: Order) -> Result<Option<String>, Fault>
+fn block_shown(alloc: Global, bytes: &[u8], manner: Manner) -> Result<Option<String>, Fault>
     ensures alike { IfOk result (λ shown. IfSome shown (λ text. MeanAlike bytes.now (string_bytes text))) }
-    ensures readable { IfOk result (λ shown. IfSome shown (λ text. (f : List Tree) → Means bytes.now f → string_bytes text ≡ written_in order f)) }
-    ensures unlike { IfOk result (λ shown. IfNone shown ((f g : List Tree) → Admitted f → Admitted g → Means bytes.now f → Means (written_in order f) g → Alike f g → ⊥)) }
-    ensures refused { IfErr result (RefusesBy (written_in order) bytes.now) }
+    ensures readable { IfOk result (λ shown. IfSome shown (λ text. (f : List Tree) → Means bytes.now f → string_bytes text ≡ written_in manner f)) }
+    ensures unlike { IfOk result (λ shown. IfNone shown ((f g : List Tree) → Admitted f → Admitted g → Means bytes.now f → Means (written_in manner f) g → Alike f g → ⊥)) }
+    ensures refused { IfErr result (RefusesBy (written_in manner) bytes.now) }
 {
-    let text = readable_text(alloc, bytes, order)?;
+    let text = readable_text(alloc, bytes, manner)?;
     match is_alike(alloc, bytes, text.as_str())? {
         true => Ok(Some(text)),
         false => Ok(None),
     }
 }
 
-/// The stream in these bytes as readable YAML, with entries in this order. If that text did not mean what the bytes mean, the canonical
+/// The stream in these bytes as readable YAML, written so. If that text did not mean what the bytes mean, the canonical
 /// text would take its place.
 #[tactic(auto, using(crate::proofs::ShownLaws::canonical_alike, crate::proofs::ShownLaws::refused_shown, crate::proofs::ShownLaws::admitted_shown))]
-fn show_in(alloc: Global, bytes: &[u8], order: Order) -> Result<String, Fault>
+fn show_in(alloc: Global, bytes: &[u8], manner: Manner) -> Result<String, Fault>
     ensures alike { IfOk result (λ text. MeanAlike bytes.now (string_bytes text)) }
-    ensures shown { IfOk result (λ text. ShowsBy (written_in order) bytes.now (string_bytes text)) }
-    ensures refused { IfErr result (RefusesBy (written_in order) bytes.now) }
+    ensures shown { IfOk result (λ text. ShowsBy (written_in manner) bytes.now (string_bytes text)) }
+    ensures refused { IfErr result (RefusesBy (written_in manner) bytes.now) }
     ensures accepts { (f : List Tree) → Admitted f → Means bytes.now f → IfErr result IsLengthOrMemory }
 {
     nothing_else_is_refused();
-    match block_shown(alloc, bytes, order)? {
+    match block_shown(alloc, bytes, manner)? {
         Some(text) => Ok(text),
         None => canonical(alloc, bytes),
     }
@@ -67,7 +67,7 @@ pub fn show(alloc: Global, bytes: &[u8]) -> Result<String, Fault>
     ensures refused { IfErr result (ShowRefuses bytes.now) }
     ensures accepts { (f : List Tree) → Admitted f → Means bytes.now f → IfErr result IsLengthOrMemory }
 {
-    show_in(alloc, bytes, Order::ByKey)
+    show_in(alloc, bytes, Manner::ByKey)
 }
 
 /// The stream in these bytes as readable YAML, with entries in the order of the source. Streams that mean the same may be shown
@@ -81,7 +81,21 @@ pub fn show_as_read(alloc: Global, bytes: &[u8]) -> Result<String, Fault>
     ensures refused { IfErr result (AsReadRefuses bytes.now) }
     ensures accepts { (f : List Tree) → Admitted f → Means bytes.now f → IfErr result IsLengthOrMemory }
 {
-    show_in(alloc, bytes, Order::AsRead)
+    show_in(alloc, bytes, Manner::AsRead)
+}
+
+/// The stream in these bytes as readable YAML, with the anchors and aliases of its canonical text. Streams that mean the same are shown as
+/// the same bytes.
+///
+/// # Errors
+/// Those of `show`.
+pub fn show_sharing(alloc: Global, bytes: &[u8]) -> Result<String, Fault>
+    ensures alike { IfOk result (λ text. MeanAlike bytes.now (string_bytes text)) }
+    ensures shown { IfOk result (λ text. ShowsSharing bytes.now (string_bytes text)) }
+    ensures refused { IfErr result (SharingRefuses bytes.now) }
+    ensures accepts { (f : List Tree) → Admitted f → Means bytes.now f → IfErr result IsLengthOrMemory }
+{
+    show_in(alloc, bytes, Manner::Sharing)
 }
 
 /// The stream in these bytes as JSON: a line for each document. Streams that mean the same have the same lines.

@@ -10,9 +10,9 @@ pub mod WalkLaws
 mod ShortLaws
 pub mod ShownLaws
 mod ShortWalk
-mod WriteLaws
+pub mod WriteLaws
 mod Anchors
 mod Markings
 mod Linking
-mod NamesLaws
+pub mod NamesLaws
 pub mod DocumentLaws

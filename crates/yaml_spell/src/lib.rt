@@ -5,6 +5,7 @@ mod few;
 mod length;
 pub mod names;
 pub mod node;
+pub mod opening;
 pub mod page;
 mod parts;
 mod quoted;

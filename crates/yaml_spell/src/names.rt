@@ -22,7 +22,7 @@ pub(crate) enum State {
 
 /// How a node begins.
 #[derive(Clone, Copy)]
-pub(crate) enum Opening {
+pub enum Opening {
     /// Without an anchor.
     Plain,
     /// With the anchor of this number.

@@ -68,7 +68,7 @@ fn notice_entries<I: Copy, V: RankedNodes<I>>(view: &V, names: &mut Names, entri
 }
 
 /// How a node begins. A short one begins plainly and is not noted.
-fn start(names: &mut Names, is_short: bool, rank: usize) -> Opening
+pub(crate) fn start(names: &mut Names, is_short: bool, rank: usize) -> Opening
     requires { rank < ranks_in names.old }
     ensures opening { result ≡ opening_of is_short rank (given_of names.old) }
     ensures positive { 0 < opening_number result }

@@ -10,10 +10,10 @@ use Rattle.yaml_shown.proofs.presenting.readable_text.Goals as goal
 pub returns-in-Ok-text_in-clause-text : goal.returns-in-Ok-text_in-clause-text
 returns-in-Ok-text_in-clause-text c = λ f m.
     let has = c.in-Ok.ensures.both in
-    written_is (written_in c.args.order) c.args.bytes.now _ f has.mean.lefts has.mean.rights _ has.mean.left_means has.mean.right_means (c.in-Some.ensures.trees c.args.bytes.now [] has) c.in-Ok-text_in.ensures.ok m
+    written_is (written_in c.args.manner) c.args.bytes.now _ f has.mean.lefts has.mean.rights _ has.mean.left_means has.mean.right_means (c.in-Some.ensures.trees c.args.bytes.now [] has) c.in-Ok-text_in.ensures.ok m
 
 pub returns-clause-refused : goal.returns-clause-refused
 returns-clause-refused c =
     let has = c.in-Ok.ensures.both in
     let e = all_left has.mean.lefts has.mean.rights _ has.mean.right_means (c.in-Some.ensures.trees c.args.bytes.now [] has) in
-    subst (RefusesBy (written_in c.args.order) c.args.bytes.now) (sym c.stopped.ensures) (stop_shown (written_in c.args.order) c.args.bytes.now has.mean.lefts c.in-Err.stop has.mean.left_means (subst (λ z. Stops text_limit (written_in c.args.order z) c.in-Err.stop) e c.in-Err.ensures.err))
+    subst (RefusesBy (written_in c.args.manner) c.args.bytes.now) (sym c.stopped.ensures) (stop_shown (written_in c.args.manner) c.args.bytes.now has.mean.lefts c.in-Err.stop has.mean.left_means (subst (λ z. Stops text_limit (written_in c.args.manner z) c.in-Err.stop) e c.in-Err.ensures.err))
