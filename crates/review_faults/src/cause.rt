@@ -1,5 +1,5 @@
 //! Why an event is warned of.
-ghost use Rattle.std.specs.Prelude.{◌≡◌, ◌++◌, false, option_map, string_bytes, IfOk, IfErr, OnOk};
+ghost use Rattle.std.specs.Prelude.{◌≡◌, ◌++◌, false, option_map, string_bytes, IfOk, OnOk};
 ghost use Rattle.std.specs.List.{list_all};
 ghost use Rattle.review_text.specs.Yaml11.{older_of};
 ghost use Rattle.yaml_text.specs.EventModel.{event_of};
@@ -13,10 +13,9 @@ use crate::slip::{Around, Slip, slip_in};
 use review_text::fronts::put_shown;
 use review_text::text::{CUT, front};
 use review_text::yaml11::{Older, read_older};
-use std::alloc::Global;
+use std::alloc::{AllocError, Global};
 use yaml_text::core_tag;
 use yaml_text::event::{Event, EventTag, Style};
-use yaml_text::fault::Fault;
 
 /// Why an event is warned of.
 #[derive(Clone, Copy)]
@@ -166,9 +165,8 @@ pub(crate) fn put_label(
     alloc: Global,
     out: &mut String,
     label: Option<Label<'_>>,
-) -> Result<(), Fault>
+) -> Result<(), AllocError>
     ensures ok { OnOk result (string_bytes out.new ≡ string_bytes out.old ++ label_text (option_map label_of label.entry)) }
-    ensures err { IfErr result (λ fault. fault ≡ Fault.OutOfMemory) }
 {
     match label {
         Some(label) => {
@@ -180,9 +178,8 @@ pub(crate) fn put_label(
 }
 
 /// Writes the key that begins at an event, if it is a scalar or an alias.
-fn put_key(alloc: Global, out: &mut String, event: Option<&Event<'_>>) -> Result<(), Fault>
+fn put_key(alloc: Global, out: &mut String, event: Option<&Event<'_>>) -> Result<(), AllocError>
     ensures ok { OnOk result (string_bytes out.new ≡ string_bytes out.old ++ key_text (option_map (λ e. event_of e.now) event.entry)) }
-    ensures err { IfErr result (λ fault. fault ≡ Fault.OutOfMemory) }
 {
     match event {
         Some(event) => put_label(alloc, out, node_of(event)),
@@ -191,9 +188,8 @@ fn put_key(alloc: Global, out: &mut String, event: Option<&Event<'_>>) -> Result
 }
 
 /// What is said of a key that is equal in a language to the one at another event.
-fn equal_words(alloc: Global, reader: Reader, first: Option<&Event<'_>>) -> Result<String, Fault>
+fn equal_words(alloc: Global, reader: Reader, first: Option<&Event<'_>>) -> Result<String, AllocError>
     ensures ok { IfOk result (λ words. string_bytes words ≡ equal_words reader (option_map (λ e. event_of e.now) first.entry)) }
-    ensures err { IfErr result (λ fault. fault ≡ Fault.OutOfMemory) }
 {
     let mut out = String::new(alloc);
     out.push_str("in ")?;
@@ -204,7 +200,7 @@ fn equal_words(alloc: Global, reader: Reader, first: Option<&Event<'_>>) -> Resu
 }
 
 impl Cause {
-    ghost use Rattle.std.specs.Prelude.{◌≡◌, map, option_map, string_bytes, IfOk, IfErr};
+    ghost use Rattle.std.specs.Prelude.{◌≡◌, map, option_map, string_bytes, IfOk};
     ghost use Rattle.yaml_text.specs.EventModel.{event_of};
     ghost use Rattle.review_faults.specs.Labels.{label_of};
     ghost use Rattle.review_faults.specs.Causes.{cause_rule, shown_label, is_allowed};
@@ -251,9 +247,8 @@ impl Cause {
         alloc: Global,
         events: &[Event<'_>],
         text: &str,
-    ) -> Result<String, Fault>
+    ) -> Result<String, AllocError>
         ensures ok { IfOk result (λ words. Says (map event_of events.now) self text.now (string_bytes words)) }
-        ensures err { IfErr result (λ fault. fault ≡ Fault.OutOfMemory) }
     {
         match self {
             Cause::Name => Ok(NAME.to_string(alloc)?),

@@ -1,5 +1,5 @@
 //! What is said of a key to which another key of its mapping is equal.
-ghost use Rattle.std.specs.Prelude.{◌≡◌, ◌++◌, Some, codes, cond, option_map, take, string_bytes, IfOk, IfErr, OnOk};
+ghost use Rattle.std.specs.Prelude.{◌≡◌, ◌++◌, Some, codes, cond, option_map, take, string_bytes, IfOk, OnOk};
 ghost use Rattle.yaml_text.specs.EventModel.{event_of};
 ghost use Rattle.review_faults.specs.EventSpots.{advice, at_line, begins_item, begins_marker, between, equal_key_words, has_marker, is_merge, is_name_at, item_advice, key_name, merge_advice, plain_advice, repeat_at};
 ghost use Rattle.review_faults.specs.Labels.{label_of, node_of};
@@ -7,15 +7,13 @@ ghost use Rattle.review_faults.specs.Says.{label_text};
 
 use crate::cause::{is_name_byte, put_label};
 use crate::label::{Label, node_of};
-use std::alloc::Global;
+use std::alloc::{AllocError, Global};
 use yaml_place::Place;
 use yaml_text::event::Event;
-use yaml_text::fault::Fault;
 
 /// Writes a scalar or a name between backticks, of 60 bytes at most.
-fn put_quoted(alloc: Global, out: &mut String, label: Label<'_>) -> Result<(), Fault>
+fn put_quoted(alloc: Global, out: &mut String, label: Label<'_>) -> Result<(), AllocError>
     ensures ok { OnOk result (string_bytes out.new ≡ string_bytes out.old ++ (codes "`" ++ (label_text (Some (label_of label.entry)) ++ codes "`"))) }
-    ensures err { IfErr result (λ fault. fault ≡ Fault.OutOfMemory) }
 {
     out.push_str("`")?;
     put_label(alloc, out, Some(label))?;
@@ -24,9 +22,8 @@ fn put_quoted(alloc: Global, out: &mut String, label: Label<'_>) -> Result<(), F
 }
 
 /// Writes the text of the key that begins at an event, if it has one.
-fn put_name(alloc: Global, out: &mut String, event: &Event<'_>) -> Result<(), Fault>
+fn put_name(alloc: Global, out: &mut String, event: &Event<'_>) -> Result<(), AllocError>
     ensures ok { OnOk result (string_bytes out.new ≡ string_bytes out.old ++ key_name (node_of (event_of event.now))) }
-    ensures err { IfErr result (λ fault. fault ≡ Fault.OutOfMemory) }
 {
     match node_of(event) {
         Some(label) if !label.text.is_empty() => put_quoted(alloc, out, label),
@@ -38,9 +35,8 @@ fn put_name(alloc: Global, out: &mut String, event: &Event<'_>) -> Result<(), Fa
 }
 
 /// Writes the line of a place, if there is one.
-fn put_line(out: &mut String, place: Option<Place>) -> Result<(), Fault>
+fn put_line(out: &mut String, place: Option<Place>) -> Result<(), AllocError>
     ensures ok { OnOk result (string_bytes out.new ≡ string_bytes out.old ++ at_line place) }
-    ensures err { IfErr result (λ fault. fault ≡ Fault.OutOfMemory) }
 {
     if let Some(place) = place {
         let line = place.line;
@@ -185,9 +181,8 @@ pub(crate) fn equal_key_words(
     event: &Event<'_>,
     first: Option<Place>,
     around: Repeat,
-) -> Result<String, Fault>
+) -> Result<String, AllocError>
     ensures ok { IfOk result (λ words. string_bytes words ≡ equal_key_words (event_of event.now) first around) }
-    ensures err { IfErr result (λ fault. fault ≡ Fault.OutOfMemory) }
 {
     let mut out = String::new(alloc);
     put_name(alloc, &mut out, event)?;

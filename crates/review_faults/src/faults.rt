@@ -12,14 +12,13 @@ use review_text::fronts::{put_shown, put_source_line};
 use review_text::json::{Said, put_object, text_of};
 use review_text::options::Form;
 use review_text::put_visible;
-use std::alloc::Global;
+use std::alloc::{AllocError, Global};
 use yaml_place::Place;
 use yaml_text::fault::Fault;
 
 /// Writes a line and a column, if there are.
-fn put_place(out: &mut String, place: Option<Place>) -> Result<(), Fault>
+fn put_place(out: &mut String, place: Option<Place>) -> Result<(), AllocError>
     ensures ok { OnOk result (string_bytes out.new ≡ string_bytes out.old ++ place_part place) }
-    ensures err { IfErr result (λ fault. fault ≡ Fault.OutOfMemory) }
 {
     if let Some(place) = place {
         let line = place.line;
@@ -30,9 +29,8 @@ fn put_place(out: &mut String, place: Option<Place>) -> Result<(), Fault>
 }
 
 /// Writes what comes before a message: the file, and the line and the column if there are.
-pub fn put_head(out: &mut String, name: &str, place: Option<Place>) -> Result<(), Fault>
+pub fn put_head(out: &mut String, name: &str, place: Option<Place>) -> Result<(), AllocError>
     ensures ok { OnOk result (string_bytes out.new ≡ string_bytes out.old ++ head name.now place) }
-    ensures err { IfErr result (λ fault. fault ≡ Fault.OutOfMemory) }
 {
     put_shown(out, name)?;
     put_place(out, place)?;
@@ -41,9 +39,8 @@ pub fn put_head(out: &mut String, name: &str, place: Option<Place>) -> Result<()
 }
 
 /// Writes the number and the name of a fault.
-fn put_called(out: &mut String, fault: Fault) -> Result<(), Fault>
+fn put_called(out: &mut String, fault: Fault) -> Result<(), AllocError>
     ensures ok { OnOk result (string_bytes out.new ≡ string_bytes out.old ++ called fault) }
-    ensures err { IfErr result (λ fault. fault ≡ Fault.OutOfMemory) }
 {
     let number = fault.number();
     let word = fault.name();
@@ -52,9 +49,8 @@ fn put_called(out: &mut String, fault: Fault) -> Result<(), Fault>
 }
 
 /// Writes an offset of the input, if there is a place.
-fn put_byte(out: &mut String, place: Option<Place>, byte: usize) -> Result<(), Fault>
+fn put_byte(out: &mut String, place: Option<Place>, byte: usize) -> Result<(), AllocError>
     ensures ok { OnOk result (string_bytes out.new ≡ string_bytes out.old ++ byte_part place byte) }
-    ensures err { IfErr result (λ fault. fault ≡ Fault.OutOfMemory) }
 {
     if place.is_some() {
         write!(out, " at byte {byte}")?;
@@ -63,9 +59,8 @@ fn put_byte(out: &mut String, place: Option<Place>, byte: usize) -> Result<(), F
 }
 
 /// Writes the path of a node, if there is one.
-fn put_path(out: &mut String, path: &Option<String>) -> Result<(), Fault>
+fn put_path(out: &mut String, path: &Option<String>) -> Result<(), AllocError>
     ensures ok { OnOk result (string_bytes out.new ≡ string_bytes out.old ++ path_part (option_map string_bytes path.now)) }
-    ensures err { IfErr result (λ fault. fault ≡ Fault.OutOfMemory) }
 {
     if let Some(path) = path {
         put_visible(out, path)?;
@@ -80,10 +75,9 @@ fn put_source(
     out: &mut String,
     text: &[u8],
     point: Option<Point>,
-) -> Result<(), Fault>
+) -> Result<(), AllocError>
     requires { IfSome point (λ p. p.at ≤ length text.now) }
     ensures ok { OnOk result ((shown : List ℕ) × (string_bytes out.new ≡ string_bytes out.old ++ shown) × IsSource text.now point shown) }
-    ensures err { IfErr result (λ fault. fault ≡ Fault.OutOfMemory) }
 {
     if let Some(point) = point {
         put_source_line(alloc, out, text, point.at)?;
@@ -97,9 +91,8 @@ fn put_place_line(
     name: &str,
     words: &str,
     place: Option<Place>,
-) -> Result<(), Fault>
+) -> Result<(), AllocError>
     ensures ok { OnOk result (string_bytes out.new ≡ string_bytes out.old ++ place_line name.now words.now place) }
-    ensures err { IfErr result (λ fault. fault ≡ Fault.OutOfMemory) }
 {
     if place.is_some() {
         put_head(out, name, place)?;
@@ -109,9 +102,8 @@ fn put_place_line(
 }
 
 /// Writes the lines of other places: where the reader stopped, if the cause is printed first, and the first of two equal keys.
-fn put_others(out: &mut String, name: &str, told: &Told) -> Result<(), Fault>
+fn put_others(out: &mut String, name: &str, told: &Told) -> Result<(), AllocError>
     ensures ok { OnOk result (string_bytes out.new ≡ string_bytes out.old ++ other_lines name.now told.now) }
-    ensures err { IfErr result (λ fault. fault ≡ Fault.OutOfMemory) }
 {
     put_place_line(out, name, "reading stopped here\n", told.second_place())?;
     put_place_line(out, name, "the first of the two\n", told.first)
@@ -119,10 +111,9 @@ fn put_others(out: &mut String, name: &str, told: &Told) -> Result<(), Fault>
 
 /// What is after the number, the name and the offset of a fault: its path, what is said of it, the source line and the caret, and
 /// the lines of other places.
-fn explained(alloc: Global, name: &str, text: &[u8], told: &Told) -> Result<String, Fault>
+fn explained(alloc: Global, name: &str, text: &[u8], told: &Told) -> Result<String, AllocError>
     requires { IfSome (shown_point told.now) (λ p. p.at ≤ length text.now) }
     ensures ok { IfOk result (λ more. IsExplained name.now text.now told.now (string_bytes more)) }
-    ensures err { IfErr result (λ fault. fault ≡ Fault.OutOfMemory) }
 {
     let mut out = String::new(alloc);
     put_path(&mut out, &told.path)?;
@@ -149,11 +140,10 @@ fn put_lines(
     bytes: &[u8],
     fault: Fault,
     told: &Told,
-) -> Result<(), Fault>
+) -> Result<(), AllocError>
     requires stop { IfSome told.now.place (λ _. told.now.at ≤ length (drop (mark_len bytes.now) bytes.now)) }
     requires shown { IfSome (shown_point told.now) (λ p. p.at ≤ length (drop (mark_len bytes.now) bytes.now)) }
     ensures ok { OnOk result ((text : List ℕ) × (string_bytes out.new ≡ string_bytes out.old ++ text) × HasTold Form.Line name.now bytes.now fault told.now text) }
-    ensures err { IfErr result (λ fault. fault ≡ Fault.OutOfMemory) }
 {
     put_head(out, name, told.shown_place())?;
     put_called(out, fault)?;
@@ -203,9 +193,8 @@ fn put_members<'t>(
     fault: Fault,
     told: &'t Told,
     byte: Option<usize>,
-) -> Result<(), Fault>
+) -> Result<(), AllocError>
     ensures ok { OnOk result (string_bytes out.new ≡ string_bytes out.old ++ object_text name.now fault told.now byte) }
-    ensures err { IfErr result (λ fault. fault ≡ Fault.OutOfMemory) }
 {
     let cause = place_at_point(told.cause);
     let members = [
@@ -233,10 +222,9 @@ fn put_json(
     bytes: &[u8],
     fault: Fault,
     told: &Told,
-) -> Result<(), Fault>
+) -> Result<(), AllocError>
     requires { IfSome told.now.place (λ _. told.now.at ≤ length (drop (mark_len bytes.now) bytes.now)) }
     ensures ok { OnOk result ((text : List ℕ) × (string_bytes out.new ≡ string_bytes out.old ++ text) × HasTold Form.Json name.now bytes.now fault told.now text) }
-    ensures err { IfErr result (λ fault. fault ≡ Fault.OutOfMemory) }
 {
     put_members(alloc, out, name, fault, told, told_byte(bytes, told))
 }
@@ -259,7 +247,8 @@ pub fn put_fault(
 {
     let told = find_told(alloc, bytes, fault)?;
     match form {
-        Form::Line => put_lines(alloc, out, name, bytes, fault, &told),
-        Form::Json => put_json(alloc, out, name, bytes, fault, &told),
+        Form::Line => put_lines(alloc, out, name, bytes, fault, &told)?,
+        Form::Json => put_json(alloc, out, name, bytes, fault, &told)?,
     }
+    Ok(())
 }

@@ -1,5 +1,5 @@
 //! The events of a file that are warned of.
-ghost use Rattle.std.specs.Prelude.{◌≡◌, ◌+◌, ℕ, ◌++◌, ◌∷◌, [], List, Some, find, map, flat_map, option_map, option_and_then, reverse, slice_get, IfOk, IfErr, OnOk};
+ghost use Rattle.std.specs.Prelude.{◌≡◌, ◌+◌, ℕ, ◌++◌, ◌∷◌, [], List, Some, find, map, flat_map, option_map, option_and_then, reverse, slice_get, IfOk, OnOk};
 ghost use Rattle.review_places.specs.Trails.{has_part, open_frames};
 ghost use Rattle.yaml_text.specs.EventModel.{event_of};
 ghost use Rattle.review_faults.specs.Keys.{begun_at, mapping_of};
@@ -13,9 +13,8 @@ use crate::keys::{Key, Keys, Reader};
 use crate::slip::{Around, is_listed};
 use review_places::trace::Trace;
 use review_places::trail::Trail;
-use std::alloc::Global;
+use std::alloc::{AllocError, Global};
 use yaml_text::event::{Event, Style};
-use yaml_text::fault::Fault;
 
 /// The numbers of events that are warned of, and why.
 #[derive(Drop)]
@@ -26,9 +25,8 @@ pub(crate) struct Found {
 }
 
 /// Adds a warning, if there is room for it; if not, the list is not whole.
-fn add(found: &mut Found, warning: (usize, Cause), room: usize) -> Result<(), Fault>
+fn add(found: &mut Found, warning: (usize, Cause), room: usize) -> Result<(), AllocError>
     ensures ok { (all : List _) → Keeps room all found.old → OnOk result (Keeps room (all ++ (warning ∷ [])) found.new) }
-    ensures err { IfErr result (λ fault. fault ≡ Fault.OutOfMemory) }
 {
     if found.list.len() < room {
         found.list.push(warning)?;
@@ -46,9 +44,8 @@ fn note(
     cause: Option<Cause>,
     allowed: &[&str],
     room: usize,
-) -> Result<(), Fault>
+) -> Result<(), AllocError>
     ensures ok { (all : List _) → Keeps room all found.old → OnOk result (Keeps room (all ++ noted allowed.now (event_of event.now) at cause) found.new) }
-    ensures err { IfErr result (λ fault. fault ≡ Fault.OutOfMemory) }
 {
     match cause {
         Some(cause) if !cause.is_allowed(event, allowed) => add(found, (at, cause), room),
@@ -64,9 +61,8 @@ fn note_all(
     causes: &[Option<Cause>],
     allowed: &[&str],
     room: usize,
-) -> Result<(), Fault>
+) -> Result<(), AllocError>
     ensures ok { (all : List _) → Keeps room all found.old → OnOk result (Keeps room (all ++ flat_map (noted allowed.now (event_of event.now) at) causes.now) found.new) }
-    ensures err { IfErr result (λ fault. fault ≡ Fault.OutOfMemory) }
 {
     for cause in causes {
         note(found, at, event, *cause, allowed, room)?;
@@ -190,10 +186,9 @@ fn causes_at<'e>(
     event: &'e Event<'_>,
     source: &[u8],
     known: &mut Known<'e>,
-) -> Result<[Option<Cause>; 7], Fault>
+) -> Result<[Option<Cause>; 7], AllocError>
     ensures causes { slice_get events.entry.now at ≡ Some event.entry.now → Knows ⟦<Key as Ord>⟧.cmp (map event_of events.entry.now) at known.old → (sources : ℕ → List ℕ) → sources at ≡ source.now → IfOk result (AreCauses sources (map event_of events.entry.now) at (event_of event.entry.now)) }
     ensures knows { slice_get events.entry.now at ≡ Some event.entry.now → Knows ⟦<Key as Ord>⟧.cmp (map event_of events.entry.now) at known.old → IfOk result (λ _. Knows ⟦<Key as Ord>⟧.cmp (map event_of events.entry.now) (at + 1) known.new) }
-    ensures err { IfErr result (λ fault. fault ≡ Fault.OutOfMemory) }
 {
     known.trail.take(at, event)?;
     let equals = known.keys.take(alloc, at, event, mapping_of(&known.trail))?;
@@ -226,9 +221,8 @@ pub(crate) fn find_warned(
     trace: &Trace,
     allowed: &[&str],
     room: usize,
-) -> Result<Found, Fault>
+) -> Result<Found, AllocError>
     ensures ok { IfOk result (FindsWarned (source_at text.now trace.now) allowed.now room (map event_of events.now)) }
-    ensures err { IfErr result (λ fault. fault ≡ Fault.OutOfMemory) }
 {
     let mut found = Found {
         list: Vec::new(alloc),

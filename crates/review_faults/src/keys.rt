@@ -1,5 +1,5 @@
 //! Keys of a mapping that are equal in Python or JavaScript, and not in YAML.
-ghost use Rattle.std.specs.Prelude.{◌≡◌, ℕ, ◌+◌, List, Some, slice_get, take, IfOk, IfErr, OnOk};
+ghost use Rattle.std.specs.Prelude.{◌≡◌, ℕ, ◌+◌, List, Some, slice_get, take, IfOk, OnOk};
 ghost use Rattle.yaml_definitions.specs.model.Core.{by_table};
 ghost use Rattle.yaml_definitions.specs.model.Event.{Event as PlainEvent};
 ghost use Rattle.yaml_text.specs.EventModel.{event_of};
@@ -7,13 +7,12 @@ ghost use Rattle.review_faults.specs.Keys.{number, python_form, value_form, is_i
 ghost use Rattle.review_faults.specs.Seen.{HoldsNames, AreForms};
 
 use crate::label::anchor_of;
-use std::alloc::Global;
+use std::alloc::{AllocError, Global};
 use std::collections::BTreeMap;
 use yaml_core::CoreFault;
 use yaml_core::scalar::{by_table, resolve};
 use yaml_text::core_tag;
 use yaml_text::event::Event;
-use yaml_text::fault::Fault;
 
 /// A language in which other keys are equal.
 #[derive(Clone, Copy)]
@@ -118,9 +117,8 @@ fn is_its_text(tag: &str, content: &str, text: &str) -> bool
 }
 
 /// What a string is in JavaScript, if it is the text of a null, a bool or an int there.
-fn string_form(alloc: Global, text: &str) -> Result<Option<Form>, Fault>
+fn string_form(alloc: Global, text: &str) -> Result<Option<Form>, AllocError>
     ensures ok { IfOk result (λ form. form ≡ string_form text.now (by_table text.now)) }
-    ensures err { IfErr result (λ fault. fault ≡ Fault.OutOfMemory) }
 {
     match by_table(alloc, text) {
         Ok(scalar) => {
@@ -131,16 +129,15 @@ fn string_form(alloc: Global, text: &str) -> Result<Option<Form>, Fault>
                 Ok(None)
             }
         }
-        Err(CoreFault::OutOfMemory) => Err(Fault::OutOfMemory),
+        Err(CoreFault::OutOfMemory) => Err(AllocError),
         Err(_) => Ok(None),
     }
 }
 
 /// What a scalar of this tag and canonical content is in JavaScript.
 #[tactic(auto, unfolding(yaml_definitions::specs::model::Tag::core_tag))]
-fn script_form(alloc: Global, tag: &str, content: &str) -> Result<Option<Form>, Fault>
+fn script_form(alloc: Global, tag: &str, content: &str) -> Result<Option<Form>, AllocError>
     ensures ok { IfOk result (λ form. form ≡ script_form tag.now content.now) }
-    ensures err { IfErr result (λ fault. fault ≡ Fault.OutOfMemory) }
 {
     if tag == core_tag::STR {
         string_form(alloc, content)
@@ -150,9 +147,8 @@ fn script_form(alloc: Global, tag: &str, content: &str) -> Result<Option<Form>, 
 }
 
 /// What a scalar of this tag and canonical content is in each language.
-fn scalar_forms(alloc: Global, tag: &str, content: &str) -> Result<Forms, Fault>
+fn scalar_forms(alloc: Global, tag: &str, content: &str) -> Result<Forms, AllocError>
     ensures ok { IfOk result (λ forms. (forms.python ≡ python_form tag.now content.now) × (forms.script ≡ script_form tag.now content.now)) }
-    ensures err { IfErr result (λ fault. fault ≡ Fault.OutOfMemory) }
 {
     Ok(Forms {
         python: python_form(tag, content),
@@ -164,9 +160,8 @@ fn scalar_forms(alloc: Global, tag: &str, content: &str) -> Result<Forms, Fault>
 type Named<'e> = BTreeMap<&'e str, Forms>;
 
 /// What the node of an event is, by what those of earlier events with anchors are.
-fn forms_of(alloc: Global, event: &Event<'_>, named: &Named<'_>) -> Result<Forms, Fault>
+fn forms_of(alloc: Global, event: &Event<'_>, named: &Named<'_>) -> Result<Forms, AllocError>
     ensures ok { (before : List PlainEvent) → HoldsNames before named.now → IfOk result (AreForms before (event_of event.now)) }
-    ensures err { IfErr result (λ fault. fault ≡ Fault.OutOfMemory) }
 {
     match event {
         Event::Scalar {
@@ -176,7 +171,7 @@ fn forms_of(alloc: Global, event: &Event<'_>, named: &Named<'_>) -> Result<Forms
             ..
         } => match resolve(alloc, tag, *style, text.as_str()) {
             Ok(scalar) => scalar_forms(alloc, scalar.tag.as_str(), scalar.content.as_str()),
-            Err(CoreFault::OutOfMemory) => Err(Fault::OutOfMemory),
+            Err(CoreFault::OutOfMemory) => Err(AllocError),
             Err(_) => Ok(NONE),
         },
         Event::Alias { name } => Ok(named.get(name.as_str()).copied().unwrap_or(NONE)),
@@ -185,9 +180,8 @@ fn forms_of(alloc: Global, event: &Event<'_>, named: &Named<'_>) -> Result<Forms
 }
 
 /// Keeps what the node of an event is, if it has an anchor.
-fn keep<'e>(named: &mut Named<'e>, event: &'e Event<'_>, forms: Forms) -> Result<(), Fault>
+fn keep<'e>(named: &mut Named<'e>, event: &'e Event<'_>, forms: Forms) -> Result<(), AllocError>
     ensures ok { (events : List PlainEvent) (n : ℕ) → slice_get events n ≡ Some (event_of event.entry.now) → AreForms (take n events) (event_of event.entry.now) forms → HoldsNames (take n events) named.old → OnOk result (HoldsNames (take (n + 1) events) named.new) }
-    ensures err { IfErr result (λ fault. fault ≡ Fault.OutOfMemory) }
 {
     if let Some(name) = anchor_of(event) {
         named.insert(name, forms)?;
@@ -209,7 +203,7 @@ pub(crate) struct Seen {
 }
 
 impl Seen {
-    ghost use Rattle.std.specs.Prelude.{◌≡◌, ◌+◌, List, IfOk, IfErr};
+    ghost use Rattle.std.specs.Prelude.{◌≡◌, ◌+◌, List, IfOk};
     ghost use Rattle.yaml_definitions.specs.model.Event.{Event as PlainEvent};
     ghost use Rattle.review_faults.specs.Keys.{key_at, IsEqualKey};
     ghost use Rattle.review_faults.specs.Seen.{HoldsKeys};
@@ -225,10 +219,9 @@ impl Seen {
     }
 
     /// Takes the key that begins at the event of this number, if one does. Tells the first equal one, if one came before.
-    fn take(&mut self, at: usize, key: Option<Key>) -> Result<Option<usize>, Fault>
+    fn take(&mut self, at: usize, key: Option<Key>) -> Result<Option<usize>, AllocError>
         ensures first { (reader : Reader) (events : List PlainEvent) → HoldsKeys ⟦<Key as Ord>⟧.cmp reader events at self.old → key ≡ key_at reader events at → IfOk result (IsEqualKey reader events at) }
         ensures holds { (reader : Reader) (events : List PlainEvent) → HoldsKeys ⟦<Key as Ord>⟧.cmp reader events at self.old → key ≡ key_at reader events at → IfOk result (λ _. HoldsKeys ⟦<Key as Ord>⟧.cmp reader events (at + 1) self.new) }
-        ensures err { IfErr result (λ fault. fault ≡ Fault.OutOfMemory) }
     {
         let Some(key) = key else {
             return Ok(None);
@@ -267,7 +260,7 @@ pub(crate) struct Keys<'e> {
 }
 
 impl<'e> Keys<'e> {
-    ghost use Rattle.std.specs.Prelude.{◌≡◌, ◌+◌, List, Some, slice_get, IfOk, IfErr};
+    ghost use Rattle.std.specs.Prelude.{◌≡◌, ◌+◌, List, Some, slice_get, IfOk};
     ghost use Rattle.yaml_definitions.specs.model.Event.{Event as PlainEvent};
     ghost use Rattle.yaml_text.specs.EventModel.{event_of};
     ghost use Rattle.review_faults.specs.Keys.{mapping_at};
@@ -292,10 +285,9 @@ impl<'e> Keys<'e> {
         at: usize,
         event: &'e Event<'_>,
         mapping: Option<usize>,
-    ) -> Result<Equals, Fault>
+    ) -> Result<Equals, AllocError>
         ensures equal { (events : List PlainEvent) → slice_get events at ≡ Some (event_of event.entry.now) → mapping ≡ mapping_at events at → Holds ⟦<Key as Ord>⟧.cmp events at self.old → IfOk result (AreEqualKeys events at) }
         ensures holds { (events : List PlainEvent) → slice_get events at ≡ Some (event_of event.entry.now) → mapping ≡ mapping_at events at → Holds ⟦<Key as Ord>⟧.cmp events at self.old → IfOk result (λ _. Holds ⟦<Key as Ord>⟧.cmp events (at + 1) self.new) }
-        ensures err { IfErr result (λ fault. fault ≡ Fault.OutOfMemory) }
     {
         let forms = forms_of(alloc, event, &self.named)?;
         keep(&mut self.named, event, forms)?;

@@ -1,11 +1,10 @@
 //! What a warning shows of an event.
-ghost use Rattle.std.specs.Prelude.{◌≡◌, option_map, string_bytes, IfOk, IfErr};
+ghost use Rattle.std.specs.Prelude.{◌≡◌, option_map, string_bytes, IfOk};
 ghost use Rattle.yaml_text.specs.EventModel.{event_of};
 ghost use Rattle.review_faults.specs.Labels.{anchor_of, alias_of, label_of, name_of, node_of};
 
-use std::alloc::Global;
+use std::alloc::{AllocError, Global};
 use yaml_text::event::Event;
-use yaml_text::fault::Fault;
 
 /// A scalar, or a name with its `&` or `*`.
 #[derive(Clone, Copy)]
@@ -16,7 +15,7 @@ pub(crate) struct Label<'e> {
 }
 
 impl<'e> Label<'e> {
-    ghost use Rattle.std.specs.Prelude.{◌≡◌, bytes_eq, string_bytes, IfOk, IfErr};
+    ghost use Rattle.std.specs.Prelude.{◌≡◌, bytes_eq, string_bytes, IfOk};
     ghost use Rattle.review_faults.specs.Labels.{label_of, whole, is_among};
 
     /// Whether it is this word.
@@ -37,9 +36,8 @@ impl<'e> Label<'e> {
     }
 
     /// All of it.
-    pub(crate) fn to_text(self, alloc: Global) -> Result<String, Fault>
+    pub(crate) fn to_text(self, alloc: Global) -> Result<String, AllocError>
         ensures ok { IfOk result (λ text. string_bytes text ≡ whole (label_of self.entry)) }
-        ensures err { IfErr result (λ fault. fault ≡ Fault.OutOfMemory) }
     {
         let mut out = self.mark.to_string(alloc)?;
         out.push_str(self.text)?;

@@ -18,7 +18,7 @@ use review_places::trace::{Trace, trace_of};
 use review_places::trail::Trail;
 use review_text::fronts::put_source_line;
 use review_text::put_visible;
-use std::alloc::Global;
+use std::alloc::{AllocError, Global};
 use std::collections::BTreeMap;
 use yaml_core::scalar::resolve;
 use yaml_place::Place;
@@ -96,8 +96,7 @@ fn value_of(
     alloc: Global,
     event: &Event<'_>,
     named: &BTreeMap<&str, Value>,
-) -> Result<Option<Value>, Fault>
-    ensures err { IfErr result (λ fault. fault ≡ Fault.OutOfMemory) }
+) -> Result<Option<Value>, AllocError>
 {
     match event {
         Event::Scalar {
@@ -110,7 +109,7 @@ fn value_of(
                 let (tag, content) = (scalar.tag.as_str(), scalar.content.as_str());
                 Ok(Some(scalar_value(tag, content)))
             }
-            Err(_) => Err(Fault::OutOfMemory),
+            Err(_) => Err(AllocError),
         },
         Event::SequenceStart { tag, .. } => Ok(Some(collection_value(tag, core_tag::SEQ))),
         Event::MappingStart { tag, .. } => Ok(Some(collection_value(tag, core_tag::MAP))),
@@ -161,9 +160,8 @@ fn list_node(
     trail: &Trail,
     events: &[Event<'_>],
     node: (usize, Lack),
-) -> Result<(), Fault>
+) -> Result<(), AllocError>
     ensures ok { OnOk result (path_of trail.now (map event_of events.now) ≡ path_at (map event_of events.now) node.0 → All (HasPath (map event_of events.now)) lacks.old.list.items → All (HasPath (map event_of events.now)) lacks.new.list.items) }
-    ensures err { IfErr result (λ fault. fault ≡ Fault.OutOfMemory) }
 {
     let path = trail.path(alloc, events)?;
     lacks.bytes = lacks.bytes.saturating_add(path.len());
@@ -183,9 +181,8 @@ fn add(
     events: &[Event<'_>],
     node: (usize, Lack),
     room: usize,
-) -> Result<(), Fault>
+) -> Result<(), AllocError>
     ensures ok { OnOk result (path_of trail.now (map event_of events.now) ≡ path_at (map event_of events.now) node.0 → All (HasPath (map event_of events.now)) lacks.old.list.items → All (HasPath (map event_of events.now)) lacks.new.list.items) }
-    ensures err { IfErr result (λ fault. fault ≡ Fault.OutOfMemory) }
 {
     let is_full = lacks.list.len() >= room || lacks.bytes >= PATHS;
     if is_full {
@@ -203,9 +200,8 @@ fn note(
     events: &[Event<'_>],
     node: (usize, Option<Lack>),
     room: usize,
-) -> Result<(), Fault>
+) -> Result<(), AllocError>
     ensures ok { OnOk result (path_of trail.now (map event_of events.now) ≡ path_at (map event_of events.now) node.0 → All (HasPath (map event_of events.now)) lacks.old.list.items → All (HasPath (map event_of events.now)) lacks.new.list.items) }
-    ensures err { IfErr result (λ fault. fault ≡ Fault.OutOfMemory) }
 {
     match node {
         (at, Some(lack)) => add(alloc, lacks, trail, events, (at, lack), room),
@@ -218,8 +214,7 @@ fn keep<'e>(
     named: &mut BTreeMap<&'e str, Value>,
     event: &'e Event<'_>,
     value: Option<Value>,
-) -> Result<(), Fault>
-    ensures err { IfErr result (λ fault. fault ≡ Fault.OutOfMemory) }
+) -> Result<(), AllocError>
 {
     if let (Some(name), Some(value)) = (anchor_of(event), value) {
         named.insert(name, value)?;
@@ -228,9 +223,8 @@ fn keep<'e>(
 }
 
 /// The nodes that JSON cannot express, at most so many.
-fn find_lacks(alloc: Global, events: &[Event<'_>], room: usize) -> Result<Lacks, Fault>
+fn find_lacks(alloc: Global, events: &[Event<'_>], room: usize) -> Result<Lacks, AllocError>
     ensures paths { IfOk result (λ lacks. All (HasPath (map event_of events.now)) lacks.list.items) }
-    ensures err { IfErr result (λ fault. fault ≡ Fault.OutOfMemory) }
 {
     let mut lacks = Lacks {
         list: Vec::new(alloc),
@@ -279,9 +273,8 @@ fn put_lacking(
     place: Option<Place>,
     lacking: &Lacking,
     lines: &str,
-) -> Result<(), Fault>
+) -> Result<(), AllocError>
     ensures ok { OnOk result ((more : List ℕ) × (string_bytes out.new ≡ string_bytes out.old ++ (head name.now place ++ more))) }
-    ensures err { IfErr result (λ fault. fault ≡ Fault.OutOfMemory) }
 {
     let mut more = String::new(alloc);
     put_visible(&mut more, lacking.path.as_str())?;
@@ -295,8 +288,7 @@ fn put_lacking(
 }
 
 /// The source line of an offset, and a caret below it.
-fn source_line(alloc: Global, text: &[u8], offset: Option<usize>) -> Result<String, Fault>
-    ensures err { IfErr result (λ fault. fault ≡ Fault.OutOfMemory) }
+fn source_line(alloc: Global, text: &[u8], offset: Option<usize>) -> Result<String, AllocError>
 {
     let mut out = String::new(alloc);
     if let Some(at) = offset {
@@ -313,9 +305,8 @@ fn put_first(
     text: &[u8],
     trace: &Trace,
     first: &Lacking,
-) -> Result<(), Fault>
+) -> Result<(), AllocError>
     ensures ok { OnOk result ((piece : List ℕ) × (string_bytes out.new ≡ string_bytes out.old ++ piece) × BeginsSomewhere name.now text.now piece) }
-    ensures err { IfErr result (λ fault. fault ≡ Fault.OutOfMemory) }
 {
     let offset = offset_of(first, text, trace);
     let lines = source_line(alloc, text, offset)?;
@@ -333,15 +324,14 @@ fn put_others(
     text: &[u8],
     trace: &Trace,
     others: &[Lacking],
-) -> Result<(), Fault>
+) -> Result<(), AllocError>
     ensures ok { OnOk result (AddsPieces name.now text.now (string_bytes out.old) (string_bytes out.new)) }
-    ensures err { IfErr result (λ fault. fault ≡ Fault.OutOfMemory) }
 {
     let mut at = 0;
     let mut place = Place { line: 1, column: 1 };
     'others: for lacking in others {
         let Some(offset) = offset_of(lacking, text, trace) else {
-            return Err(Fault::OutOfMemory);
+            return Err(AllocError);
         };
         let to = offset.min(text.len());
         place = go_on(text, at, place, to);
@@ -352,9 +342,8 @@ fn put_others(
 }
 
 /// Writes that there are more, unless these are all.
-fn put_more(out: &mut String, whole: bool) -> Result<(), Fault>
+fn put_more(out: &mut String, whole: bool) -> Result<(), AllocError>
     ensures ok { OnOk result (string_bytes out.new ≡ string_bytes out.old ++ cond (not whole) (codes "...\n") []) }
-    ensures err { IfErr result (λ fault. fault ≡ Fault.OutOfMemory) }
 {
     if !whole {
         out.push_str("...\n")?;
@@ -363,9 +352,8 @@ fn put_more(out: &mut String, whole: bool) -> Result<(), Fault>
 }
 
 /// Writes that no node was found.
-fn put_unknown(out: &mut String, name: &str, text: &[u8]) -> Result<(), Fault>
+fn put_unknown(out: &mut String, name: &str, text: &[u8]) -> Result<(), AllocError>
     ensures ok { OnOk result (TellsLacks name.now text.now (string_bytes out.old) (string_bytes out.new)) }
-    ensures err { IfErr result (λ fault. fault ≡ Fault.OutOfMemory) }
 {
     put_head(out, name, None)?;
     out.push_str("JSON cannot express this file\n")?;
@@ -381,9 +369,8 @@ fn put_found(
     trace: &Trace,
     nodes: (&Lacking, &[Lacking]),
     whole: bool,
-) -> Result<(), Fault>
+) -> Result<(), AllocError>
     ensures ok { OnOk result (TellsLacks name.now text.now (string_bytes out.old) (string_bytes out.new)) }
-    ensures err { IfErr result (λ fault. fault ≡ Fault.OutOfMemory) }
 {
     put_first(alloc, out, name, text, trace, nodes.0)?;
     put_others(alloc, out, name, text, trace, nodes.1)?;
@@ -399,9 +386,8 @@ fn put_lacks(
     text: &[u8],
     trace: &Trace,
     lacks: &Lacks,
-) -> Result<(), Fault>
+) -> Result<(), AllocError>
     ensures ok { OnOk result (TellsLacks name.now text.now (string_bytes out.old) (string_bytes out.new)) }
-    ensures err { IfErr result (λ fault. fault ≡ Fault.OutOfMemory) }
 {
     match lacks.list.split_first() {
         Some(nodes) => put_found(alloc, out, name, text, trace, nodes, lacks.whole),

@@ -17,7 +17,7 @@ use review_places::places::{mark_len, unmarked};
 use review_places::trace::{Trace, trace_of};
 use review_places::trail::Trail;
 use review_text::tag_words::put_tag_words;
-use std::alloc::Global;
+use std::alloc::{AllocError, Global};
 use yaml_place::{Place, place_at};
 use yaml_read::read_events;
 use yaml_text::chars::Chars;
@@ -169,10 +169,9 @@ fn events_in(
     alloc: Global,
     fault: Fault,
     trace: &Trace,
-) -> Result<Option<(usize, Option<usize>)>, Fault>
+) -> Result<Option<(usize, Option<usize>)>, AllocError>
     ensures event { IfOk result (λ told. IsEventOf (shapes_in trace.now.events.items) fault (option_map (λ t. t.0) told)) }
     ensures first { IfOk result (λ told. IfSome told (λ t. IsFirstOf (shapes_in trace.now.events.items) fault t.1)) }
-    ensures err { IfErr result (λ fault. fault ≡ Fault.OutOfMemory) }
 {
     match fault {
         Fault::UndefinedAlias(event)
@@ -227,10 +226,9 @@ fn events_to<'e, 'a>(events: &'e [Event<'a>], number: usize) -> &'e [Event<'a>]
 }
 
 /// The trail of these events.
-fn trail_of(alloc: Global, events: &[Event<'_>]) -> Result<Trail, Fault>
+fn trail_of(alloc: Global, events: &[Event<'_>]) -> Result<Trail, AllocError>
     ensures ok { IfOk result (λ trail. documents_before trail ≡ count_by ends_document (map event_of events.now)) }
     ensures frames { IfOk result (λ trail. open_frames trail ≡ frames_of (map event_of events.now)) }
-    ensures err { IfErr result (λ fault. fault ≡ Fault.OutOfMemory) }
 {
     let mut trail = Trail::new(alloc);
     for (at, event) in events.iter().enumerate() {
@@ -240,9 +238,8 @@ fn trail_of(alloc: Global, events: &[Event<'_>]) -> Result<Trail, Fault>
 }
 
 /// The path of the node that begins at the event of this number.
-fn path_at(alloc: Global, events: &[Event<'_>], number: usize) -> Result<String, Fault>
+fn path_at(alloc: Global, events: &[Event<'_>], number: usize) -> Result<String, AllocError>
     ensures ok { IfOk result (λ path. string_bytes path ≡ path_at (map event_of events.now) number) }
-    ensures err { IfErr result (λ fault. fault ≡ Fault.OutOfMemory) }
 {
     let trail = trail_of(alloc, events_to(events, number))?;
     trail.path(alloc, events)
@@ -256,9 +253,8 @@ fn event_words(
     first: Option<Place>,
     around: Repeat,
     event: Option<&Event<'_>>,
-) -> Result<Option<String>, Fault>
+) -> Result<Option<String>, AllocError>
     ensures ok { IfOk result (λ words. option_map string_bytes words ≡ fault_words fault first around (option_map (λ e. event_of e.now) event.entry)) }
-    ensures err { IfErr result (λ fault. fault ≡ Fault.OutOfMemory) }
 {
     match (fault, event) {
         (Fault::WrongKind(_) | Fault::BadContent(_), Some(event)) => {
@@ -282,10 +278,9 @@ fn spot_at(
     events: &[Event<'_>],
     number: usize,
     first: Option<usize>,
-) -> Result<Spot, Fault>
+) -> Result<Spot, AllocError>
     requires { IsFirstOf (shapes_in trace.now.events.items) fault first }
     ensures ok { IfOk result (IsSpotAt trace.now (map event_of events.now) text.now fault number) }
-    ensures err { IfErr result (λ fault. fault ≡ Fault.OutOfMemory) }
 {
     let key = first_offset(trace, first);
     let at = offset_of(fault, text, trace, number);
@@ -312,7 +307,9 @@ fn spot_of_event(alloc: Global, bytes: &[u8], fault: Fault) -> Result<Spot, Faul
     };
     let events = read_events(alloc, &source)?;
     let text = unmarked(bytes);
-    spot_at(alloc, fault, text, &trace, &events, number, first)
+    Ok(spot_at(
+        alloc, fault, text, &trace, &events, number, first,
+    )?)
 }
 
 /// The spot of a fault.
@@ -375,16 +372,18 @@ fn words_at(
     text: &[u8],
     at: usize,
     own: Option<String>,
-) -> Result<Words, Fault>
+) -> Result<Words, AllocError>
     ensures ok { IfOk result (λ words. AreWords text.now fault at own words.cause (string_bytes words.text)) }
-    ensures err { IfErr result (λ fault. fault ≡ Fault.OutOfMemory) }
 {
     match own {
         Some(own) => Ok(Words {
             text: own,
             cause: None,
         }),
-        None => words_of(alloc, fault, text, at),
+        None => match words_of(alloc, fault, text, at) {
+            Ok(words) => Ok(words),
+            Err(_) => Err(AllocError),
+        },
     }
 }
 

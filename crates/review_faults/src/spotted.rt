@@ -8,7 +8,7 @@ use crate::spots::{Point, Told, find_told};
 use review_places::places::unmarked;
 use review_text::fronts::put_source_line;
 use review_text::put_visible;
-use std::alloc::Global;
+use std::alloc::{AllocError, Global};
 use yaml_place::Place;
 use yaml_text::fault::Fault;
 
@@ -25,9 +25,8 @@ pub struct Spotted {
 }
 
 /// The path, with escapes for the characters that a terminal would not show.
-fn path_of(alloc: Global, told: &Told) -> Result<Option<String>, Fault>
+fn path_of(alloc: Global, told: &Told) -> Result<Option<String>, AllocError>
     ensures ok { IfOk result (λ path. option_map string_bytes path ≡ shown_path told.now) }
-    ensures err { IfErr result (λ fault. fault ≡ Fault.OutOfMemory) }
 {
     let Some(path) = &told.path else {
         return Ok(None);
@@ -38,10 +37,9 @@ fn path_of(alloc: Global, told: &Told) -> Result<Option<String>, Fault>
 }
 
 /// The source line and the caret of a point, if there is one.
-fn line_of(alloc: Global, text: &[u8], point: Option<Point>) -> Result<Option<String>, Fault>
+fn line_of(alloc: Global, text: &[u8], point: Option<Point>) -> Result<Option<String>, AllocError>
     requires { IfSome point (λ p. p.at ≤ length text.now) }
     ensures ok { IfOk result (λ line. IsLineOf text.now point (option_map string_bytes line)) }
-    ensures err { IfErr result (λ fault. fault ≡ Fault.OutOfMemory) }
 {
     let Some(point) = point else {
         return Ok(None);
@@ -52,9 +50,8 @@ fn line_of(alloc: Global, text: &[u8], point: Option<Point>) -> Result<Option<St
 }
 
 /// Writes where the reader stopped, if the cause is printed first.
-fn put_stop(out: &mut String, stop: Option<Place>) -> Result<(), Fault>
+fn put_stop(out: &mut String, stop: Option<Place>) -> Result<(), AllocError>
     ensures ok { OnOk result (string_bytes out.new ≡ string_bytes out.old ++ stop_note stop) }
-    ensures err { IfErr result (λ fault. fault ≡ Fault.OutOfMemory) }
 {
     if let Some(stop) = stop {
         let Place { line, column } = stop;
@@ -64,9 +61,8 @@ fn put_stop(out: &mut String, stop: Option<Place>) -> Result<(), Fault>
 }
 
 /// What is said of a fault, with the place where the reader stopped if the cause is printed first.
-fn words_of(told: &Told) -> Result<String, Fault>
+fn words_of(told: &Told) -> Result<String, AllocError>
     ensures ok { IfOk result (λ words. string_bytes words ≡ string_bytes told.now.words ++ stop_note (second_place told.now)) }
-    ensures err { IfErr result (λ fault. fault ≡ Fault.OutOfMemory) }
 {
     let mut words = told.words.clone()?;
     put_stop(&mut words, told.second_place())?;

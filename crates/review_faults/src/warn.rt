@@ -18,7 +18,7 @@ use review_text::fronts::put_shown;
 use review_text::json::{Said, put_object};
 use review_text::options::Form;
 use review_text::text::{CUT, front};
-use std::alloc::Global;
+use std::alloc::{AllocError, Global};
 use yaml_place::{Place, place_after, place_at};
 use yaml_read::read_events;
 use yaml_text::chars::Chars;
@@ -73,12 +73,11 @@ fn warning_of(
     cause: Cause,
     label: Label<'_>,
     place: Place,
-) -> Result<Warning, Fault>
+) -> Result<Warning, AllocError>
     ensures text { IfOk result (λ warning. string_bytes warning.text ≡ whole (label_of label.entry)) }
     ensures place { IfOk result (λ warning. warning.place ≡ place) }
     ensures rule { IfOk result (λ warning. warning.rule.now ≡ cause_rule cause) }
     ensures words { IfOk result (λ warning. Says (map event_of events.now) cause (whole (label_of label.entry)) (string_bytes warning.words)) }
-    ensures err { IfErr result (λ fault. fault ≡ Fault.OutOfMemory) }
 {
     let text = label.to_text(alloc)?;
     let words = cause.words(alloc, events, &text)?;
@@ -98,9 +97,8 @@ fn told(
     trace: &Trace,
     source: &[u8],
     found: &[(usize, Cause)],
-) -> Result<Vec<Warning>, Fault>
+) -> Result<Vec<Warning>, AllocError>
     ensures ok { IfOk result (λ list. AreWarnings (map event_of events.now) source.now found.now list.items) }
-    ensures err { IfErr result (λ fault. fault ≡ Fault.OutOfMemory) }
 {
     let mut list = Vec::new(alloc);
     let mut at = 0;
@@ -108,7 +106,7 @@ fn told(
     'numbers: for (number, cause) in found {
         let label = label_at(events, *number, *cause);
         let (Some(label), Some(offset)) = (label, trace.offset(*number)) else {
-            return Err(Fault::OutOfMemory);
+            return Err(AllocError);
         };
         let to = offset.min(source.len());
         place = go_on(source, at, place, to);
@@ -144,9 +142,8 @@ pub fn list_warnings(
 }
 
 /// Writes the line of a warning.
-fn put_line(out: &mut String, name: &str, warning: &Warning) -> Result<(), Fault>
+fn put_line(out: &mut String, name: &str, warning: &Warning) -> Result<(), AllocError>
     ensures ok { OnOk result (string_bytes out.new ≡ string_bytes out.old ++ warning_line name.now warning.now) }
-    ensures err { IfErr result (λ fault. fault ≡ Fault.OutOfMemory) }
 {
     put_head(out, name, Some(warning.place))?;
     out.push_str("warning: ")?;
@@ -163,9 +160,8 @@ fn put_json<'t>(
     out: &mut String,
     name: &'t str,
     warning: &'t Warning,
-) -> Result<(), Fault>
+) -> Result<(), AllocError>
     ensures ok { OnOk result (string_bytes out.new ≡ string_bytes out.old ++ warning_object name.now warning.now) }
-    ensures err { IfErr result (λ fault. fault ≡ Fault.OutOfMemory) }
 {
     let members = [
         ("file", Said::Text(Some(name))),
@@ -185,9 +181,8 @@ fn put_warning(
     name: &str,
     warning: &Warning,
     form: Form,
-) -> Result<(), Fault>
+) -> Result<(), AllocError>
     ensures ok { OnOk result (string_bytes out.new ≡ string_bytes out.old ++ warning_text form name.now warning.now) }
-    ensures err { IfErr result (λ fault. fault ≡ Fault.OutOfMemory) }
 {
     match form {
         Form::Line => put_line(out, name, warning),
@@ -202,9 +197,8 @@ fn put_list(
     name: &str,
     list: &[Warning],
     form: Form,
-) -> Result<(), Fault>
+) -> Result<(), AllocError>
     ensures ok { OnOk result (string_bytes out.new ≡ string_bytes out.old ++ flat_map (warning_text form name.now) list.now) }
-    ensures err { IfErr result (λ fault. fault ≡ Fault.OutOfMemory) }
 {
     for warning in list {
         put_warning(alloc, out, name, warning, form)?;
@@ -219,9 +213,8 @@ pub fn put_warnings(
     name: &str,
     warnings: &Warnings,
     form: Form,
-) -> Result<(), Fault>
+) -> Result<(), AllocError>
     ensures ok { OnOk result (string_bytes out.new ≡ string_bytes out.old ++ warnings_text form name.now warnings.now.list.items warnings.now.whole) }
-    ensures err { IfErr result (λ fault. fault ≡ Fault.OutOfMemory) }
 {
     put_list(alloc, out, name, &warnings.list, form)?;
     if !warnings.whole {

@@ -1,9 +1,8 @@
 //! A name of a file in two folders.
-ghost use Rattle.std.specs.Prelude.{◌≡◌, ◌++◌, ◌⊎◌, true, false, codes, IfOk, string_bytes, cond, IfErr};
+ghost use Rattle.std.specs.Prelude.{◌≡◌, ◌++◌, ◌⊎◌, true, false, codes, IfOk, string_bytes, cond};
 ghost use Rattle.review_folders.specs.Folders.{IsPath};
 
-use std::alloc::Global;
-use yaml_text::fault::Fault;
+use std::alloc::{AllocError, Global};
 
 /// Which of two folders have a file of a name.
 #[derive(Clone, Copy, Debug, PartialEq, Eq)]
@@ -40,9 +39,8 @@ pub struct Entry<'n> {
 }
 
 /// The path of what has this name in a folder.
-pub(crate) fn path_in(alloc: Global, folder: &str, name: &str) -> Result<String, Fault>
+pub(crate) fn path_in(alloc: Global, folder: &str, name: &str) -> Result<String, AllocError>
     ensures ok { IfOk result (λ path. IsPath folder.now name.now (string_bytes path)) }
-    ensures err { IfErr result (λ fault. fault ≡ Fault.OutOfMemory) }
 {
     let mut path = folder.to_string(alloc)?;
     if !folder.ends_with('/') {

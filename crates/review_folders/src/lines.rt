@@ -19,7 +19,7 @@ use review_text::json::{Said, put_object};
 use review_text::options::{Diff, Form};
 use review_text::put_shown;
 use review_text::text::put_all;
-use std::alloc::Global;
+use std::alloc::{AllocError, Global};
 use std::io::Write;
 use yaml_command::shelf::Shelf;
 use yaml_command::streams::write_out;
@@ -46,9 +46,8 @@ fn has_lines(asked: &Diff<'_>) -> bool
 }
 
 /// Writes a JSON object of a file.
-fn put_file(alloc: Global, out: &mut String, kind: &str, name: &str) -> Result<(), Fault>
+fn put_file(alloc: Global, out: &mut String, kind: &str, name: &str) -> Result<(), AllocError>
     ensures ok { OnOk result (string_bytes out.new ≡ string_bytes out.old ++ file_object kind.now name.now) }
-    ensures err { IfErr result (λ fault. fault ≡ Fault.OutOfMemory) }
 {
     let members = [
         ("kind", Said::Text(Some(kind))),
@@ -58,9 +57,8 @@ fn put_file(alloc: Global, out: &mut String, kind: &str, name: &str) -> Result<(
 }
 
 /// Writes the line of a name.
-fn put_name_line(out: &mut String, name: &str) -> Result<(), Fault>
+fn put_name_line(out: &mut String, name: &str) -> Result<(), AllocError>
     ensures ok { OnOk result (string_bytes out.new ≡ string_bytes out.old ++ name_line name.now) }
-    ensures err { IfErr result (λ fault. fault ≡ Fault.OutOfMemory) }
 {
     out.push_str("diff ")?;
     put_shown(out, name)?;
@@ -69,9 +67,8 @@ fn put_name_line(out: &mut String, name: &str) -> Result<(), Fault>
 }
 
 /// Writes the name of a file, before what is printed of it.
-fn put_name(alloc: Global, out: &mut String, form: Form, name: &str) -> Result<(), Fault>
+fn put_name(alloc: Global, out: &mut String, form: Form, name: &str) -> Result<(), AllocError>
     ensures ok { OnOk result (string_bytes out.new ≡ string_bytes out.old ++ name_text form name.now) }
-    ensures err { IfErr result (λ fault. fault ≡ Fault.OutOfMemory) }
 {
     match form {
         Form::Line => put_name_line(out, name),
@@ -80,9 +77,8 @@ fn put_name(alloc: Global, out: &mut String, form: Form, name: &str) -> Result<(
 }
 
 /// Writes that one folder alone has a file: the words below its name, or before it where no lines are printed.
-fn put_alone_line(out: &mut String, is_listed: bool, words: &str, name: &str) -> Result<(), Fault>
+fn put_alone_line(out: &mut String, is_listed: bool, words: &str, name: &str) -> Result<(), AllocError>
     ensures ok { OnOk result (string_bytes out.new ≡ string_bytes out.old ++ alone_line is_listed words.now name.now) }
-    ensures err { IfErr result (λ fault. fault ≡ Fault.OutOfMemory) }
 {
     if is_listed {
         put_name_line(out, name)?;
@@ -101,9 +97,8 @@ fn put_alone(
     asked: &Diff<'_>,
     words: &str,
     name: &str,
-) -> Result<(), Fault>
+) -> Result<(), AllocError>
     ensures ok { OnOk result (string_bytes out.new ≡ string_bytes out.old ++ alone_text asked.now words.now name.now) }
-    ensures err { IfErr result (λ fault. fault ≡ Fault.OutOfMemory) }
 {
     if asked.lines == 0 {
         return Ok(());
@@ -115,9 +110,8 @@ fn put_alone(
 }
 
 /// What is printed of a file that the left folder alone has.
-fn deleted_told(alloc: Global, asked: &Diff<'_>, name: &str) -> Result<Told, Fault>
+fn deleted_told(alloc: Global, asked: &Diff<'_>, name: &str) -> Result<Told, AllocError>
     ensures ok { IfOk result (λ told. (string_bytes told.out ≡ alone_text asked.now (codes "deleted file") name.now) × (string_bytes told.err ≡ []) × (told.status ≡ 1)) }
-    ensures err { IfErr result (λ fault. fault ≡ Fault.OutOfMemory) }
 {
     let mut out = String::new(alloc);
     put_alone(alloc, &mut out, asked, "deleted file", name)?;
@@ -173,9 +167,8 @@ fn of_files<'n>(asked: &Diff<'n>, name: &'n str) -> Diff<'n>
 }
 
 /// Writes the name of a file that both folders have, where lines are printed.
-fn put_head(alloc: Global, out: &mut String, asked: &Diff<'_>, name: &str) -> Result<(), Fault>
+fn put_head(alloc: Global, out: &mut String, asked: &Diff<'_>, name: &str) -> Result<(), AllocError>
     ensures ok { OnOk result (string_bytes out.new ≡ string_bytes out.old ++ head_text asked.now name.now) }
-    ensures err { IfErr result (λ fault. fault ≡ Fault.OutOfMemory) }
 {
     if has_lines(asked) {
         put_name(alloc, out, asked.form, name)
@@ -190,9 +183,8 @@ fn lines_of(
     asked: &Diff<'_>,
     name: &str,
     compared: &Compared,
-) -> Result<String, Fault>
+) -> Result<String, AllocError>
     ensures ok { IfOk result (λ text. string_bytes text ≡ lines_text asked.now name.now compared.now.same (string_bytes compared.now.text)) }
-    ensures err { IfErr result (λ fault. fault ≡ Fault.OutOfMemory) }
 {
     let mut out = String::new(alloc);
     if compared.same {
@@ -278,7 +270,7 @@ fn told_of<S: Shelf>(
     ensures err { IfErr result (λ fault. fault ≡ Fault.OutOfMemory) }
 {
     match entry.has {
-        Has::Left => deleted_told(alloc, asked, entry.name),
+        Has::Left => Ok(deleted_told(alloc, asked, entry.name)?),
         Has::Both => both_told(shelf, alloc, asked, ignored, entry.name),
         Has::Right => new_told(shelf, alloc, asked, entry.name),
     }
@@ -315,7 +307,7 @@ fn tell_of<S: Shelf, W: Write, E: Write>(
 {
     match told_of(shelf, alloc, asked, ignored, entry) {
         Ok(told) => put_told(&told, out, err),
-        Err(fault) => Err(fault),
+        Err(refused) => Err(refused.into()),
     }
 }
 

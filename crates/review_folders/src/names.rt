@@ -9,7 +9,7 @@ use review_files::telling::{put_line, tell_unread};
 use review_files::unread::Unread;
 use review_patterns::fits_glob;
 use review_text::options::Diff;
-use std::alloc::Global;
+use std::alloc::{AllocError, Global};
 use std::cmp::Ordering;
 use std::io::Write;
 use std::rt::Files;
@@ -76,7 +76,7 @@ fn add_names<T: Files + AllocGlobal + Clone + Drop>(
     globs: &[&str],
     names: &mut Names,
 ) -> Result<(), Unread> {
-    let path = path_in(alloc, top, below).map_err(Unread::Fault)?;
+    let path = path_in(alloc, top, below).map_err(refused)?;
     let entries = match fs::read_dir(rt, path.as_str()) {
         Ok(entries) => entries,
         Err(error) => return Err(unread(top, error)),
@@ -106,7 +106,7 @@ fn add_names<T: Files + AllocGlobal + Clone + Drop>(
 
 /// Whether a name in a folder is that of a regular file, or of a link to one.
 fn is_file<T: Files>(rt: &T, alloc: Global, top: &str, name: &str) -> Result<bool, Unread> {
-    let path = path_in(alloc, top, name).map_err(Unread::Fault)?;
+    let path = path_in(alloc, top, name).map_err(refused)?;
     match fs::metadata(rt, path.as_str()) {
         Ok(found) => Ok(found.is_file()),
         Err(_) => Ok(false),
@@ -201,9 +201,8 @@ impl BothNames {
     ghost use Rattle.review_folders.specs.Names.{HaveNames};
 
     /// The names in order, each once. An error is want of memory.
-    pub fn entries(&self, alloc: Global) -> Result<Vec<Entry<'_>>, Fault>
+    pub fn entries(&self, alloc: Global) -> Result<Vec<Entry<'_>>, AllocError>
         ensures names { IfOk result (λ entries. HaveNames self.now.left.items self.now.right.items entries.items) }
-        ensures err { IfErr result (λ fault. fault ≡ Fault.OutOfMemory) }
     {
         let mut left = self.left.as_slice();
         let mut right = self.right.as_slice();

@@ -17,7 +17,7 @@ use review_patterns::Pattern;
 use review_reports::pages::fault_list;
 use review_text::options::{Diff, Page};
 use review_text::put_visible;
-use std::alloc::Global;
+use std::alloc::{AllocError, Global};
 use std::io::Write;
 use std::str;
 use yaml_command::shelf::Shelf;
@@ -53,8 +53,7 @@ fn part_with(list: Vec<Finding>) -> Part
 }
 
 /// The lines of a file, with escapes for the characters that would not be seen: of a long file the first ones.
-fn content_of(alloc: Global, bytes: &[u8]) -> Result<String, Fault>
-    ensures err { IfErr result (λ fault. fault ≡ Fault.OutOfMemory) }
+fn content_of(alloc: Global, bytes: &[u8]) -> Result<String, AllocError>
 {
     let mut out = String::new(alloc);
     let text = str::from_utf8(bytes).unwrap_or("");
@@ -79,9 +78,8 @@ fn content_sides(
     alloc: Global,
     sign: Sign,
     answer: &Result<Vec<u8>, Unread>,
-) -> Result<Option<Sides>, Fault>
+) -> Result<Option<Sides>, AllocError>
     ensures ok { IfOk result (ShowsSign Page.Html sign) }
-    ensures err { IfErr result (λ fault. fault ≡ Fault.OutOfMemory) }
 {
     let Ok(bytes) = answer else {
         return Ok(None);
@@ -109,9 +107,8 @@ fn sides_of(
     page: Page,
     sign: Sign,
     answer: &Result<Vec<u8>, Unread>,
-) -> Result<Option<Sides>, Fault>
+) -> Result<Option<Sides>, AllocError>
     ensures ok { IfOk result (ShowsSign page sign) }
-    ensures err { IfErr result (λ fault. fault ≡ Fault.OutOfMemory) }
 {
     match page {
         Page::Html => content_sides(alloc, sign, answer),
@@ -136,9 +133,8 @@ fn alone(
     sign: Sign,
     path: &str,
     answer: &Result<Vec<u8>, Unread>,
-) -> Result<Finding, Fault>
+) -> Result<Finding, AllocError>
     ensures ok { IfOk result (IsAlone page sign path.now) }
-    ensures err { IfErr result (λ fault. fault ≡ Fault.OutOfMemory) }
 {
     Ok(Finding {
         rule: rule_of(sign),
@@ -184,9 +180,8 @@ fn deleted_found<S: Shelf>(
     asked: &Diff<'_>,
     page: Page,
     name: &str,
-) -> Result<Found, Fault>
+) -> Result<Found, AllocError>
     ensures ok { IfOk result (λ found. DeletedFound (S.holds shelf.now) asked.now page name.now found.part (string_bytes found.err) found.status) }
-    ensures err { IfErr result (λ fault. fault ≡ Fault.OutOfMemory) }
 {
     let path = path_in(alloc, asked.left, name)?;
     let answer = read_file(shelf, alloc, path.as_str());
@@ -319,16 +314,15 @@ fn found_of<S: Shelf>(
     ensures err { IfErr result (λ fault. fault ≡ Fault.OutOfMemory) }
 {
     match entry.has {
-        Has::Left => deleted_found(shelf, alloc, asked, page, entry.name),
+        Has::Left => Ok(deleted_found(shelf, alloc, asked, page, entry.name)?),
         Has::Both => both_found(shelf, alloc, asked, page, ignored, entry.name),
         Has::Right => new_found(shelf, alloc, asked, page, entry.name),
     }
 }
 
 /// Adds a part with the name of its file, if something is found there.
-fn add_part(alloc: Global, parts: &mut Vec<Part>, part: Part, name: &str) -> Result<(), Fault>
+fn add_part(alloc: Global, parts: &mut Vec<Part>, part: Part, name: &str) -> Result<(), AllocError>
     ensures ok { OnOk result ((own : List Part) × HasPart name.now part own × (parts.new.items ≡ parts.old.items ++ own)) }
-    ensures err { IfErr result (λ fault. fault ≡ Fault.OutOfMemory) }
 {
     if part.list.len() == 0 {
         return Ok(());
@@ -387,7 +381,7 @@ fn put_parts<W: Write, E: Write>(
             Ok(()) => status,
             Err(fault) => greater(status, tell_bare(fault, err)),
         },
-        Err(fault) => greater(status, tell_bare(fault, err)),
+        Err(refused) => greater(status, tell_bare(refused.into(), err)),
     }
 }
 
@@ -407,6 +401,6 @@ pub fn folder_page<S: Shelf, W: Write, E: Write>(
 {
     match parts_of(shelf, alloc, told.0, told.1, ignored, entries, err) {
         Ok(found) => put_parts(alloc, told, found, out, err),
-        Err(fault) => tell_bare(fault, err),
+        Err(refused) => tell_bare(refused.into(), err),
     }
 }

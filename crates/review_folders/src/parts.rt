@@ -1,5 +1,5 @@
 //! Parts of a page: what two files have differently.
-ghost use Rattle.std.specs.Prelude.{◌≡◌, IfOk, IfErr, string_bytes};
+ghost use Rattle.std.specs.Prelude.{◌≡◌, IfOk, string_bytes};
 ghost use Rattle.review_folders.specs.Parts.{ListsAll, IsShown, ShowsLines, AreParts, IsPartsText};
 
 use review_formats::{Finding, Findings, Part, Shown};
@@ -8,9 +8,8 @@ use review_reports::findings::differences_found;
 use review_reports::pages::page_text;
 use review_text::options::{Diff, Page};
 use review_text::put_visible;
-use std::alloc::Global;
+use std::alloc::{AllocError, Global};
 use std::str;
-use yaml_text::fault::Fault;
 
 /// What two files of these names have differently, of a list: its differences and then the pairs of items that moved.
 ///
@@ -21,9 +20,8 @@ pub fn list_found(
     listed: &Listed,
     left: &str,
     right: &str,
-) -> Result<Vec<Finding>, Fault>
+) -> Result<Vec<Finding>, AllocError>
     ensures ok { IfOk result (λ list. ListsAll left.now right.now listed.now list.items) }
-    ensures err { IfErr result (λ fault. fault ≡ Fault.OutOfMemory) }
 {
     let mut list = differences_found(alloc, left, right, &listed.lines)?;
     let mut moves = differences_found(alloc, left, right, &listed.moves)?;
@@ -32,9 +30,8 @@ pub fn list_found(
 }
 
 /// A file of which lines are shown, with escapes for the characters that would not be seen.
-fn shown_of(alloc: Global, name: &str, bytes: &[u8]) -> Result<Shown, Fault>
+fn shown_of(alloc: Global, name: &str, bytes: &[u8]) -> Result<Shown, AllocError>
     ensures ok { IfOk result (IsShown name.now bytes.now) }
-    ensures err { IfErr result (λ fault. fault ≡ Fault.OutOfMemory) }
 {
     let mut text = String::new(alloc);
     put_visible(&mut text, str::from_utf8(bytes).unwrap_or(""))?;
@@ -55,9 +52,8 @@ pub fn lines_shown(
     left: &[u8],
     right_name: &str,
     right: &[u8],
-) -> Result<Option<(Shown, Shown)>, Fault>
+) -> Result<Option<(Shown, Shown)>, AllocError>
     ensures ok { IfOk result (ShowsLines page left_name.now left.now right_name.now right.now) }
-    ensures err { IfErr result (λ fault. fault ≡ Fault.OutOfMemory) }
 {
     if page != Page::Html {
         return Ok(None);
@@ -68,9 +64,8 @@ pub fn lines_shown(
 }
 
 /// What two files or folders have differently, of which these are the parts.
-fn parts_found(alloc: Global, asked: &Diff<'_>, parts: Vec<Part>) -> Result<Findings, Fault>
+fn parts_found(alloc: Global, asked: &Diff<'_>, parts: Vec<Part>) -> Result<Findings, AllocError>
     ensures ok { IfOk result (AreParts asked.now.left.now asked.now.right.now parts.items) }
-    ensures err { IfErr result (λ fault. fault ≡ Fault.OutOfMemory) }
 {
     Ok(Findings {
         command: "diff",
@@ -88,9 +83,8 @@ pub fn parts_text(
     asked: &Diff<'_>,
     page: Page,
     parts: Vec<Part>,
-) -> Result<String, Fault>
+) -> Result<String, AllocError>
     ensures ok { IfOk result (λ text. IsPartsText asked.now.left.now asked.now.right.now page parts.items (string_bytes text)) }
-    ensures err { IfErr result (λ fault. fault ≡ Fault.OutOfMemory) }
 {
     page_text(alloc, page, &parts_found(alloc, asked, parts)?)
 }

@@ -1,13 +1,12 @@
 //! How many differences each line tells.
-ghost use Rattle.std.specs.Prelude.{◌≡◌, ◌⊎◌, true, length, Some, IfOk, IfErr};
+ghost use Rattle.std.specs.Prelude.{◌≡◌, ◌⊎◌, true, length, Some, IfOk};
 ghost use Rattle.std.specs.List.{slice_get};
 ghost use Rattle.yaml_diff.specs.declared.difference.Difference.{Difference};
 ghost use Rattle.review_folds.specs.Folds.{OfSameNodes, OfSameAt, TellsFor, Tellers, Counted, Filled, Folds};
 
-use std::alloc::Global;
+use std::alloc::{AllocError, Global};
 use std::collections::BTreeMap;
 use yaml_diff::Difference;
-use yaml_text::fault::Fault;
 use yaml_tree::node::NodeId;
 
 /// What is changed, as a number of either side: differences of one cause are one change, which aliases show at several paths.
@@ -86,8 +85,7 @@ fn note(
     firsts: &mut BTreeMap<Cause, usize>,
     causes: &[Option<Cause>],
     number: usize,
-) -> Result<(), Fault>
-    ensures err { IfErr result (λ fault. fault ≡ Fault.OutOfMemory) }
+) -> Result<(), AllocError>
 {
     if let Some(Some(cause)) = causes.get(number) {
         firsts.insert(*cause, number)?;
@@ -100,9 +98,8 @@ fn tellers(
     alloc: Global,
     list: &[Difference],
     causes: &[Option<Cause>],
-) -> Result<Vec<usize>, Fault>
+) -> Result<Vec<usize>, AllocError>
     ensures ok { IfOk result (λ it. Tellers list.now it.items) }
-    ensures err { IfErr result (λ fault. fault ≡ Fault.OutOfMemory) }
 {
     let mut firsts = BTreeMap::new(alloc);
     let mut tellers = Vec::new(alloc);
@@ -117,9 +114,8 @@ fn tellers(
 }
 
 /// A list of one number, so many times.
-fn filled(alloc: Global, number: usize, len: usize) -> Result<Vec<usize>, Fault>
+fn filled(alloc: Global, number: usize, len: usize) -> Result<Vec<usize>, AllocError>
     ensures ok { IfOk result (λ it. Filled number len it.items) }
-    ensures err { IfErr result (λ fault. fault ≡ Fault.OutOfMemory) }
 {
     let mut list = Vec::new(alloc);
     for _ in 0..len {
@@ -129,9 +125,8 @@ fn filled(alloc: Global, number: usize, len: usize) -> Result<Vec<usize>, Fault>
 }
 
 /// How often each number below the length of a list stands in it.
-fn times(alloc: Global, list: &[usize]) -> Result<Vec<usize>, Fault>
+fn times(alloc: Global, list: &[usize]) -> Result<Vec<usize>, AllocError>
     ensures ok { IfOk result (λ it. Counted list.now it.items) }
-    ensures err { IfErr result (λ fault. fault ≡ Fault.OutOfMemory) }
 {
     let mut counts = filled(alloc, 0, list.len())?;
     for number in list {
@@ -149,10 +144,9 @@ pub fn counts(
     folds: bool,
     list: &[Difference],
     causes: &[Option<Cause>],
-) -> Result<Vec<usize>, Fault>
+) -> Result<Vec<usize>, AllocError>
     ensures ok { IfOk result (λ it. Folds folds list.now it.items) }
     ensures level { IfOk result (λ it. length it.items ≡ length list.now) }
-    ensures err { IfErr result (λ fault. fault ≡ Fault.OutOfMemory) }
 {
     if !folds {
         return filled(alloc, 1, list.len());

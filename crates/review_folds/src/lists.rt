@@ -1,13 +1,12 @@
 //! The lists of which several items moved, and which differences and moves are at or below each of them.
-ghost use Rattle.std.specs.Prelude.{◌≡◌, true, IfErr};
+ghost use Rattle.std.specs.Prelude.{◌≡◌, true};
 ghost use Rattle.std.specs.List.{slice_get};
 ghost use Rattle.review_folds.specs.Lists.{key_of, below_of, number_of, IsWider, HasNumber, Notes, NotesMoves, NotesDifferences};
 
-use std::alloc::Global;
+use std::alloc::{AllocError, Global};
 use std::collections::BTreeMap;
 use yaml_diff::{Difference, Found, Move, Step};
 use yaml_path::places::Places;
-use yaml_text::fault::Fault;
 
 /// A step from the path of a number.
 #[derive(Clone, Copy, PartialEq, Eq, PartialOrd, Ord)]
@@ -43,7 +42,7 @@ pub(crate) struct Numbers {
 }
 
 impl Numbers {
-    ghost use Rattle.std.specs.Prelude.{◌≡◌, IfErr};
+    ghost use Rattle.std.specs.Prelude.{◌≡◌};
     ghost use Rattle.std.specs.BTreeMap.{get};
     ghost use Rattle.review_folds.specs.Lists.{key_of, below_of, number_of};
 
@@ -56,8 +55,7 @@ impl Numbers {
     }
 
     /// Gives a number to each path at or above this list, where it has none, and tells that of the list.
-    fn add(&mut self, path: &[Step]) -> Result<usize, Fault>
-        ensures err { IfErr result (λ fault. fault ≡ Fault.OutOfMemory) }
+    fn add(&mut self, path: &[Step]) -> Result<usize, AllocError>
     {
         let Some((step, rest)) = path.split_first() else {
             return Ok(0);
@@ -175,8 +173,7 @@ pub(crate) fn are_same(one: &[Step], other: &[Step]) -> bool
 }
 
 /// The numbers of the lists of which several moves stand one behind another.
-fn numbers_of(alloc: Global, moves: &[Move]) -> Result<Numbers, Fault>
-    ensures err { IfErr result (λ fault. fault ≡ Fault.OutOfMemory) }
+fn numbers_of(alloc: Global, moves: &[Move]) -> Result<Numbers, AllocError>
 {
     let mut numbers = Numbers {
         below: BTreeMap::new(alloc),
@@ -204,13 +201,12 @@ pub(crate) struct Lists {
 }
 
 impl Lists {
-    ghost use Rattle.std.specs.Prelude.{◌≡◌, IfOk, IfErr, IfSome};
+    ghost use Rattle.std.specs.Prelude.{◌≡◌, IfOk, IfSome};
     ghost use Rattle.review_folds.specs.Lists.{Covers, IsSpan};
 
     /// The lists of which several moves stand one behind another.
-    pub(crate) fn new(alloc: Global, found: &Found) -> Result<Lists, Fault>
+    pub(crate) fn new(alloc: Global, found: &Found) -> Result<Lists, AllocError>
         ensures ok { IfOk result (λ lists. Covers ⟦<Key as Ord>⟧.cmp found.now lists) }
-        ensures err { IfErr result (λ fault. fault ≡ Fault.OutOfMemory) }
     {
         let numbers = numbers_of(alloc, &found.moves)?;
         let mut spans = vec![in alloc; NONE; numbers.below.len().saturating_add(1)]?;

@@ -1,13 +1,12 @@
 //! Which moves one line tells: of neighbours that moved together, or of a list of which only the order changed.
-ghost use Rattle.std.specs.Prelude.{◌≡◌, ◌<◌, ◌≤◌, suc, true, false, length, IfOk, IfErr, IfSome};
+ghost use Rattle.std.specs.Prelude.{◌≡◌, ◌<◌, ◌≤◌, suc, true, false, length, IfOk, IfSome};
 ghost use Rattle.review_folds.specs.Lists.{Covers};
 ghost use Rattle.review_folds.specs.Moves.{places_up, IsRange, OfOneList, IsSpanOf, IsWhole, Tells, Groups};
 
 use crate::lists::{Key, Lists, Span, are_same};
-use std::alloc::Global;
+use std::alloc::{AllocError, Global};
 use yaml_diff::{Found, Move};
 use yaml_path::places::Places;
-use yaml_text::fault::Fault;
 
 /// Moves that one line tells: those from one to the one before the end.
 #[derive(Clone, Copy)]
@@ -155,9 +154,8 @@ fn group_at(ranges: bool, lists: &Lists, found: &Found, first: usize) -> Group
 }
 
 /// Groups of all moves.
-fn folded(alloc: Global, ranges: bool, found: &Found) -> Result<Vec<Group>, Fault>
+fn folded(alloc: Global, ranges: bool, found: &Found) -> Result<Vec<Group>, AllocError>
     ensures ok { IfOk result (λ groups. Groups true ranges found.now 0 (length found.now.moves.items) groups.items) }
-    ensures err { IfErr result (λ fault. fault ≡ Fault.OutOfMemory) }
 {
     let lists = Lists::new(alloc, found)?;
     let mut groups = Vec::new(alloc);
@@ -171,9 +169,8 @@ fn folded(alloc: Global, ranges: bool, found: &Found) -> Result<Vec<Group>, Faul
 }
 
 /// A group for each move.
-fn single(alloc: Global, ranges: bool, found: &Found) -> Result<Vec<Group>, Fault>
+fn single(alloc: Global, ranges: bool, found: &Found) -> Result<Vec<Group>, AllocError>
     ensures ok { IfOk result (λ groups. Groups false ranges found.now 0 (length found.now.moves.items) groups.items) }
-    ensures err { IfErr result (λ fault. fault ≡ Fault.OutOfMemory) }
 {
     let mut groups = Vec::new(alloc);
     for first in 0..found.moves.len() {
@@ -188,9 +185,8 @@ fn single(alloc: Global, ranges: bool, found: &Found) -> Result<Vec<Group>, Faul
 
 /// The moves in groups, of which one line each tells. With folds, a list of which only the order changed has one line, and with ranges
 /// so have neighbours that moved together; without folds each move has one.
-pub fn groups(alloc: Global, folds: bool, ranges: bool, found: &Found) -> Result<Vec<Group>, Fault>
+pub fn groups(alloc: Global, folds: bool, ranges: bool, found: &Found) -> Result<Vec<Group>, AllocError>
     ensures ok { IfOk result (λ groups. Groups folds ranges found.now 0 (length found.now.moves.items) groups.items) }
-    ensures err { IfErr result (λ fault. fault ≡ Fault.OutOfMemory) }
 {
     if !folds {
         return single(alloc, ranges, found);

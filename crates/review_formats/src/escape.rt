@@ -1,10 +1,10 @@
 //! Texts of files in pages, tables and commands.
-ghost use Rattle.std.specs.Prelude.{◌≡◌, ◌<◌, ◌++◌, ◌||◌, string_bytes, OnOk, IfErr};
+ghost use Rattle.std.specs.Prelude.{◌≡◌, ◌<◌, ◌++◌, ◌||◌, string_bytes, OnOk};
 ghost use Rattle.std.specs.Str.{encode_utf8_all};
 ghost use Rattle.review_formats.specs.Escaped.{is_plain, is_of_reference, reference, percent, escape_of, escaped_char, escaped, HasNoMarkup};
 
+use std::alloc::AllocError;
 use yaml_text::digit::hex_digit;
-use yaml_text::fault::Fault;
 
 /// What a text stands in.
 #[derive(Clone, Copy, Debug, PartialEq, Eq)]
@@ -72,10 +72,9 @@ impl Escape {
 }
 
 /// Writes a reference to a character.
-fn put_reference(out: &mut String, code: u32) -> Result<(), Fault>
+fn put_reference(out: &mut String, code: u32) -> Result<(), AllocError>
     requires { code < 256 }
     ensures ok { OnOk result (string_bytes out.new ≡ string_bytes out.old ++ encode_utf8_all (reference code)) }
-    ensures err { IfErr result (λ fault. fault ≡ Fault.OutOfMemory) }
 {
     out.push_str("&#x")?;
     out.push(char::from(hex_digit(code / 16)))?;
@@ -85,10 +84,9 @@ fn put_reference(out: &mut String, code: u32) -> Result<(), Fault>
 }
 
 /// Writes a percent sign and the digits of a character.
-fn put_percent(out: &mut String, code: u32) -> Result<(), Fault>
+fn put_percent(out: &mut String, code: u32) -> Result<(), AllocError>
     requires { code < 256 }
     ensures ok { OnOk result (string_bytes out.new ≡ string_bytes out.old ++ encode_utf8_all (percent code)) }
-    ensures err { IfErr result (λ fault. fault ≡ Fault.OutOfMemory) }
 {
     out.push('%')?;
     out.push(char::from(hex_digit(code / 16)))?;
@@ -97,10 +95,9 @@ fn put_percent(out: &mut String, code: u32) -> Result<(), Fault>
 }
 
 /// Writes the escape of a character of ASCII.
-fn put_escape(out: &mut String, c: char, escape: Escape) -> Result<(), Fault>
+fn put_escape(out: &mut String, c: char, escape: Escape) -> Result<(), AllocError>
     requires { c < 128 }
     ensures ok { OnOk result (string_bytes out.new ≡ string_bytes out.old ++ encode_utf8_all (escape_of escape c)) }
-    ensures err { IfErr result (λ fault. fault ≡ Fault.OutOfMemory) }
 {
     match escape {
         Escape::Html | Escape::Markdown => put_reference(out, u32::from(c)),
@@ -109,9 +106,8 @@ fn put_escape(out: &mut String, c: char, escape: Escape) -> Result<(), Fault>
 }
 
 /// Writes a character, or its escape where it would be markup or part of an escape.
-fn put_char(out: &mut String, c: char, escape: Escape) -> Result<(), Fault>
+fn put_char(out: &mut String, c: char, escape: Escape) -> Result<(), AllocError>
     ensures ok { OnOk result (string_bytes out.new ≡ string_bytes out.old ++ encode_utf8_all (escaped_char escape c)) }
-    ensures err { IfErr result (λ fault. fault ≡ Fault.OutOfMemory) }
 {
     if escape.escapes(c) {
         put_escape(out, c, escape)
@@ -123,10 +119,9 @@ fn put_char(out: &mut String, c: char, escape: Escape) -> Result<(), Fault>
 
 /// Writes a text with an escape for each character that would be markup. No byte of what is written would be.
 #[tactic(auto, using(crate::proofs::EscapeLaws::clean))]
-pub fn put_escaped(out: &mut String, text: &str, escape: Escape) -> Result<(), Fault>
+pub fn put_escaped(out: &mut String, text: &str, escape: Escape) -> Result<(), AllocError>
     ensures told { OnOk result (string_bytes out.new ≡ string_bytes out.old ++ escaped escape text.now) }
     ensures clean { HasNoMarkup escape (escaped escape text.now) }
-    ensures err { IfErr result (λ fault. fault ≡ Fault.OutOfMemory) }
 {
     'chars: for c in text.chars() {
         put_char(out, c, escape)?;

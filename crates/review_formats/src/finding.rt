@@ -1,10 +1,10 @@
 //! What is found in files.
-ghost use Rattle.std.specs.Prelude.{◌≡◌, ◌++◌, string_bytes, IfErr, OnOk};
+ghost use Rattle.std.specs.Prelude.{◌≡◌, ◌++◌, string_bytes, OnOk};
 ghost use Rattle.review_formats.specs.Findings.{sign_word, sign_mark, sign_says, others_text, differences_in, moves_in, are_whole, left_out_of, count_of};
 
 use crate::left_out::LeftOut;
+use std::alloc::AllocError;
 use yaml_place::Place;
-use yaml_text::fault::Fault;
 
 /// How much something that is found matters.
 #[derive(Clone, Copy, Debug, PartialEq, Eq)]
@@ -79,13 +79,12 @@ pub struct Sides {
 }
 
 impl Sides {
-    ghost use Rattle.std.specs.Prelude.{◌≡◌, ◌++◌, string_bytes, IfErr, OnOk};
+    ghost use Rattle.std.specs.Prelude.{◌≡◌, ◌++◌, string_bytes, OnOk};
     ghost use Rattle.review_formats.specs.Findings.{sides_says};
 
     /// Writes what the two sides have, and how many other differences aliases show.
-    pub fn put_says(&self, out: &mut String) -> Result<(), Fault>
+    pub fn put_says(&self, out: &mut String) -> Result<(), AllocError>
         ensures ok { OnOk result (string_bytes out.new ≡ string_bytes out.old ++ sides_says self.now) }
-        ensures err { IfErr result (λ fault. fault ≡ Fault.OutOfMemory) }
     {
         out.push_str(self.sign.says())?;
         put_others(out, self.others)?;
@@ -95,9 +94,8 @@ impl Sides {
 
 /// Writes how many other differences aliases show, if there are some.
 #[tactic(auto, using(crate::proofs::PieceLaws::others_none, crate::proofs::PieceLaws::others_some))]
-fn put_others(out: &mut String, others: usize) -> Result<(), Fault>
+fn put_others(out: &mut String, others: usize) -> Result<(), AllocError>
     ensures ok { OnOk result (string_bytes out.new ≡ string_bytes out.old ++ others_text others) }
-    ensures err { IfErr result (λ fault. fault ≡ Fault.OutOfMemory) }
 {
     if others == 0 {
         return Ok(());

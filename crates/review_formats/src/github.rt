@@ -1,5 +1,5 @@
 //! Commands of GitHub's workflows.
-ghost use Rattle.std.specs.Prelude.{◌≡◌, ◌++◌, string_bytes, IfOk, IfErr, OnOk};
+ghost use Rattle.std.specs.Prelude.{◌≡◌, ◌++◌, string_bytes, IfOk, OnOk};
 ghost use Rattle.std.specs.List.{flat_map};
 ghost use Rattle.review_formats.specs.Escaped.{escaped};
 ghost use Rattle.review_formats.specs.Pieces.{piece_text};
@@ -9,9 +9,8 @@ ghost use Rattle.review_formats.specs.Github.{command_text, head_text, place_tex
 use crate::escape::Escape;
 use crate::finding::{Finding, Findings, Level, Part};
 use crate::piece::{Piece, put_pieces};
-use std::alloc::Global;
+use std::alloc::{AllocError, Global};
 use yaml_place::Place;
-use yaml_text::fault::Fault;
 
 /// The command of a level.
 fn command_of(level: Level) -> &'static str
@@ -39,9 +38,8 @@ fn message(text: &str) -> Piece<'_>
 }
 
 /// Writes the command up to the name of the file.
-fn put_head(out: &mut String, finding: &Finding) -> Result<(), Fault>
+fn put_head(out: &mut String, finding: &Finding) -> Result<(), AllocError>
     ensures ok { OnOk result (string_bytes out.new ≡ string_bytes out.old ++ head_text finding.now) }
-    ensures err { IfErr result (λ fault. fault ≡ Fault.OutOfMemory) }
 {
     put_pieces(
         out,
@@ -53,9 +51,8 @@ fn put_head(out: &mut String, finding: &Finding) -> Result<(), Fault>
 }
 
 /// Writes the line and the column, if there are.
-fn put_place(out: &mut String, place: Option<Place>) -> Result<(), Fault>
+fn put_place(out: &mut String, place: Option<Place>) -> Result<(), AllocError>
     ensures ok { OnOk result (string_bytes out.new ≡ string_bytes out.old ++ place_text place) }
-    ensures err { IfErr result (λ fault. fault ≡ Fault.OutOfMemory) }
 {
     match place {
         Some(place) => put_pieces(
@@ -72,9 +69,8 @@ fn put_place(out: &mut String, place: Option<Place>) -> Result<(), Fault>
 }
 
 /// Writes the title, behind which the message stands.
-fn put_title(out: &mut String, rule: &str) -> Result<(), Fault>
+fn put_title(out: &mut String, rule: &str) -> Result<(), AllocError>
     ensures ok { OnOk result (string_bytes out.new ≡ string_bytes out.old ++ title_text rule.now) }
-    ensures err { IfErr result (λ fault. fault ≡ Fault.OutOfMemory) }
 {
     put_pieces(
         out,
@@ -87,9 +83,8 @@ fn put_title(out: &mut String, rule: &str) -> Result<(), Fault>
 }
 
 /// Writes the path, if there is one.
-fn put_path(out: &mut String, path: &Option<String>) -> Result<(), Fault>
+fn put_path(out: &mut String, path: &Option<String>) -> Result<(), AllocError>
     ensures ok { OnOk result (string_bytes out.new ≡ string_bytes out.old ++ path_text path.now) }
-    ensures err { IfErr result (λ fault. fault ≡ Fault.OutOfMemory) }
 {
     match path {
         Some(path) => put_pieces(out, &[message(path), Piece::Raw(": ")]),
@@ -99,9 +94,8 @@ fn put_path(out: &mut String, path: &Option<String>) -> Result<(), Fault>
 
 /// Writes the message and ends the line.
 #[tactic(auto, using(crate::proofs::PieceLaws::two_put))]
-fn put_message(out: &mut String, finding: &Finding) -> Result<(), Fault>
+fn put_message(out: &mut String, finding: &Finding) -> Result<(), AllocError>
     ensures ok { OnOk result (string_bytes out.new ≡ string_bytes out.old ++ message_text finding.now) }
-    ensures err { IfErr result (λ fault. fault ≡ Fault.OutOfMemory) }
 {
     put_path(out, &finding.path)?;
     put_pieces(out, &[message(&finding.message), Piece::Raw("\n")])
@@ -109,9 +103,8 @@ fn put_message(out: &mut String, finding: &Finding) -> Result<(), Fault>
 
 /// Writes the command of a finding, which is one line.
 #[tactic(auto, using(crate::proofs::PieceLaws::four_put))]
-fn put_finding(out: &mut String, finding: &Finding) -> Result<(), Fault>
+fn put_finding(out: &mut String, finding: &Finding) -> Result<(), AllocError>
     ensures ok { OnOk result (string_bytes out.new ≡ string_bytes out.old ++ finding_line finding.now) }
-    ensures err { IfErr result (λ fault. fault ≡ Fault.OutOfMemory) }
 {
     put_head(out, finding)?;
     put_place(out, finding.place)?;
@@ -120,9 +113,8 @@ fn put_finding(out: &mut String, finding: &Finding) -> Result<(), Fault>
 }
 
 /// Writes the commands of a part's findings.
-fn put_part(out: &mut String, part: &Part) -> Result<(), Fault>
+fn put_part(out: &mut String, part: &Part) -> Result<(), AllocError>
     ensures ok { OnOk result (string_bytes out.new ≡ string_bytes out.old ++ part_lines part.now) }
-    ensures err { IfErr result (λ fault. fault ≡ Fault.OutOfMemory) }
 {
     'findings: for finding in &part.list {
         put_finding(out, finding)?;
@@ -131,9 +123,8 @@ fn put_part(out: &mut String, part: &Part) -> Result<(), Fault>
 }
 
 /// Writes the commands of all parts.
-fn put_parts(out: &mut String, parts: &[Part]) -> Result<(), Fault>
+fn put_parts(out: &mut String, parts: &[Part]) -> Result<(), AllocError>
     ensures ok { OnOk result (string_bytes out.new ≡ string_bytes out.old ++ flat_map part_lines parts.now) }
-    ensures err { IfErr result (λ fault. fault ≡ Fault.OutOfMemory) }
 {
     'parts: for part in parts {
         put_part(out, part)?;
@@ -142,9 +133,8 @@ fn put_parts(out: &mut String, parts: &[Part]) -> Result<(), Fault>
 }
 
 /// Writes what is not listed, if there is something.
-fn put_more(out: &mut String, found: &Findings) -> Result<(), Fault>
+fn put_more(out: &mut String, found: &Findings) -> Result<(), AllocError>
     ensures ok { OnOk result (string_bytes out.new ≡ string_bytes out.old ++ more_text found.now) }
-    ensures err { IfErr result (λ fault. fault ≡ Fault.OutOfMemory) }
 {
     found
         .left_out()
@@ -156,9 +146,8 @@ fn put_more(out: &mut String, found: &Findings) -> Result<(), Fault>
 /// # Errors
 /// 21: memory is refused.
 #[tactic(auto, using(crate::proofs::PieceLaws::two_put))]
-pub fn github_text(alloc: Global, found: &Findings) -> Result<String, Fault>
+pub fn github_text(alloc: Global, found: &Findings) -> Result<String, AllocError>
     ensures ok { IfOk result (λ text. string_bytes text ≡ github_text found.now) }
-    ensures err { IfErr result (λ fault. fault ≡ Fault.OutOfMemory) }
 {
     let mut out = String::new(alloc);
     put_parts(&mut out, &found.parts)?;

@@ -1,8 +1,9 @@
 //! What a list leaves out.
-ghost use Rattle.std.specs.Prelude.{◌≡◌, ◌++◌, string_bytes, OnOk, IfErr};
+ghost use Rattle.std.specs.Prelude.{◌≡◌, ◌++◌, string_bytes, OnOk};
 ghost use Rattle.review_formats.specs.LeftOut.{counted_text, differences_text, front_text, numbers_text};
 
-use yaml_text::fault::Fault;
+use std::alloc::AllocError;
+
 
 /// How many differences and moves no line of a list tells.
 #[derive(Clone, Copy, Debug, PartialEq, Eq)]
@@ -14,26 +15,23 @@ pub struct LeftOut {
 }
 
 /// Writes a number and the noun for it.
-fn put_counted(out: &mut String, number: usize, one: &str, many: &str) -> Result<(), Fault>
+fn put_counted(out: &mut String, number: usize, one: &str, many: &str) -> Result<(), AllocError>
     ensures ok { OnOk result (string_bytes out.new ≡ string_bytes out.old ++ counted_text number one.now many.now) }
-    ensures err { IfErr result (λ fault. fault ≡ Fault.OutOfMemory) }
 {
     write!(out, "{number}")?;
     out.push_str(if number == 1 { one } else { many })?;
     Ok(())
 }
 
-fn put_differences(out: &mut String, differences: usize) -> Result<(), Fault>
+fn put_differences(out: &mut String, differences: usize) -> Result<(), AllocError>
     ensures ok { OnOk result (string_bytes out.new ≡ string_bytes out.old ++ differences_text differences) }
-    ensures err { IfErr result (λ fault. fault ≡ Fault.OutOfMemory) }
 {
     put_counted(out, differences, " difference", " differences")
 }
 
 /// Writes a number of differences before that of moves, if it is not 0.
-fn put_front(out: &mut String, differences: usize) -> Result<(), Fault>
+fn put_front(out: &mut String, differences: usize) -> Result<(), AllocError>
     ensures ok { OnOk result (string_bytes out.new ≡ string_bytes out.old ++ front_text differences) }
-    ensures err { IfErr result (λ fault. fault ≡ Fault.OutOfMemory) }
 {
     if differences == 0 {
         return Ok(());
@@ -44,9 +42,8 @@ fn put_front(out: &mut String, differences: usize) -> Result<(), Fault>
 }
 
 /// Writes both numbers, without those that are 0.
-fn put_numbers(out: &mut String, differences: usize, moves: usize) -> Result<(), Fault>
+fn put_numbers(out: &mut String, differences: usize, moves: usize) -> Result<(), AllocError>
     ensures ok { OnOk result (string_bytes out.new ≡ string_bytes out.old ++ numbers_text differences moves) }
-    ensures err { IfErr result (λ fault. fault ≡ Fault.OutOfMemory) }
 {
     if moves == 0 {
         return put_differences(out, differences);
@@ -56,7 +53,7 @@ fn put_numbers(out: &mut String, differences: usize, moves: usize) -> Result<(),
 }
 
 impl LeftOut {
-    ghost use Rattle.std.specs.Prelude.{◌≡◌, ◌++◌, string_bytes, OnOk, IfErr};
+    ghost use Rattle.std.specs.Prelude.{◌≡◌, ◌++◌, string_bytes, OnOk};
     ghost use Rattle.review_formats.specs.LeftOut.{no_left_out, is_none, left_out_text, between_text};
 
     /// Of a list that has all.
@@ -78,9 +75,8 @@ impl LeftOut {
     }
 
     /// Writes what is left out, as `12 differences, 1 move`.
-    pub fn put(self, out: &mut String) -> Result<(), Fault>
+    pub fn put(self, out: &mut String) -> Result<(), AllocError>
         ensures ok { OnOk result (string_bytes out.new ≡ string_bytes out.old ++ left_out_text self) }
-        ensures err { IfErr result (λ fault. fault ≡ Fault.OutOfMemory) }
     {
         if self.differences == 0 && self.moves == 0 {
             out.push_str("any differences or moves beyond the search limit")?;
@@ -94,9 +90,8 @@ impl LeftOut {
 
     /// Writes what is left out between two texts, if something is.
     #[tactic(auto, using(crate::proofs::PieceLaws::three_put))]
-    pub fn put_between(self, out: &mut String, front: &str, end: &str) -> Result<(), Fault>
+    pub fn put_between(self, out: &mut String, front: &str, end: &str) -> Result<(), AllocError>
         ensures ok { OnOk result (string_bytes out.new ≡ string_bytes out.old ++ between_text front.now end.now self) }
-        ensures err { IfErr result (λ fault. fault ≡ Fault.OutOfMemory) }
     {
         if self.is_none() {
             return Ok(());

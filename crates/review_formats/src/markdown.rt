@@ -1,5 +1,5 @@
 //! Tables in Markdown.
-ghost use Rattle.std.specs.Prelude.{◌≡◌, ◌++◌, string_bytes, IfOk, IfErr, OnOk};
+ghost use Rattle.std.specs.Prelude.{◌≡◌, ◌++◌, string_bytes, IfOk, OnOk};
 ghost use Rattle.std.specs.List.{flat_map, list_any};
 ghost use Rattle.review_formats.specs.Changes.{changed_lines};
 ghost use Rattle.review_formats.specs.Escaped.{escaped};
@@ -11,9 +11,8 @@ use crate::changes::{without_end, without_tab};
 use crate::escape::Escape;
 use crate::finding::{Finding, Findings, Part, Sides};
 use crate::piece::{Piece, put_pieces};
-use std::alloc::Global;
+use std::alloc::{AllocError, Global};
 use yaml_place::Place;
-use yaml_text::fault::Fault;
 
 /// A text in the table.
 fn text(text: &str) -> Piece<'_>
@@ -23,9 +22,8 @@ fn text(text: &str) -> Piece<'_>
 }
 
 /// Writes what stands between two `@` of a code, with the `@` before it if it is not the first.
-fn put_code_part(out: &mut String, number: usize, part: &str) -> Result<(), Fault>
+fn put_code_part(out: &mut String, number: usize, part: &str) -> Result<(), AllocError>
     ensures ok { OnOk result (string_bytes out.new ≡ string_bytes out.old ++ code_part (number, part.now)) }
-    ensures err { IfErr result (λ fault. fault ≡ Fault.OutOfMemory) }
 {
     if number > 0 {
         put_pieces(
@@ -38,9 +36,8 @@ fn put_code_part(out: &mut String, number: usize, part: &str) -> Result<(), Faul
 }
 
 /// Writes a text as code. At each `@` the code begins anew, so that no reader takes a name or an address from it.
-fn put_code(out: &mut String, code: &str) -> Result<(), Fault>
+fn put_code(out: &mut String, code: &str) -> Result<(), AllocError>
     ensures ok { OnOk result (string_bytes out.new ≡ string_bytes out.old ++ code_text code.now) }
-    ensures err { IfErr result (λ fault. fault ≡ Fault.OutOfMemory) }
 {
     out.push_str("<code>")?;
     'parts: for (number, part) in code.split('@').enumerate() {
@@ -52,9 +49,8 @@ fn put_code(out: &mut String, code: &str) -> Result<(), Fault>
 
 /// Writes a cell with code.
 #[tactic(auto, using(crate::proofs::PieceLaws::three_put))]
-fn put_code_cell(out: &mut String, code: &str) -> Result<(), Fault>
+fn put_code_cell(out: &mut String, code: &str) -> Result<(), AllocError>
     ensures ok { OnOk result (string_bytes out.new ≡ string_bytes out.old ++ code_cell code.now) }
-    ensures err { IfErr result (λ fault. fault ≡ Fault.OutOfMemory) }
 {
     out.push_str(" ")?;
     put_code(out, code)?;
@@ -63,9 +59,8 @@ fn put_code_cell(out: &mut String, code: &str) -> Result<(), Fault>
 }
 
 /// Writes a cell with code, if there is any.
-fn put_cell(out: &mut String, code: &Option<String>) -> Result<(), Fault>
+fn put_cell(out: &mut String, code: &Option<String>) -> Result<(), AllocError>
     ensures ok { OnOk result (string_bytes out.new ≡ string_bytes out.old ++ cell_text code.now) }
-    ensures err { IfErr result (λ fault. fault ≡ Fault.OutOfMemory) }
 {
     match code {
         Some(code) => put_code_cell(out, code),
@@ -74,9 +69,8 @@ fn put_cell(out: &mut String, code: &Option<String>) -> Result<(), Fault>
 }
 
 /// Writes a cell with a line and a column, if there are.
-fn put_place(out: &mut String, place: Option<Place>) -> Result<(), Fault>
+fn put_place(out: &mut String, place: Option<Place>) -> Result<(), AllocError>
     ensures ok { OnOk result (string_bytes out.new ≡ string_bytes out.old ++ place_cell place) }
-    ensures err { IfErr result (λ fault. fault ≡ Fault.OutOfMemory) }
 {
     match place {
         Some(place) => put_pieces(
@@ -94,9 +88,8 @@ fn put_place(out: &mut String, place: Option<Place>) -> Result<(), Fault>
 }
 
 /// Writes the row of a difference.
-fn put_difference(out: &mut String, finding: &Finding, sides: &Sides) -> Result<(), Fault>
+fn put_difference(out: &mut String, finding: &Finding, sides: &Sides) -> Result<(), AllocError>
     ensures ok { OnOk result (string_bytes out.new ≡ string_bytes out.old ++ difference_row finding.now sides.now) }
-    ensures err { IfErr result (λ fault. fault ≡ Fault.OutOfMemory) }
 {
     out.push_str("| ")?;
     sides.put_says(out)?;
@@ -111,9 +104,8 @@ fn put_difference(out: &mut String, finding: &Finding, sides: &Sides) -> Result<
 }
 
 /// Writes the row of a fault or a warning.
-fn put_other(out: &mut String, finding: &Finding) -> Result<(), Fault>
+fn put_other(out: &mut String, finding: &Finding) -> Result<(), AllocError>
     ensures ok { OnOk result (string_bytes out.new ≡ string_bytes out.old ++ other_row finding.now) }
-    ensures err { IfErr result (λ fault. fault ≡ Fault.OutOfMemory) }
 {
     out.push_str("|")?;
     put_code_cell(out, &finding.file)?;
@@ -129,9 +121,8 @@ fn put_other(out: &mut String, finding: &Finding) -> Result<(), Fault>
 }
 
 /// Writes the row of a finding in the table of differences, or in the table of what is none.
-fn put_row(out: &mut String, finding: &Finding, sides: bool) -> Result<(), Fault>
+fn put_row(out: &mut String, finding: &Finding, sides: bool) -> Result<(), AllocError>
     ensures ok { OnOk result (string_bytes out.new ≡ string_bytes out.old ++ row_text sides finding.now) }
-    ensures err { IfErr result (λ fault. fault ≡ Fault.OutOfMemory) }
 {
     match &finding.sides {
         Some(both) if sides => put_difference(out, finding, both),
@@ -141,17 +132,15 @@ fn put_row(out: &mut String, finding: &Finding, sides: bool) -> Result<(), Fault
 }
 
 /// Writes a changed line.
-fn put_line(out: &mut String, line: &str) -> Result<(), Fault>
+fn put_line(out: &mut String, line: &str) -> Result<(), AllocError>
     ensures ok { OnOk result (string_bytes out.new ≡ string_bytes out.old ++ line_text line.now) }
-    ensures err { IfErr result (λ fault. fault ≡ Fault.OutOfMemory) }
 {
     put_pieces(out, &[text(without_tab(line)), Piece::Raw("\n")])
 }
 
 /// Writes the changed lines of two strings.
-fn put_lines(out: &mut String, changes: &str) -> Result<(), Fault>
+fn put_lines(out: &mut String, changes: &str) -> Result<(), AllocError>
     ensures ok { OnOk result (string_bytes out.new ≡ string_bytes out.old ++ flat_map line_text (changed_lines changes.now)) }
-    ensures err { IfErr result (λ fault. fault ≡ Fault.OutOfMemory) }
 {
     'lines: for line in without_end(changes).split('\n') {
         put_line(out, line)?;
@@ -160,9 +149,8 @@ fn put_lines(out: &mut String, changes: &str) -> Result<(), Fault>
 }
 
 /// Writes a path as code, or `.` where there is none.
-fn put_summary(out: &mut String, path: &Option<String>) -> Result<(), Fault>
+fn put_summary(out: &mut String, path: &Option<String>) -> Result<(), AllocError>
     ensures ok { OnOk result (string_bytes out.new ≡ string_bytes out.old ++ summary_text path.now) }
-    ensures err { IfErr result (λ fault. fault ≡ Fault.OutOfMemory) }
 {
     match path {
         Some(path) => put_code(out, path),
@@ -171,9 +159,8 @@ fn put_summary(out: &mut String, path: &Option<String>) -> Result<(), Fault>
 }
 
 /// Writes the changed lines of two strings below the path.
-fn put_details(out: &mut String, path: &Option<String>, changes: &str) -> Result<(), Fault>
+fn put_details(out: &mut String, path: &Option<String>, changes: &str) -> Result<(), AllocError>
     ensures ok { OnOk result (string_bytes out.new ≡ string_bytes out.old ++ details_text path.now changes.now) }
-    ensures err { IfErr result (λ fault. fault ≡ Fault.OutOfMemory) }
 {
     out.push_str("\n<details><summary>")?;
     put_summary(out, path)?;
@@ -184,9 +171,8 @@ fn put_details(out: &mut String, path: &Option<String>, changes: &str) -> Result
 }
 
 /// Writes the changed lines of a finding below the table, if it has any.
-fn put_changes(out: &mut String, finding: &Finding) -> Result<(), Fault>
+fn put_changes(out: &mut String, finding: &Finding) -> Result<(), AllocError>
     ensures ok { OnOk result (string_bytes out.new ≡ string_bytes out.old ++ changes_text finding.now) }
-    ensures err { IfErr result (λ fault. fault ≡ Fault.OutOfMemory) }
 {
     let Some(sides) = &finding.sides else {
         return Ok(());
@@ -198,9 +184,8 @@ fn put_changes(out: &mut String, finding: &Finding) -> Result<(), Fault>
 }
 
 /// Writes what was compared, if two were.
-fn put_names(out: &mut String, names: &Option<(String, String)>) -> Result<(), Fault>
+fn put_names(out: &mut String, names: &Option<(String, String)>) -> Result<(), AllocError>
     ensures ok { OnOk result (string_bytes out.new ≡ string_bytes out.old ++ names_text names.now) }
-    ensures err { IfErr result (λ fault. fault ≡ Fault.OutOfMemory) }
 {
     let Some((left, right)) = names else {
         return Ok(());
@@ -212,9 +197,8 @@ fn put_names(out: &mut String, names: &Option<(String, String)>) -> Result<(), F
 }
 
 /// Writes the command, what was compared, and whether nothing is found.
-fn put_head(out: &mut String, found: &Findings) -> Result<(), Fault>
+fn put_head(out: &mut String, found: &Findings) -> Result<(), AllocError>
     ensures ok { OnOk result (string_bytes out.new ≡ string_bytes out.old ++ head_text found.now) }
-    ensures err { IfErr result (λ fault. fault ≡ Fault.OutOfMemory) }
 {
     out.push_str("**yamlreview ")?;
     out.push_str(found.command)?;
@@ -256,9 +240,8 @@ fn has_rows(list: &[Finding], sides: bool) -> bool
 }
 
 /// Writes the rows of a table.
-fn put_rows(out: &mut String, list: &[Finding], sides: bool) -> Result<(), Fault>
+fn put_rows(out: &mut String, list: &[Finding], sides: bool) -> Result<(), AllocError>
     ensures ok { OnOk result (string_bytes out.new ≡ string_bytes out.old ++ flat_map (row_text sides) list.now) }
-    ensures err { IfErr result (λ fault. fault ≡ Fault.OutOfMemory) }
 {
     'rows: for finding in list {
         put_row(out, finding, sides)?;
@@ -268,9 +251,8 @@ fn put_rows(out: &mut String, list: &[Finding], sides: bool) -> Result<(), Fault
 
 /// Writes the table of a part's differences, or of what is none, if it has a row.
 #[tactic(auto, using(crate::proofs::PieceLaws::two_put))]
-fn put_table(out: &mut String, list: &[Finding], sides: bool) -> Result<(), Fault>
+fn put_table(out: &mut String, list: &[Finding], sides: bool) -> Result<(), AllocError>
     ensures ok { OnOk result (string_bytes out.new ≡ string_bytes out.old ++ table_text sides list.now) }
-    ensures err { IfErr result (λ fault. fault ≡ Fault.OutOfMemory) }
 {
     if !has_rows(list, sides) {
         return Ok(());
@@ -281,9 +263,8 @@ fn put_table(out: &mut String, list: &[Finding], sides: bool) -> Result<(), Faul
 
 /// Writes the name of a file, if there are several.
 #[tactic(auto, using(crate::proofs::PieceLaws::three_put))]
-fn put_name(out: &mut String, name: &Option<String>) -> Result<(), Fault>
+fn put_name(out: &mut String, name: &Option<String>) -> Result<(), AllocError>
     ensures ok { OnOk result (string_bytes out.new ≡ string_bytes out.old ++ name_text name.now) }
-    ensures err { IfErr result (λ fault. fault ≡ Fault.OutOfMemory) }
 {
     let Some(name) = name else {
         return Ok(());
@@ -295,9 +276,8 @@ fn put_name(out: &mut String, name: &Option<String>) -> Result<(), Fault>
 }
 
 /// Writes the changed lines of all findings.
-fn put_all_changes(out: &mut String, list: &[Finding]) -> Result<(), Fault>
+fn put_all_changes(out: &mut String, list: &[Finding]) -> Result<(), AllocError>
     ensures ok { OnOk result (string_bytes out.new ≡ string_bytes out.old ++ flat_map changes_text list.now) }
-    ensures err { IfErr result (λ fault. fault ≡ Fault.OutOfMemory) }
 {
     'findings: for finding in list {
         put_changes(out, finding)?;
@@ -307,9 +287,8 @@ fn put_all_changes(out: &mut String, list: &[Finding]) -> Result<(), Fault>
 
 /// Writes a part: the name of the file if there are several, a table, and changed lines below it.
 #[tactic(auto, using(crate::proofs::PieceLaws::four_put))]
-fn put_part(out: &mut String, part: &Part) -> Result<(), Fault>
+fn put_part(out: &mut String, part: &Part) -> Result<(), AllocError>
     ensures ok { OnOk result (string_bytes out.new ≡ string_bytes out.old ++ part_text part.now) }
-    ensures err { IfErr result (λ fault. fault ≡ Fault.OutOfMemory) }
 {
     put_name(out, &part.name)?;
     put_table(out, &part.list, true)?;
@@ -318,9 +297,8 @@ fn put_part(out: &mut String, part: &Part) -> Result<(), Fault>
 }
 
 /// Writes all parts.
-fn put_parts(out: &mut String, parts: &[Part]) -> Result<(), Fault>
+fn put_parts(out: &mut String, parts: &[Part]) -> Result<(), AllocError>
     ensures ok { OnOk result (string_bytes out.new ≡ string_bytes out.old ++ flat_map part_text parts.now) }
-    ensures err { IfErr result (λ fault. fault ≡ Fault.OutOfMemory) }
 {
     'parts: for part in parts {
         put_part(out, part)?;
@@ -329,9 +307,8 @@ fn put_parts(out: &mut String, parts: &[Part]) -> Result<(), Fault>
 }
 
 /// Writes what is not listed, if there is something.
-fn put_more(out: &mut String, found: &Findings) -> Result<(), Fault>
+fn put_more(out: &mut String, found: &Findings) -> Result<(), AllocError>
     ensures ok { OnOk result (string_bytes out.new ≡ string_bytes out.old ++ more_text found.now) }
-    ensures err { IfErr result (λ fault. fault ≡ Fault.OutOfMemory) }
 {
     found.left_out().put_between(out, "\nNot listed: ", "\n")
 }
@@ -341,9 +318,8 @@ fn put_more(out: &mut String, found: &Findings) -> Result<(), Fault>
 /// # Errors
 /// 21: memory is refused.
 #[tactic(auto, using(crate::proofs::PieceLaws::three_put))]
-pub fn markdown_text(alloc: Global, found: &Findings) -> Result<String, Fault>
+pub fn markdown_text(alloc: Global, found: &Findings) -> Result<String, AllocError>
     ensures ok { IfOk result (λ text. string_bytes text ≡ markdown_text found.now) }
-    ensures err { IfErr result (λ fault. fault ≡ Fault.OutOfMemory) }
 {
     let mut out = String::new(alloc);
     put_head(&mut out, found)?;

@@ -1,9 +1,9 @@
 //! Pieces of which a page is made.
-ghost use Rattle.std.specs.Prelude.{◌≡◌, ◌++◌, string_bytes, OnOk, IfErr};
+ghost use Rattle.std.specs.Prelude.{◌≡◌, ◌++◌, string_bytes, OnOk};
 ghost use Rattle.review_formats.specs.Pieces.{piece_text, pieces_text};
 
 use crate::escape::{Escape, put_escaped};
-use yaml_text::fault::Fault;
+use std::alloc::AllocError;
 
 /// A piece of a page. What comes from a file is a `Text`: the other pieces have nothing of one.
 #[derive(Clone, Copy)]
@@ -16,9 +16,8 @@ pub enum Piece<'p> {
 }
 
 /// Writes a piece.
-fn put_piece(out: &mut String, piece: Piece<'_>) -> Result<(), Fault>
+fn put_piece(out: &mut String, piece: Piece<'_>) -> Result<(), AllocError>
     ensures ok { OnOk result (string_bytes out.new ≡ string_bytes out.old ++ piece_text piece.entry) }
-    ensures err { IfErr result (λ fault. fault ≡ Fault.OutOfMemory) }
 {
     match piece {
         Piece::Raw(text) => {
@@ -34,9 +33,8 @@ fn put_piece(out: &mut String, piece: Piece<'_>) -> Result<(), Fault>
 }
 
 /// Writes pieces, one behind the other.
-pub fn put_pieces(out: &mut String, pieces: &[Piece<'_>]) -> Result<(), Fault>
+pub fn put_pieces(out: &mut String, pieces: &[Piece<'_>]) -> Result<(), AllocError>
     ensures ok { OnOk result (string_bytes out.new ≡ string_bytes out.old ++ pieces_text pieces.now) }
-    ensures err { IfErr result (λ fault. fault ≡ Fault.OutOfMemory) }
 {
     for piece in pieces {
         put_piece(out, *piece)?;

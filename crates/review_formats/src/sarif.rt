@@ -1,5 +1,5 @@
 //! Logs of SARIF 2.1.0.
-ghost use Rattle.std.specs.Prelude.{◌≡◌, ◌++◌, map, string_bytes, IfOk, IfErr, OnOk, bytes_eq};
+ghost use Rattle.std.specs.Prelude.{◌≡◌, ◌++◌, map, string_bytes, IfOk, OnOk, bytes_eq};
 ghost use Rattle.std.specs.List.{flat_map, list_any};
 ghost use Rattle.serde_json.specs.Data.{array};
 ghost use Rattle.serde_json.specs.View.{view, items_of};
@@ -9,9 +9,8 @@ use crate::finding::{Finding, Findings, Level, Part};
 use crate::left_out::LeftOut;
 use percent_encoding::{AsciiSet, NON_ALPHANUMERIC, ascii_set, utf8_percent_encode};
 use serde_json::{Map, Value, json, put};
-use std::alloc::Global;
+use std::alloc::{AllocError, Global};
 use yaml_place::Place;
-use yaml_text::fault::Fault;
 
 const SCHEMA: &str = "https://json.schemastore.org/sarif-2.1.0.json";
 
@@ -40,9 +39,8 @@ fn level_word(level: Level) -> &'static str
 }
 
 /// The URI of a file, relative to where the program runs.
-fn uri_of(alloc: Global, name: &str) -> Result<String, Fault>
+fn uri_of(alloc: Global, name: &str) -> Result<String, AllocError>
     ensures ok { IfOk result (λ uri. string_bytes uri ≡ uri_text name.now) }
-    ensures err { IfErr result (λ fault. fault ≡ Fault.OutOfMemory) }
 {
     let mut uri = String::new(alloc);
     utf8_percent_encode(name, ESCAPED).append_to(&mut uri)?;
@@ -50,9 +48,8 @@ fn uri_of(alloc: Global, name: &str) -> Result<String, Fault>
 }
 
 /// Where a line and a column are.
-fn region(alloc: Global, place: Place) -> Result<Value, Fault>
+fn region(alloc: Global, place: Place) -> Result<Value, AllocError>
     ensures ok { IfOk result (λ value. view value ≡ region_data place) }
-    ensures err { IfErr result (λ fault. fault ≡ Fault.OutOfMemory) }
 {
     let line = place.line as u64;
     let column = place.column as u64;
@@ -60,18 +57,16 @@ fn region(alloc: Global, place: Place) -> Result<Value, Fault>
 }
 
 /// The file.
-fn artifact(alloc: Global, file: &str) -> Result<Value, Fault>
+fn artifact(alloc: Global, file: &str) -> Result<Value, AllocError>
     ensures ok { IfOk result (λ value. view value ≡ artifact_data file.now) }
-    ensures err { IfErr result (λ fault. fault ≡ Fault.OutOfMemory) }
 {
     let uri = uri_of(alloc, file)?;
     Ok(json!(in alloc; {"uri": (uri.as_str())})?)
 }
 
 /// The file, with the line and the column if there are.
-fn physical(alloc: Global, file: &str, place: Option<Place>) -> Result<Value, Fault>
+fn physical(alloc: Global, file: &str, place: Option<Place>) -> Result<Value, AllocError>
     ensures ok { IfOk result (λ value. view value ≡ physical_data file.now place) }
-    ensures err { IfErr result (λ fault. fault ≡ Fault.OutOfMemory) }
 {
     let mut physical = Map::new(alloc);
     put(
@@ -95,9 +90,8 @@ fn location(
     file: &str,
     place: Option<Place>,
     path: &Option<String>,
-) -> Result<Value, Fault>
+) -> Result<Value, AllocError>
     ensures ok { IfOk result (λ value. view value ≡ location_data file.now place path.now) }
-    ensures err { IfErr result (λ fault. fault ≡ Fault.OutOfMemory) }
 {
     let mut location = Map::new(alloc);
     let physical = physical(alloc, file, place)?;
@@ -113,9 +107,8 @@ fn location(
 }
 
 /// Writes the path, if there is one, before what is said.
-fn put_path(out: &mut String, path: &Option<String>) -> Result<(), Fault>
+fn put_path(out: &mut String, path: &Option<String>) -> Result<(), AllocError>
     ensures ok { OnOk result (string_bytes out.new ≡ string_bytes out.old ++ path_front path.now) }
-    ensures err { IfErr result (λ fault. fault ≡ Fault.OutOfMemory) }
 {
     if let Some(path) = path {
         out.push_str(path)?;
@@ -125,9 +118,8 @@ fn put_path(out: &mut String, path: &Option<String>) -> Result<(), Fault>
 }
 
 /// The text of a message: the path and what is said of it.
-fn message(alloc: Global, finding: &Finding) -> Result<Value, Fault>
+fn message(alloc: Global, finding: &Finding) -> Result<Value, AllocError>
     ensures ok { IfOk result (λ value. view value ≡ message_data finding.now) }
-    ensures err { IfErr result (λ fault. fault ≡ Fault.OutOfMemory) }
 {
     let mut text = String::new(alloc);
     put_path(&mut text, &finding.path)?;
@@ -136,9 +128,8 @@ fn message(alloc: Global, finding: &Finding) -> Result<Value, Fault>
 }
 
 /// One result.
-fn result_of(alloc: Global, finding: &Finding) -> Result<Value, Fault>
+fn result_of(alloc: Global, finding: &Finding) -> Result<Value, AllocError>
     ensures ok { IfOk result (λ value. view value ≡ result_data finding.now) }
-    ensures err { IfErr result (λ fault. fault ≡ Fault.OutOfMemory) }
 {
     let mut result = Map::new(alloc);
     let rule = Value::try_from_str(alloc, finding.rule)?;
@@ -153,9 +144,8 @@ fn result_of(alloc: Global, finding: &Finding) -> Result<Value, Fault>
 }
 
 /// Adds the results of a part.
-fn add_results(alloc: Global, results: &mut Vec<Value>, part: &Part) -> Result<(), Fault>
+fn add_results(alloc: Global, results: &mut Vec<Value>, part: &Part) -> Result<(), AllocError>
     ensures ok { OnOk result (map view results.new.items ≡ map view results.old.items ++ part_results part.now) }
-    ensures err { IfErr result (λ fault. fault ≡ Fault.OutOfMemory) }
 {
     'findings: for finding in &part.list {
         results.push(result_of(alloc, finding)?)?;
@@ -164,9 +154,8 @@ fn add_results(alloc: Global, results: &mut Vec<Value>, part: &Part) -> Result<(
 }
 
 /// The results of all parts.
-fn results_of(alloc: Global, parts: &[Part]) -> Result<Value, Fault>
+fn results_of(alloc: Global, parts: &[Part]) -> Result<Value, AllocError>
     ensures ok { IfOk result (λ value. view value ≡ array (items_of (flat_map part_results parts.now))) }
-    ensures err { IfErr result (λ fault. fault ≡ Fault.OutOfMemory) }
 {
     let mut results = Vec::new(alloc);
     'parts: for part in parts {
@@ -184,9 +173,8 @@ fn is_among(rules: &[&'static str], rule: &str) -> bool
 
 /// Adds a rule, if it is not there yet.
 #[tactic(auto, using(crate::proofs::SarifLaws::rule_there, crate::proofs::SarifLaws::rule_new))]
-fn add_rule(rules: &mut Vec<&'static str>, rule: &'static str) -> Result<(), Fault>
+fn add_rule(rules: &mut Vec<&'static str>, rule: &'static str) -> Result<(), AllocError>
     ensures ok { OnOk result (map (λ one. one.now) rules.new.items ≡ with_rule (map (λ one. one.now) rules.old.items) rule.now) }
-    ensures err { IfErr result (λ fault. fault ≡ Fault.OutOfMemory) }
 {
     if is_among(rules.as_slice(), rule) {
         return Ok(());
@@ -196,9 +184,8 @@ fn add_rule(rules: &mut Vec<&'static str>, rule: &'static str) -> Result<(), Fau
 }
 
 /// Adds the rules of a part that are not there yet.
-fn add_rules(rules: &mut Vec<&'static str>, part: &Part) -> Result<(), Fault>
+fn add_rules(rules: &mut Vec<&'static str>, part: &Part) -> Result<(), AllocError>
     ensures ok { OnOk result (map (λ one. one.now) rules.new.items ≡ with_findings (map (λ one. one.now) rules.old.items) part.now.list.items) }
-    ensures err { IfErr result (λ fault. fault ≡ Fault.OutOfMemory) }
 {
     'findings: for finding in &part.list {
         add_rule(rules, finding.rule)?;
@@ -207,9 +194,8 @@ fn add_rules(rules: &mut Vec<&'static str>, part: &Part) -> Result<(), Fault>
 }
 
 /// Rules as JSON.
-fn rule_values(alloc: Global, rules: &[&'static str]) -> Result<Vec<Value>, Fault>
+fn rule_values(alloc: Global, rules: &[&'static str]) -> Result<Vec<Value>, AllocError>
     ensures ok { IfOk result (λ values. map view values.items ≡ map rule_data (map (λ one. one.now) rules.now)) }
-    ensures err { IfErr result (λ fault. fault ≡ Fault.OutOfMemory) }
 {
     let mut values = Vec::new(alloc);
     'rules: for rule in rules {
@@ -220,9 +206,8 @@ fn rule_values(alloc: Global, rules: &[&'static str]) -> Result<Vec<Value>, Faul
 }
 
 /// The rules of the results, each once, in the order in which they come first.
-fn rules_of(alloc: Global, parts: &[Part]) -> Result<Vec<Value>, Fault>
+fn rules_of(alloc: Global, parts: &[Part]) -> Result<Vec<Value>, AllocError>
     ensures ok { IfOk result (λ values. map view values.items ≡ rules_data parts.now) }
-    ensures err { IfErr result (λ fault. fault ≡ Fault.OutOfMemory) }
 {
     let mut rules = Vec::new(alloc);
     'parts: for part in parts {
@@ -232,9 +217,8 @@ fn rules_of(alloc: Global, parts: &[Part]) -> Result<Vec<Value>, Fault>
 }
 
 /// The program, with the rules of the results.
-fn tool_of(alloc: Global, parts: &[Part]) -> Result<Value, Fault>
+fn tool_of(alloc: Global, parts: &[Part]) -> Result<Value, AllocError>
     ensures ok { IfOk result (λ value. view value ≡ tool_data parts.now) }
-    ensures err { IfErr result (λ fault. fault ≡ Fault.OutOfMemory) }
 {
     let mut driver = Map::new(alloc);
     let name = Value::try_from_str(alloc, "yamlreview")?;
@@ -249,9 +233,8 @@ fn tool_of(alloc: Global, parts: &[Part]) -> Result<Value, Fault>
 }
 
 /// What the program says of the run: what is not listed.
-fn invocations_of(alloc: Global, left_out: LeftOut) -> Result<Value, Fault>
+fn invocations_of(alloc: Global, left_out: LeftOut) -> Result<Value, AllocError>
     ensures ok { IfOk result (λ value. view value ≡ invocations_data left_out) }
-    ensures err { IfErr result (λ fault. fault ≡ Fault.OutOfMemory) }
 {
     let mut text = String::new(alloc);
     text.push_str("Not listed: ")?;
@@ -262,9 +245,8 @@ fn invocations_of(alloc: Global, left_out: LeftOut) -> Result<Value, Fault>
 }
 
 /// The run with the results of all parts, and what is not listed, if there is something.
-fn run_of(alloc: Global, found: &Findings) -> Result<Value, Fault>
+fn run_of(alloc: Global, found: &Findings) -> Result<Value, AllocError>
     ensures ok { IfOk result (λ value. view value ≡ run_data found.now.parts.items) }
-    ensures err { IfErr result (λ fault. fault ≡ Fault.OutOfMemory) }
 {
     let mut run = Map::new(alloc);
     let kind = Value::try_from_str(alloc, "unicodeCodePoints")?;
@@ -281,9 +263,8 @@ fn run_of(alloc: Global, found: &Findings) -> Result<Value, Fault>
 }
 
 /// The log with one run.
-fn log_of(alloc: Global, found: &Findings) -> Result<Value, Fault>
+fn log_of(alloc: Global, found: &Findings) -> Result<Value, AllocError>
     ensures ok { IfOk result (λ value. view value ≡ log_data found.now.parts.items) }
-    ensures err { IfErr result (λ fault. fault ≡ Fault.OutOfMemory) }
 {
     let mut log = Map::new(alloc);
     let mut runs = Vec::new(alloc);
@@ -301,9 +282,8 @@ fn log_of(alloc: Global, found: &Findings) -> Result<Value, Fault>
 /// # Errors
 /// 21: memory is refused.
 #[tactic(auto, using(crate::proofs::SarifLaws::log_no_float))]
-pub fn sarif_text(alloc: Global, found: &Findings) -> Result<String, Fault>
+pub fn sarif_text(alloc: Global, found: &Findings) -> Result<String, AllocError>
     ensures ok { IfOk result (λ text. string_bytes text ≡ sarif_text found.now) }
-    ensures err { IfErr result (λ fault. fault ≡ Fault.OutOfMemory) }
 {
     let mut text = log_of(alloc, found)?.to_string(alloc)?;
     text.push('\n')?;

@@ -1,5 +1,5 @@
 //! What a finding begins with, and the links to it.
-ghost use Rattle.std.specs.Prelude.{◌≡◌, ◌++◌, string_bytes, IfErr, OnOk};
+ghost use Rattle.std.specs.Prelude.{◌≡◌, ◌++◌, string_bytes, OnOk};
 ghost use Rattle.review_formats.specs.Escaped.{escaped};
 ghost use Rattle.review_formats.specs.Pieces.{piece_text};
 ghost use Rattle.review_formats.specs.declared.escape.Escape.TheVariants.{Html};
@@ -8,8 +8,8 @@ ghost use Rattle.review_html.specs.Headings.{class_text, mark_text, position_tex
 use review_formats::escape::Escape;
 use review_formats::piece::{Piece, put_pieces};
 use review_formats::{Finding, Level};
+use std::alloc::AllocError;
 use yaml_place::Place;
-use yaml_text::fault::Fault;
 
 /// A text of a file.
 pub(crate) fn text(text: &str) -> Piece<'_>
@@ -41,9 +41,8 @@ fn mark_of(finding: &Finding) -> &'static str
 }
 
 /// Writes the line and the column, if there are.
-fn put_position(out: &mut String, place: Option<Place>) -> Result<(), Fault>
+fn put_position(out: &mut String, place: Option<Place>) -> Result<(), AllocError>
     ensures ok { OnOk result (string_bytes out.new ≡ string_bytes out.old ++ position_text place) }
-    ensures err { IfErr result (λ fault. fault ≡ Fault.OutOfMemory) }
 {
     match place {
         Some(place) => put_pieces(
@@ -61,9 +60,8 @@ fn put_position(out: &mut String, place: Option<Place>) -> Result<(), Fault>
 
 /// Writes what a finding is called by: the path of a difference, or the file and the place.
 #[tactic(auto, using(review_formats::proofs::PieceLaws::two_put))]
-fn put_name(out: &mut String, finding: &Finding) -> Result<(), Fault>
+fn put_name(out: &mut String, finding: &Finding) -> Result<(), AllocError>
     ensures ok { OnOk result (string_bytes out.new ≡ string_bytes out.old ++ name_text finding.now) }
-    ensures err { IfErr result (λ fault. fault ≡ Fault.OutOfMemory) }
 {
     match (&finding.sides, &finding.path) {
         (Some(_), Some(path)) => put_pieces(out, &[text(path)]),
@@ -75,9 +73,8 @@ fn put_name(out: &mut String, finding: &Finding) -> Result<(), Fault>
 }
 
 /// Writes the name of a fault or a warning.
-fn put_rule(out: &mut String, finding: &Finding) -> Result<(), Fault>
+fn put_rule(out: &mut String, finding: &Finding) -> Result<(), AllocError>
     ensures ok { OnOk result (string_bytes out.new ≡ string_bytes out.old ++ rule_text finding.now) }
-    ensures err { IfErr result (λ fault. fault ≡ Fault.OutOfMemory) }
 {
     match &finding.sides {
         Some(_) => Ok(()),
@@ -86,9 +83,8 @@ fn put_rule(out: &mut String, finding: &Finding) -> Result<(), Fault>
 }
 
 /// Writes what a finding begins with.
-fn put_heading(out: &mut String, finding: &Finding) -> Result<(), Fault>
+fn put_heading(out: &mut String, finding: &Finding) -> Result<(), AllocError>
     ensures ok { OnOk result (string_bytes out.new ≡ string_bytes out.old ++ heading_text finding.now) }
-    ensures err { IfErr result (λ fault. fault ≡ Fault.OutOfMemory) }
 {
     out.push_str("<span class=\"mark\">")?;
     out.push_str(mark_of(finding))?;
@@ -99,9 +95,8 @@ fn put_heading(out: &mut String, finding: &Finding) -> Result<(), Fault>
 }
 
 /// Writes the link to the finding of this number.
-pub(crate) fn put_link(out: &mut String, number: usize, finding: &Finding) -> Result<(), Fault>
+pub(crate) fn put_link(out: &mut String, number: usize, finding: &Finding) -> Result<(), AllocError>
     ensures ok { OnOk result (string_bytes out.new ≡ string_bytes out.old ++ link_text number finding.now) }
-    ensures err { IfErr result (λ fault. fault ≡ Fault.OutOfMemory) }
 {
     put_pieces(
         out,
@@ -121,9 +116,8 @@ pub(crate) fn put_link(out: &mut String, number: usize, finding: &Finding) -> Re
 }
 
 /// Writes the front of the section of the finding of this number.
-pub(crate) fn put_front(out: &mut String, number: usize, finding: &Finding) -> Result<(), Fault>
+pub(crate) fn put_front(out: &mut String, number: usize, finding: &Finding) -> Result<(), AllocError>
     ensures ok { OnOk result (string_bytes out.new ≡ string_bytes out.old ++ front_text number finding.now) }
-    ensures err { IfErr result (λ fault. fault ≡ Fault.OutOfMemory) }
 {
     put_pieces(
         out,
@@ -147,9 +141,8 @@ pub(crate) fn put_file_link(
     out: &mut String,
     name: &Option<String>,
     number: usize,
-) -> Result<(), Fault>
+) -> Result<(), AllocError>
     ensures ok { OnOk result (string_bytes out.new ≡ string_bytes out.old ++ file_link number name.now) }
-    ensures err { IfErr result (λ fault. fault ≡ Fault.OutOfMemory) }
 {
     match name {
         Some(name) => put_pieces(
@@ -171,9 +164,8 @@ pub(crate) fn put_file_front(
     out: &mut String,
     name: &Option<String>,
     number: usize,
-) -> Result<(), Fault>
+) -> Result<(), AllocError>
     ensures ok { OnOk result (string_bytes out.new ≡ string_bytes out.old ++ file_front number name.now) }
-    ensures err { IfErr result (λ fault. fault ≡ Fault.OutOfMemory) }
 {
     match name {
         Some(name) => put_pieces(

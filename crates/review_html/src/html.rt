@@ -1,5 +1,5 @@
 //! One page of HTML.
-ghost use Rattle.std.specs.Prelude.{◌≡◌, ◌+◌, ◌++◌, List, ℕ, codes, length, string_bytes, IfOk, IfErr, OnOk};
+ghost use Rattle.std.specs.Prelude.{◌≡◌, ◌+◌, ◌++◌, List, ℕ, codes, length, string_bytes, IfOk, OnOk};
 ghost use Rattle.std.specs.List.{flat_map, enumerate_from};
 ghost use Rattle.review_html.specs.Headings.{front_text};
 ghost use Rattle.review_html.specs.Html.{title_names, title_text, compared_text, header_names, places_text, files_text, count_text, more_text, header_text, numbered, link_item, part_links, links_text, number_by, sections_text, IsPartText, IsHtml};
@@ -12,13 +12,11 @@ use crate::sides::put_body;
 use crate::style::{HEAD, STYLE};
 use review_formats::piece::{Piece, put_pieces};
 use review_formats::{Finding, Findings, Part};
-use std::alloc::Global;
-use yaml_text::fault::Fault;
+use std::alloc::{AllocError, Global};
 
 /// Writes what was compared into the name of the page, if two were.
-fn put_title_names(out: &mut String, names: &Option<(String, String)>) -> Result<(), Fault>
+fn put_title_names(out: &mut String, names: &Option<(String, String)>) -> Result<(), AllocError>
     ensures ok { OnOk result (string_bytes out.new ≡ string_bytes out.old ++ title_names names.now) }
-    ensures err { IfErr result (λ fault. fault ≡ Fault.OutOfMemory) }
 {
     match names {
         Some((left, right)) => put_pieces(
@@ -37,9 +35,8 @@ fn put_title_names(out: &mut String, names: &Option<(String, String)>) -> Result
 }
 
 /// Writes the name of the page: the command, and what was compared.
-fn put_title(out: &mut String, found: &Findings) -> Result<(), Fault>
+fn put_title(out: &mut String, found: &Findings) -> Result<(), AllocError>
     ensures ok { OnOk result (string_bytes out.new ≡ string_bytes out.old ++ title_text found.now) }
-    ensures err { IfErr result (λ fault. fault ≡ Fault.OutOfMemory) }
 {
     out.push_str("<title>yamlreview ")?;
     out.push_str(found.command)?;
@@ -49,9 +46,8 @@ fn put_title(out: &mut String, found: &Findings) -> Result<(), Fault>
 }
 
 /// Writes the names of what was compared.
-fn put_compared<'a>(out: &mut String, left: &'a str, right: &'a str) -> Result<(), Fault>
+fn put_compared<'a>(out: &mut String, left: &'a str, right: &'a str) -> Result<(), AllocError>
     ensures ok { OnOk result (string_bytes out.new ≡ string_bytes out.old ++ compared_text left.now right.now) }
-    ensures err { IfErr result (λ fault. fault ≡ Fault.OutOfMemory) }
 {
     put_pieces(
         out,
@@ -68,9 +64,8 @@ fn put_compared<'a>(out: &mut String, left: &'a str, right: &'a str) -> Result<(
 }
 
 /// Writes what was compared, if two were.
-fn put_header_names(out: &mut String, names: &Option<(String, String)>) -> Result<(), Fault>
+fn put_header_names(out: &mut String, names: &Option<(String, String)>) -> Result<(), AllocError>
     ensures ok { OnOk result (string_bytes out.new ≡ string_bytes out.old ++ header_names names.now) }
-    ensures err { IfErr result (λ fault. fault ≡ Fault.OutOfMemory) }
 {
     match names {
         Some((left, right)) => put_compared(out, left, right),
@@ -79,9 +74,8 @@ fn put_header_names(out: &mut String, names: &Option<(String, String)>) -> Resul
 }
 
 /// Writes how many places are found.
-fn put_places(out: &mut String, count: usize) -> Result<(), Fault>
+fn put_places(out: &mut String, count: usize) -> Result<(), AllocError>
     ensures ok { OnOk result (string_bytes out.new ≡ string_bytes out.old ++ places_text count) }
-    ensures err { IfErr result (λ fault. fault ≡ Fault.OutOfMemory) }
 {
     match count {
         0 => put_pieces(out, &[Piece::Raw("<p>Nothing is found.</p>")]),
@@ -98,9 +92,8 @@ fn put_places(out: &mut String, count: usize) -> Result<(), Fault>
 }
 
 /// Writes in how many files, if there are several.
-fn put_file_count(out: &mut String, files: usize) -> Result<(), Fault>
+fn put_file_count(out: &mut String, files: usize) -> Result<(), AllocError>
     ensures ok { OnOk result (string_bytes out.new ≡ string_bytes out.old ++ files_text files) }
-    ensures err { IfErr result (λ fault. fault ≡ Fault.OutOfMemory) }
 {
     if files > 1 {
         put_pieces(
@@ -117,9 +110,8 @@ fn put_file_count(out: &mut String, files: usize) -> Result<(), Fault>
 }
 
 /// Writes how much is found, and in how many files if there are several.
-fn put_count(out: &mut String, count: usize, files: usize) -> Result<(), Fault>
+fn put_count(out: &mut String, count: usize, files: usize) -> Result<(), AllocError>
     ensures ok { OnOk result (string_bytes out.new ≡ string_bytes out.old ++ count_text count files) }
-    ensures err { IfErr result (λ fault. fault ≡ Fault.OutOfMemory) }
 {
     put_places(out, count)?;
     if count == 0 {
@@ -131,9 +123,8 @@ fn put_count(out: &mut String, count: usize, files: usize) -> Result<(), Fault>
 }
 
 /// Writes what is not listed, if there is something.
-fn put_more(out: &mut String, found: &Findings) -> Result<(), Fault>
+fn put_more(out: &mut String, found: &Findings) -> Result<(), AllocError>
     ensures ok { OnOk result (string_bytes out.new ≡ string_bytes out.old ++ more_text found.now.parts.items) }
-    ensures err { IfErr result (λ fault. fault ≡ Fault.OutOfMemory) }
 {
     found
         .left_out()
@@ -141,9 +132,8 @@ fn put_more(out: &mut String, found: &Findings) -> Result<(), Fault>
 }
 
 /// Writes what the page is about, and how much is found.
-fn put_header(out: &mut String, found: &Findings) -> Result<(), Fault>
+fn put_header(out: &mut String, found: &Findings) -> Result<(), AllocError>
     ensures ok { OnOk result (string_bytes out.new ≡ string_bytes out.old ++ header_text found.now) }
-    ensures err { IfErr result (λ fault. fault ≡ Fault.OutOfMemory) }
 {
     out.push_str("<header><h1>yamlreview ")?;
     out.push_str(found.command)?;
@@ -177,9 +167,8 @@ fn number_after(before: usize, at: usize) -> usize
 }
 
 /// Writes the links to a list of findings, before which there are so many.
-fn put_list_links(out: &mut String, list: &[Finding], before: usize) -> Result<(), Fault>
+fn put_list_links(out: &mut String, list: &[Finding], before: usize) -> Result<(), AllocError>
     ensures ok { OnOk result (string_bytes out.new ≡ string_bytes out.old ++ flat_map link_item (enumerate_from before list.now)) }
-    ensures err { IfErr result (λ fault. fault ≡ Fault.OutOfMemory) }
 {
     'links: for (at, finding) in list.iter().enumerate() {
         put_link(out, number_after(before, at), finding)?;
@@ -188,9 +177,8 @@ fn put_list_links(out: &mut String, list: &[Finding], before: usize) -> Result<(
 }
 
 /// Writes the links to the findings of a part of this number.
-fn put_part_links(out: &mut String, part: &Part, number: usize, before: usize) -> Result<(), Fault>
+fn put_part_links(out: &mut String, part: &Part, number: usize, before: usize) -> Result<(), AllocError>
     ensures ok { OnOk result (string_bytes out.new ≡ string_bytes out.old ++ part_links (number, before, part.now)) }
-    ensures err { IfErr result (λ fault. fault ≡ Fault.OutOfMemory) }
 {
     put_file_link(out, &part.name, number)?;
     out.push_str("<ol>\n")?;
@@ -200,9 +188,8 @@ fn put_part_links(out: &mut String, part: &Part, number: usize, before: usize) -
 }
 
 /// Writes the links to all findings.
-fn put_links(out: &mut String, parts: &[Part]) -> Result<(), Fault>
+fn put_links(out: &mut String, parts: &[Part]) -> Result<(), AllocError>
     ensures ok { OnOk result (string_bytes out.new ≡ string_bytes out.old ++ links_text parts.now) }
-    ensures err { IfErr result (λ fault. fault ≡ Fault.OutOfMemory) }
 {
     let mut before: usize = 0;
     out.push_str("<nav aria-label=\"All that is found\">\n")?;
@@ -216,9 +203,8 @@ fn put_links(out: &mut String, parts: &[Part]) -> Result<(), Fault>
 
 /// Writes the section of the finding of this number, which is in this part.
 #[tactic(auto, using(review_formats::proofs::PieceLaws::three_put))]
-fn put_section(out: &mut String, part: usize, number: usize, finding: &Finding) -> Result<(), Fault>
+fn put_section(out: &mut String, part: usize, number: usize, finding: &Finding) -> Result<(), AllocError>
     ensures ok { OnOk result (string_bytes out.new ≡ string_bytes out.old ++ (front_text number finding.now ++ (body_text part finding.now ++ codes "</section>\n"))) }
-    ensures err { IfErr result (λ fault. fault ≡ Fault.OutOfMemory) }
 {
     put_front(out, number, finding)?;
     put_body(out, part, finding)?;
@@ -232,9 +218,8 @@ fn put_sections(
     list: &[Finding],
     number: usize,
     before: usize,
-) -> Result<(), Fault>
+) -> Result<(), AllocError>
     ensures ok { OnOk result (string_bytes out.new ≡ string_bytes out.old ++ sections_text number before list.now) }
-    ensures err { IfErr result (λ fault. fault ≡ Fault.OutOfMemory) }
 {
     'sections: for (at, finding) in list.iter().enumerate() {
         put_section(out, number, number_after(before, at), finding)?;
@@ -259,9 +244,8 @@ fn put_part(
     part: &Part,
     number: usize,
     before: usize,
-) -> Result<(), Fault>
+) -> Result<(), AllocError>
     ensures ok { OnOk result ((text : List ℕ) × IsPartText (number, before, part.now) text × (string_bytes out.new ≡ string_bytes out.old ++ text)) }
-    ensures err { IfErr result (λ fault. fault ≡ Fault.OutOfMemory) }
 {
     let side_number = number_of(part, number);
     put_file_front(out, &part.name, number)?;
@@ -270,9 +254,8 @@ fn put_part(
 }
 
 /// Writes all parts.
-fn put_parts(alloc: Global, out: &mut String, parts: &[Part]) -> Result<(), Fault>
+fn put_parts(alloc: Global, out: &mut String, parts: &[Part]) -> Result<(), AllocError>
     ensures ok { OnOk result ((text : List ℕ) × AreTexts IsPartText (numbered 1 0 parts.now) text × (string_bytes out.new ≡ string_bytes out.old ++ text)) }
-    ensures err { IfErr result (λ fault. fault ≡ Fault.OutOfMemory) }
 {
     let mut before: usize = 0;
     'parts: for (at, part) in parts.iter().enumerate() {
@@ -286,9 +269,8 @@ fn put_parts(alloc: Global, out: &mut String, parts: &[Part]) -> Result<(), Faul
 ///
 /// # Errors
 /// 21: memory is refused.
-pub fn html_text(alloc: Global, found: &Findings) -> Result<String, Fault>
+pub fn html_text(alloc: Global, found: &Findings) -> Result<String, AllocError>
     ensures ok { IfOk result (λ text. IsHtml found.now (string_bytes text)) }
-    ensures err { IfErr result (λ fault. fault ≡ Fault.OutOfMemory) }
 {
     let mut out = String::new(alloc);
     out.push_str(HEAD)?;

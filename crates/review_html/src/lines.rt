@@ -1,5 +1,5 @@
 //! The lines of a file, with links from those that differ.
-ghost use Rattle.std.specs.Prelude.{◌≡◌, ◌++◌, List, ℕ, map, take, get_or, string_bytes, IfOk, IfErr, OnOk};
+ghost use Rattle.std.specs.Prelude.{◌≡◌, ◌++◌, List, ℕ, map, take, get_or, string_bytes, IfOk, OnOk};
 ghost use Rattle.std.specs.List.{enumerate_from, list_any};
 ghost use Rattle.review_formats.specs.Changes.{without_last};
 ghost use Rattle.review_html.specs.Lines.{line_parts, file_lines, IsFront, line_begin, line_link, line_end, line_front, line_text, ShowsLine, ShowsLines, ShowsFiles};
@@ -12,9 +12,8 @@ use crate::sides::{left_of, right_of};
 use review_formats::changes::without_end;
 use review_formats::piece::{Piece, put_pieces};
 use review_formats::{Finding, Part, Shown};
-use std::alloc::Global;
+use std::alloc::{AllocError, Global};
 use yaml_place::Place;
-use yaml_text::fault::Fault;
 
 /// Of a file of so many lines, all are shown.
 const FEW: usize = 400;
@@ -60,9 +59,8 @@ fn marks_of(
     side: Side,
     list: &[Finding],
     before: usize,
-) -> Result<Vec<usize>, Fault>
+) -> Result<Vec<usize>, AllocError>
     ensures ok { IfOk result (λ marks. AreMarks side before list.now lines marks.items) }
-    ensures err { IfErr result (λ fault. fault ≡ Fault.OutOfMemory) }
 {
     let mut marks = vec![in alloc; 0usize; lines]?;
     'findings: for (at, finding) in list.iter().enumerate() {
@@ -140,9 +138,8 @@ fn line_begin(mark: usize) -> &'static str
 }
 
 /// Writes the link from a line to the finding at it, if there is one.
-fn put_link(out: &mut String, mark: usize) -> Result<(), Fault>
+fn put_link(out: &mut String, mark: usize) -> Result<(), AllocError>
     ensures ok { OnOk result (string_bytes out.new ≡ string_bytes out.old ++ line_link mark) }
-    ensures err { IfErr result (λ fault. fault ≡ Fault.OutOfMemory) }
 {
     if mark > 0 {
         put_pieces(
@@ -167,9 +164,8 @@ fn line_end(mark: usize) -> &'static str
 
 /// Writes the front of a line: its number.
 #[tactic(auto, using(review_formats::proofs::PieceLaws::three_put))]
-fn put_front(out: &mut String, side: Side, number: usize, mark: usize) -> Result<(), Fault>
+fn put_front(out: &mut String, side: Side, number: usize, mark: usize) -> Result<(), AllocError>
     ensures ok { OnOk result (string_bytes out.new ≡ string_bytes out.old ++ line_front side number mark) }
-    ensures err { IfErr result (λ fault. fault ≡ Fault.OutOfMemory) }
 {
     out.push_str(line_begin(mark))?;
     side.put_line_id(out, number)?;
@@ -185,9 +181,8 @@ fn put_front(out: &mut String, side: Side, number: usize, mark: usize) -> Result
 
 /// Writes a line: its number, which leads to the first finding at it if there is one, and its text.
 #[tactic(auto, using(review_formats::proofs::PieceLaws::three_put))]
-fn put_line(out: &mut String, side: Side, at: usize, mark: usize, line: &str) -> Result<(), Fault>
+fn put_line(out: &mut String, side: Side, at: usize, mark: usize, line: &str) -> Result<(), AllocError>
     ensures ok { OnOk result (string_bytes out.new ≡ string_bytes out.old ++ line_text side at mark line.now) }
-    ensures err { IfErr result (λ fault. fault ≡ Fault.OutOfMemory) }
 {
     put_front(out, side, at.saturating_add(1), mark)?;
     put_link(out, mark)?;
@@ -213,9 +208,8 @@ fn without_return(line: &str) -> &str
 }
 
 /// Adds the parts of a line that CR ends.
-fn add_parts<'a>(lines: &mut Vec<&'a str>, line: &'a str) -> Result<(), Fault>
+fn add_parts<'a>(lines: &mut Vec<&'a str>, line: &'a str) -> Result<(), AllocError>
     ensures ok { OnOk result (map (λ one. one.now) lines.new.items ≡ map (λ one. one.now) lines.old.items ++ line_parts line.now) }
-    ensures err { IfErr result (λ fault. fault ≡ Fault.OutOfMemory) }
 {
     'parts: for part in without_return(line).split('\r') {
         lines.push(part)?;
@@ -224,9 +218,8 @@ fn add_parts<'a>(lines: &mut Vec<&'a str>, line: &'a str) -> Result<(), Fault>
 }
 
 /// The lines of a text.
-fn split_lines(alloc: Global, content: &str) -> Result<Vec<&str>, Fault>
+fn split_lines(alloc: Global, content: &str) -> Result<Vec<&str>, AllocError>
     ensures ok { IfOk result (λ lines. map (λ one. one.now) lines.items ≡ file_lines content.now) }
-    ensures err { IfErr result (λ fault. fault ≡ Fault.OutOfMemory) }
 {
     let mut lines = Vec::new(alloc);
     'lines: for line in without_end(content).split('\n') {
@@ -242,9 +235,8 @@ fn put_shown(
     at: usize,
     line: &str,
     marks: &[usize],
-) -> Result<(), Fault>
+) -> Result<(), AllocError>
     ensures ok { OnOk result ((text : List ℕ) × ShowsLine side marks.now (at, line.now) text × (string_bytes out.new ≡ string_bytes out.old ++ text)) }
-    ensures err { IfErr result (λ fault. fault ≡ Fault.OutOfMemory) }
 {
     if is_shown(marks, at) {
         put_line(out, side, at, mark_at(marks, at), front(line))
@@ -254,9 +246,8 @@ fn put_shown(
 }
 
 /// Writes lines, each if it is shown.
-fn put_all(out: &mut String, side: Side, lines: &[&str], marks: &[usize]) -> Result<(), Fault>
+fn put_all(out: &mut String, side: Side, lines: &[&str], marks: &[usize]) -> Result<(), AllocError>
     ensures ok { OnOk result ((text : List ℕ) × AreTexts (ShowsLine side marks.now) (enumerate_from 0 (map (λ one. one.now) lines.now)) text × (string_bytes out.new ≡ string_bytes out.old ++ text)) }
-    ensures err { IfErr result (λ fault. fault ≡ Fault.OutOfMemory) }
 {
     'lines: for (at, line) in lines.iter().enumerate() {
         put_shown(out, side, at, line, marks)?;
@@ -272,9 +263,8 @@ fn put_lines(
     shown: &Shown,
     list: &[Finding],
     before: usize,
-) -> Result<(), Fault>
+) -> Result<(), AllocError>
     ensures ok { OnOk result ((text : List ℕ) × ShowsLines side list.now before shown.now text × (string_bytes out.new ≡ string_bytes out.old ++ text)) }
-    ensures err { IfErr result (λ fault. fault ≡ Fault.OutOfMemory) }
 {
     let lines = split_lines(alloc, &shown.text)?;
     let marks = marks_of(alloc, lines.len(), side, list, before)?;
@@ -298,9 +288,8 @@ pub(crate) fn put_files(
     part: &Part,
     number: usize,
     before: usize,
-) -> Result<(), Fault>
+) -> Result<(), AllocError>
     ensures ok { OnOk result ((text : List ℕ) × ShowsFiles number part.now.list.items before part.now.shown text × (string_bytes out.new ≡ string_bytes out.old ++ text)) }
-    ensures err { IfErr result (λ fault. fault ≡ Fault.OutOfMemory) }
 {
     let Some((left, right)) = &part.shown else {
         return Ok(());

@@ -1,10 +1,10 @@
 //! One of two files of a page, and what its lines are called by.
-ghost use Rattle.std.specs.Prelude.{◌≡◌, ◌++◌, string_bytes, cond, codes, IfErr, OnOk};
+ghost use Rattle.std.specs.Prelude.{◌≡◌, ◌++◌, string_bytes, cond, codes, OnOk};
 ghost use Rattle.std.specs.Fmt.{decimal};
 ghost use Rattle.review_html.specs.Sides.{part_front, line_id, title_text};
 
 use review_formats::piece::{Piece, put_pieces};
-use yaml_text::fault::Fault;
+use std::alloc::AllocError;
 
 /// The left or the right file of a part of a page.
 #[derive(Clone, Copy)]
@@ -15,9 +15,8 @@ pub(crate) struct Side {
 }
 
 /// Writes the number of a part, if there are several.
-fn put_part(out: &mut String, part: usize) -> Result<(), Fault>
+fn put_part(out: &mut String, part: usize) -> Result<(), AllocError>
     ensures ok { OnOk result (string_bytes out.new ≡ string_bytes out.old ++ part_front part) }
-    ensures err { IfErr result (λ fault. fault ≡ Fault.OutOfMemory) }
 {
     if part > 0 {
         put_pieces(out, &[Piece::Number(part), Piece::Raw("-")])
@@ -27,7 +26,7 @@ fn put_part(out: &mut String, part: usize) -> Result<(), Fault>
 }
 
 impl Side {
-    ghost use Rattle.std.specs.Prelude.{◌≡◌, ◌++◌, string_bytes, IfErr, OnOk};
+    ghost use Rattle.std.specs.Prelude.{◌≡◌, ◌++◌, string_bytes, OnOk};
     ghost use Rattle.review_html.specs.Sides.{line_id, title_text};
 
     /// What the side is called.
@@ -39,9 +38,8 @@ impl Side {
 
     /// Writes the id of a line.
     #[tactic(auto, using(review_formats::proofs::PieceLaws::three_put))]
-    pub(crate) fn put_line_id(self, out: &mut String, line: usize) -> Result<(), Fault>
+    pub(crate) fn put_line_id(self, out: &mut String, line: usize) -> Result<(), AllocError>
         ensures ok { OnOk result (string_bytes out.new ≡ string_bytes out.old ++ line_id self line) }
-        ensures err { IfErr result (λ fault. fault ≡ Fault.OutOfMemory) }
     {
         out.push_str(if self.is_left { "l" } else { "r" })?;
         put_part(out, self.part)?;

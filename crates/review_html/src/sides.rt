@@ -1,5 +1,5 @@
 //! What a page has of a finding: what both sides have, or what is said.
-ghost use Rattle.std.specs.Prelude.{◌≡◌, ◌++◌, true, codes, string_bytes, IfErr, OnOk};
+ghost use Rattle.std.specs.Prelude.{◌≡◌, ◌++◌, true, codes, string_bytes, OnOk};
 ghost use Rattle.std.specs.List.{flat_map};
 ghost use Rattle.review_formats.specs.Changes.{changed_lines};
 ghost use Rattle.review_html.specs.Sides.{known_link, place_link, value_text, side_begin, side_text, line_class, line_text, changes_text, left_of, right_of, both_places, places_by, both_text, values_by, sides_text, path_text, source_text, said_text, body_text};
@@ -9,13 +9,12 @@ use crate::side::Side;
 use review_formats::changes::{without_end, without_tab};
 use review_formats::piece::{Piece, put_pieces};
 use review_formats::{Finding, Sides, Sign};
+use std::alloc::AllocError;
 use yaml_place::Place;
-use yaml_text::fault::Fault;
 
 /// Writes a place that is known, as a link to its line.
-fn put_known(out: &mut String, side: Side, place: Place) -> Result<(), Fault>
+fn put_known(out: &mut String, side: Side, place: Place) -> Result<(), AllocError>
     ensures ok { OnOk result (string_bytes out.new ≡ string_bytes out.old ++ known_link side place) }
-    ensures err { IfErr result (λ fault. fault ≡ Fault.OutOfMemory) }
 {
     out.push_str(" <a href=\"#")?;
     side.put_line_id(out, place.line)?;
@@ -32,9 +31,8 @@ fn put_known(out: &mut String, side: Side, place: Place) -> Result<(), Fault>
 }
 
 /// Writes a place, if it is known.
-fn put_place(out: &mut String, side: Side, place: Option<Place>) -> Result<(), Fault>
+fn put_place(out: &mut String, side: Side, place: Option<Place>) -> Result<(), AllocError>
     ensures ok { OnOk result (string_bytes out.new ≡ string_bytes out.old ++ place_link side place) }
-    ensures err { IfErr result (λ fault. fault ≡ Fault.OutOfMemory) }
 {
     match place {
         Some(place) => put_known(out, side, place),
@@ -43,9 +41,8 @@ fn put_place(out: &mut String, side: Side, place: Option<Place>) -> Result<(), F
 }
 
 /// Writes the text of a side, or that it has nothing.
-fn put_value(out: &mut String, value: &Option<String>) -> Result<(), Fault>
+fn put_value(out: &mut String, value: &Option<String>) -> Result<(), AllocError>
     ensures ok { OnOk result (string_bytes out.new ≡ string_bytes out.old ++ value_text value.now) }
-    ensures err { IfErr result (λ fault. fault ≡ Fault.OutOfMemory) }
 {
     match value {
         Some(value) => put_pieces(
@@ -57,9 +54,8 @@ fn put_value(out: &mut String, value: &Option<String>) -> Result<(), Fault>
 }
 
 /// Writes what a side is called.
-fn put_title(out: &mut String, title: &'static str) -> Result<(), Fault>
+fn put_title(out: &mut String, title: &'static str) -> Result<(), AllocError>
     ensures ok { OnOk result (string_bytes out.new ≡ string_bytes out.old ++ side_begin title.now) }
-    ensures err { IfErr result (λ fault. fault ≡ Fault.OutOfMemory) }
 {
     put_pieces(
         out,
@@ -78,9 +74,8 @@ fn put_side(
     side: Side,
     place: Option<Place>,
     value: &Option<String>,
-) -> Result<(), Fault>
+) -> Result<(), AllocError>
     ensures ok { OnOk result (string_bytes out.new ≡ string_bytes out.old ++ side_text side place value.now) }
-    ensures err { IfErr result (λ fault. fault ≡ Fault.OutOfMemory) }
 {
     put_title(out, side.title())?;
     put_place(out, side, place)?;
@@ -102,9 +97,8 @@ fn line_class(line: &str) -> &'static str
 }
 
 /// Writes a changed line.
-fn put_line(out: &mut String, line: &str) -> Result<(), Fault>
+fn put_line(out: &mut String, line: &str) -> Result<(), AllocError>
     ensures ok { OnOk result (string_bytes out.new ≡ string_bytes out.old ++ line_text line.now) }
-    ensures err { IfErr result (λ fault. fault ≡ Fault.OutOfMemory) }
 {
     let shown = without_tab(line);
     put_pieces(
@@ -120,9 +114,8 @@ fn put_line(out: &mut String, line: &str) -> Result<(), Fault>
 }
 
 /// Writes the changed lines of two strings, one behind the other.
-fn put_lines(out: &mut String, changes: &str) -> Result<(), Fault>
+fn put_lines(out: &mut String, changes: &str) -> Result<(), AllocError>
     ensures ok { OnOk result (string_bytes out.new ≡ string_bytes out.old ++ flat_map line_text (changed_lines changes.now)) }
-    ensures err { IfErr result (λ fault. fault ≡ Fault.OutOfMemory) }
 {
     'lines: for line in without_end(changes).split('\n') {
         put_line(out, line)?;
@@ -132,9 +125,8 @@ fn put_lines(out: &mut String, changes: &str) -> Result<(), Fault>
 
 /// Writes the changed lines of two strings.
 #[tactic(auto, using(review_formats::proofs::PieceLaws::three_put))]
-fn put_changes(out: &mut String, changes: &str) -> Result<(), Fault>
+fn put_changes(out: &mut String, changes: &str) -> Result<(), AllocError>
     ensures ok { OnOk result (string_bytes out.new ≡ string_bytes out.old ++ changes_text changes.now) }
-    ensures err { IfErr result (λ fault. fault ≡ Fault.OutOfMemory) }
 {
     out.push_str("<pre class=\"changes\">")?;
     put_lines(out, changes)?;
@@ -164,9 +156,8 @@ pub(crate) fn right_of(part: usize) -> Side
 
 /// Writes both places.
 #[tactic(auto, using(review_formats::proofs::PieceLaws::four_put))]
-fn put_both_places(out: &mut String, part: usize, sides: &Sides) -> Result<(), Fault>
+fn put_both_places(out: &mut String, part: usize, sides: &Sides) -> Result<(), AllocError>
     ensures ok { OnOk result (string_bytes out.new ≡ string_bytes out.old ++ both_places part sides.now) }
-    ensures err { IfErr result (λ fault. fault ≡ Fault.OutOfMemory) }
 {
     out.push_str(": left")?;
     put_place(out, left_of(part), sides.left_place)?;
@@ -175,9 +166,8 @@ fn put_both_places(out: &mut String, part: usize, sides: &Sides) -> Result<(), F
 }
 
 /// Writes both places, if no side is shown below.
-fn put_places(out: &mut String, part: usize, sides: &Sides) -> Result<(), Fault>
+fn put_places(out: &mut String, part: usize, sides: &Sides) -> Result<(), AllocError>
     ensures ok { OnOk result (string_bytes out.new ≡ string_bytes out.old ++ places_by part sides.now sides.now.changes sides.now.sign) }
-    ensures err { IfErr result (λ fault. fault ≡ Fault.OutOfMemory) }
 {
     match (&sides.changes, sides.sign) {
         (Some(_), _) | (None, Sign::Moved) => put_both_places(out, part, sides),
@@ -187,9 +177,8 @@ fn put_places(out: &mut String, part: usize, sides: &Sides) -> Result<(), Fault>
 
 /// Writes what each side has.
 #[tactic(auto, using(review_formats::proofs::PieceLaws::four_put))]
-fn put_both(out: &mut String, part: usize, sides: &Sides) -> Result<(), Fault>
+fn put_both(out: &mut String, part: usize, sides: &Sides) -> Result<(), AllocError>
     ensures ok { OnOk result (string_bytes out.new ≡ string_bytes out.old ++ both_text part sides.now) }
-    ensures err { IfErr result (λ fault. fault ≡ Fault.OutOfMemory) }
 {
     out.push_str("<div class=\"both\">\n")?;
     put_side(out, left_of(part), sides.left_place, &sides.left)?;
@@ -199,9 +188,8 @@ fn put_both(out: &mut String, part: usize, sides: &Sides) -> Result<(), Fault>
 }
 
 /// Writes the changed lines, or what each side has, or nothing of what moved.
-fn put_values(out: &mut String, part: usize, sides: &Sides) -> Result<(), Fault>
+fn put_values(out: &mut String, part: usize, sides: &Sides) -> Result<(), AllocError>
     ensures ok { OnOk result (string_bytes out.new ≡ string_bytes out.old ++ values_by part sides.now sides.now.changes sides.now.sign) }
-    ensures err { IfErr result (λ fault. fault ≡ Fault.OutOfMemory) }
 {
     match (&sides.changes, sides.sign) {
         (Some(changes), _) => put_changes(out, changes),
@@ -211,9 +199,8 @@ fn put_values(out: &mut String, part: usize, sides: &Sides) -> Result<(), Fault>
 }
 
 /// Writes what both sides have, of a part of this number.
-fn put_sides(out: &mut String, part: usize, sides: &Sides) -> Result<(), Fault>
+fn put_sides(out: &mut String, part: usize, sides: &Sides) -> Result<(), AllocError>
     ensures ok { OnOk result (string_bytes out.new ≡ string_bytes out.old ++ sides_text part sides.now) }
-    ensures err { IfErr result (λ fault. fault ≡ Fault.OutOfMemory) }
 {
     out.push_str("<p>")?;
     sides.put_says(out)?;
@@ -223,9 +210,8 @@ fn put_sides(out: &mut String, part: usize, sides: &Sides) -> Result<(), Fault>
 }
 
 /// Writes the path, if there is one, before what is said.
-fn put_path(out: &mut String, path: &Option<String>) -> Result<(), Fault>
+fn put_path(out: &mut String, path: &Option<String>) -> Result<(), AllocError>
     ensures ok { OnOk result (string_bytes out.new ≡ string_bytes out.old ++ path_text path.now) }
-    ensures err { IfErr result (λ fault. fault ≡ Fault.OutOfMemory) }
 {
     match path {
         Some(path) => put_pieces(
@@ -237,9 +223,8 @@ fn put_path(out: &mut String, path: &Option<String>) -> Result<(), Fault>
 }
 
 /// Writes the line of the place, if there is one.
-fn put_source(out: &mut String, line: &Option<String>) -> Result<(), Fault>
+fn put_source(out: &mut String, line: &Option<String>) -> Result<(), AllocError>
     ensures ok { OnOk result (string_bytes out.new ≡ string_bytes out.old ++ source_text line.now) }
-    ensures err { IfErr result (λ fault. fault ≡ Fault.OutOfMemory) }
 {
     match line {
         Some(line) => put_pieces(
@@ -251,9 +236,8 @@ fn put_source(out: &mut String, line: &Option<String>) -> Result<(), Fault>
 }
 
 /// Writes what is said of a fault or a warning, and its line.
-fn put_said(out: &mut String, finding: &Finding) -> Result<(), Fault>
+fn put_said(out: &mut String, finding: &Finding) -> Result<(), AllocError>
     ensures ok { OnOk result (string_bytes out.new ≡ string_bytes out.old ++ said_text finding.now) }
-    ensures err { IfErr result (λ fault. fault ≡ Fault.OutOfMemory) }
 {
     out.push_str("<p>")?;
     put_path(out, &finding.path)?;
@@ -262,9 +246,8 @@ fn put_said(out: &mut String, finding: &Finding) -> Result<(), Fault>
 }
 
 /// Writes what a part of this number has of a finding.
-pub(crate) fn put_body(out: &mut String, part: usize, finding: &Finding) -> Result<(), Fault>
+pub(crate) fn put_body(out: &mut String, part: usize, finding: &Finding) -> Result<(), AllocError>
     ensures ok { OnOk result (string_bytes out.new ≡ string_bytes out.old ++ body_text part finding.now) }
-    ensures err { IfErr result (λ fault. fault ≡ Fault.OutOfMemory) }
 {
     match &finding.sides {
         Some(sides) => put_sides(out, part, sides),

@@ -1,5 +1,5 @@
 //! The differences and moves that no pattern covers.
-ghost use Rattle.std.specs.Prelude.{◌≡◌, ◌∷◌, ◌||◌, [], IfOk, IfErr};
+ghost use Rattle.std.specs.Prelude.{◌≡◌, ◌∷◌, ◌||◌, [], IfOk};
 ghost use Rattle.yaml_diff.specs.declared.difference.Step.TheVariants.{Item};
 ghost use Rattle.yaml_rank.specs.RanksView.{RanksAre};
 ghost use Rattle.review_ignore.specs.Ignored.{is_ignored, item_path, covers_all, outside, moves_outside, Keeps};
@@ -8,9 +8,8 @@ use crate::steps::step_texts;
 use review_patterns::Pattern;
 use review_patterns::pattern::is_covered;
 use review_text::both::Both;
-use std::alloc::Global;
+use std::alloc::{AllocError, Global};
 use yaml_diff::{Difference, Found, Move, Step};
-use yaml_text::fault::Fault;
 
 /// Whether a path is at or below one that one of the patterns matches.
 #[tactic(auto, using(crate::proofs::KeptLaws::none_ignored))]
@@ -19,10 +18,9 @@ fn is_ignored(
     both: &Both<'_>,
     patterns: &[Pattern<'_>],
     path: &[Step],
-) -> Result<bool, Fault>
+) -> Result<bool, AllocError>
     requires ranked { RanksAre both.now.graph both.now.ranks }
     ensures ok { IfOk result (λ answer. answer ≡ is_ignored both.now.graph patterns.now path.now) }
-    ensures err { IfErr result (λ fault. fault ≡ Fault.OutOfMemory) }
 {
     if patterns.is_empty() {
         return Ok(false);
@@ -32,9 +30,8 @@ fn is_ignored(
 }
 
 /// The path to the items of a move, the last step first.
-pub fn item_path(alloc: Global, one: &Move) -> Result<Vec<Step>, Fault>
+pub fn item_path(alloc: Global, one: &Move) -> Result<Vec<Step>, AllocError>
     ensures ok { IfOk result (λ path. path.items ≡ item_path one.now) }
-    ensures err { IfErr result (λ fault. fault ≡ Fault.OutOfMemory) }
 {
     let mut path = Vec::new(alloc);
     path.push(Step::Item(one.places))?;
@@ -50,19 +47,17 @@ fn is_move_ignored(
     both: &Both<'_>,
     patterns: &[Pattern<'_>],
     one: &Move,
-) -> Result<bool, Fault>
+) -> Result<bool, AllocError>
     requires ranked { RanksAre both.now.graph both.now.ranks }
     ensures ok { IfOk result (λ answer. answer ≡ is_ignored both.now.graph patterns.now (item_path one.now)) }
-    ensures err { IfErr result (λ fault. fault ≡ Fault.OutOfMemory) }
 {
     let path = item_path(alloc, one)?;
     is_ignored(alloc, both, patterns, &path)
 }
 
 /// Whether one of the patterns matches each document.
-fn covers_all(alloc: Global, patterns: &[Pattern<'_>]) -> Result<bool, Fault>
+fn covers_all(alloc: Global, patterns: &[Pattern<'_>]) -> Result<bool, AllocError>
     ensures ok { IfOk result (λ answer. answer ≡ covers_all patterns.now) }
-    ensures err { IfErr result (λ fault. fault ≡ Fault.OutOfMemory) }
 {
     let mut document = Vec::new(alloc);
     document.push(String::new(alloc))?;
@@ -75,10 +70,9 @@ fn differences_outside(
     both: &Both<'_>,
     patterns: &[Pattern<'_>],
     list: Vec<Difference>,
-) -> Result<Vec<Difference>, Fault>
+) -> Result<Vec<Difference>, AllocError>
     requires ranked { RanksAre both.now.graph both.now.ranks }
     ensures ok { IfOk result (λ kept. kept.items ≡ outside both.now.graph patterns.now list.items) }
-    ensures err { IfErr result (λ fault. fault ≡ Fault.OutOfMemory) }
 {
     let mut kept = Vec::new(alloc);
     for difference in list {
@@ -95,10 +89,9 @@ fn moves_outside(
     both: &Both<'_>,
     patterns: &[Pattern<'_>],
     moves: Vec<Move>,
-) -> Result<Vec<Move>, Fault>
+) -> Result<Vec<Move>, AllocError>
     requires ranked { RanksAre both.now.graph both.now.ranks }
     ensures ok { IfOk result (λ kept. kept.items ≡ moves_outside both.now.graph patterns.now moves.items) }
-    ensures err { IfErr result (λ fault. fault ≡ Fault.OutOfMemory) }
 {
     let mut kept = Vec::new(alloc);
     for one in moves {
@@ -119,10 +112,9 @@ pub fn kept(
     both: &Both<'_>,
     patterns: &[Pattern<'_>],
     found: Found,
-) -> Result<Found, Fault>
+) -> Result<Found, AllocError>
     requires ranked { RanksAre both.now.graph both.now.ranks }
     ensures ok { IfOk result (Keeps both.now.graph patterns.now found) }
-    ensures err { IfErr result (λ fault. fault ≡ Fault.OutOfMemory) }
 {
     let Found { list, moves, whole } = found;
     Ok(Found {

@@ -1,5 +1,5 @@
 //! The steps of paths as texts.
-ghost use Rattle.std.specs.Prelude.{◌≡◌, map, string_bytes, OnOk, IfOk, IfErr};
+ghost use Rattle.std.specs.Prelude.{◌≡◌, map, string_bytes, OnOk, IfOk};
 ghost use Rattle.yaml_diff.specs.Lines.{step_of, way_of};
 ghost use Rattle.yaml_rank.specs.RanksView.{RanksAre};
 ghost use Rattle.review_text.specs.Hidden.{visible};
@@ -10,14 +10,12 @@ use review_text::both::Both;
 use review_text::path::path_text;
 use review_text::put_visible;
 use review_text::text::{put_all, put_key};
-use std::alloc::Global;
+use std::alloc::{AllocError, Global};
 use yaml_diff::Step;
-use yaml_text::fault::Fault;
 
 /// A text with escapes for the characters that a terminal would not show.
-fn visible_text(alloc: Global, text: &str) -> Result<String, Fault>
+fn visible_text(alloc: Global, text: &str) -> Result<String, AllocError>
     ensures ok { IfOk result (λ s. string_bytes s ≡ visible text.now) }
-    ensures err { IfErr result (λ fault. fault ≡ Fault.OutOfMemory) }
 {
     let mut out = String::new(alloc);
     put_visible(&mut out, text)?;
@@ -26,28 +24,25 @@ fn visible_text(alloc: Global, text: &str) -> Result<String, Fault>
 
 /// The step that leads to a document.
 #[tactic(auto, using(crate::proofs::StepLaws::one_step))]
-fn place_of(alloc: Global, both: &Both<'_>, step: Step) -> Result<String, Fault>
+fn place_of(alloc: Global, both: &Both<'_>, step: Step) -> Result<String, AllocError>
     requires ranked { RanksAre both.now.graph both.now.ranks }
     ensures ok { IfOk result (λ s. string_bytes s ≡ first_text (step_of both.now.graph step)) }
-    ensures err { IfErr result (λ fault. fault ≡ Fault.OutOfMemory) }
 {
     path_text(alloc, both, &[step], true)
 }
 
 /// The same as it is printed.
-fn document_text(alloc: Global, both: &Both<'_>, step: Step) -> Result<String, Fault>
+fn document_text(alloc: Global, both: &Both<'_>, step: Step) -> Result<String, AllocError>
     requires ranked { RanksAre both.now.graph both.now.ranks }
     ensures ok { IfOk result (λ s. string_bytes s ≡ visible (first_text (step_of both.now.graph step))) }
-    ensures err { IfErr result (λ fault. fault ≡ Fault.OutOfMemory) }
 {
     visible_text(alloc, place_of(alloc, both, step)?.as_str())
 }
 
 /// The step that leads to a part of a node.
-fn part_of(alloc: Global, both: &Both<'_>, step: Step) -> Result<String, Fault>
+fn part_of(alloc: Global, both: &Both<'_>, step: Step) -> Result<String, AllocError>
     requires ranked { RanksAre both.now.graph both.now.ranks }
     ensures ok { IfOk result (λ s. string_bytes s ≡ step_text (step_of both.now.graph step)) }
-    ensures err { IfErr result (λ fault. fault ≡ Fault.OutOfMemory) }
 {
     let mut out = String::new(alloc);
     match step {
@@ -61,10 +56,9 @@ fn part_of(alloc: Global, both: &Both<'_>, step: Step) -> Result<String, Fault>
 }
 
 /// The same as it is printed.
-fn part_text(alloc: Global, both: &Both<'_>, step: Step) -> Result<String, Fault>
+fn part_text(alloc: Global, both: &Both<'_>, step: Step) -> Result<String, AllocError>
     requires ranked { RanksAre both.now.graph both.now.ranks }
     ensures ok { IfOk result (λ s. string_bytes s ≡ visible (step_text (step_of both.now.graph step))) }
-    ensures err { IfErr result (λ fault. fault ≡ Fault.OutOfMemory) }
 {
     visible_text(alloc, part_of(alloc, both, step)?.as_str())
 }
@@ -74,10 +68,9 @@ pub(crate) fn step_texts(
     alloc: Global,
     both: &Both<'_>,
     path: &[Step],
-) -> Result<Vec<String>, Fault>
+) -> Result<Vec<String>, AllocError>
     requires ranked { RanksAre both.now.graph both.now.ranks }
     ensures ok { IfOk result (λ texts. map string_bytes texts.items ≡ texts_of (way_of both.now.graph path.now)) }
-    ensures err { IfErr result (λ fault. fault ≡ Fault.OutOfMemory) }
 {
     let mut texts = Vec::new(alloc);
     let Some((document, steps)) = path.split_last() else {

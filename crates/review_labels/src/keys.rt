@@ -1,5 +1,5 @@
 //! The keys that name items.
-ghost use Rattle.std.specs.Prelude.{◌≡◌, ◌&&◌, map, bytes_eq, IfOk, IfErr};
+ghost use Rattle.std.specs.Prelude.{◌≡◌, ◌&&◌, map, bytes_eq, IfOk};
 ghost use Rattle.yaml_definitions.specs.model.Same.{same};
 ghost use Rattle.yaml_definitions.specs.model.Tag.{str_tag};
 ghost use Rattle.yaml_graph.specs.GraphView.{tree};
@@ -7,11 +7,10 @@ ghost use Rattle.yaml_rank.specs.RanksView.{RanksAre};
 ghost use Rattle.review_labels.specs.Labels.{string, IsRankOf, IsKey, AreEach};
 
 use review_text::both::Both;
-use std::alloc::Global;
+use std::alloc::{AllocError, Global};
 use yaml_graph::node::NodeKind;
 use yaml_pair::TABLE;
 use yaml_text::core_tag;
-use yaml_text::fault::Fault;
 use yaml_tree::node::NodeId;
 
 /// The key of the table that names what `metadata` stands in, too.
@@ -80,9 +79,8 @@ fn key_of(both: &Both<'_>, text: &'static str) -> Key
 }
 
 /// A key for each of these texts.
-fn keys_of(alloc: Global, both: &Both<'_>, texts: &[&'static str]) -> Result<Vec<Key>, Fault>
+fn keys_of(alloc: Global, both: &Both<'_>, texts: &[&'static str]) -> Result<Vec<Key>, AllocError>
     ensures ok { IfOk result (λ keys. RanksAre both.now.graph both.now.ranks → AreEach both.now (map (λ text. text.now) texts.now) keys.items) }
-    ensures err { IfErr result (λ fault. fault ≡ Fault.OutOfMemory) }
 {
     let mut keys = Vec::new(alloc);
     for text in texts {
@@ -92,7 +90,7 @@ fn keys_of(alloc: Global, both: &Both<'_>, texts: &[&'static str]) -> Result<Vec
 }
 
 impl Keys {
-    ghost use Rattle.std.specs.Prelude.{◌≡◌, IfOk, IfErr};
+    ghost use Rattle.std.specs.Prelude.{◌≡◌, IfOk};
     ghost use Rattle.yaml_rank.specs.RanksView.{RanksAre};
     ghost use Rattle.review_labels.specs.Labels.{AreKeys};
 
@@ -100,9 +98,8 @@ impl Keys {
     ///
     /// # Errors
     /// `OutOfMemory`
-    pub fn new(alloc: Global, both: &Both<'_>) -> Result<Keys, Fault>
+    pub fn new(alloc: Global, both: &Both<'_>) -> Result<Keys, AllocError>
         ensures ok { IfOk result (λ keys. RanksAre both.now.graph both.now.ranks → AreKeys both.now keys) }
-        ensures err { IfErr result (λ fault. fault ≡ Fault.OutOfMemory) }
     {
         Ok(Keys {
             table: keys_of(alloc, both, &TABLE)?,

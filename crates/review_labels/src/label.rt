@@ -1,5 +1,5 @@
 //! Which items moved, in words.
-ghost use Rattle.std.specs.Prelude.{◌≡◌, ◌++◌, ◌-◌, Some, option_map, string_bytes, OnOk, IfOk, IfErr};
+ghost use Rattle.std.specs.Prelude.{◌≡◌, ◌++◌, ◌-◌, Some, option_map, string_bytes, OnOk, IfOk};
 ghost use Rattle.yaml_graph.specs.GraphView.{tree};
 ghost use Rattle.yaml_rank.specs.RanksView.{RanksAre};
 ghost use Rattle.review_labels.specs.Labels.{words_of, order_label, others_text, called, name_of, item_label, label, AreKeys};
@@ -10,9 +10,8 @@ use crate::names::name_of;
 use review_folds::Group;
 use review_text::both::Both;
 use review_text::text::{node_text, put_all};
-use std::alloc::Global;
+use std::alloc::{AllocError, Global};
 use yaml_diff::Step;
-use yaml_text::fault::Fault;
 use yaml_tree::node::NodeId;
 
 /// What an item is called: the words that name it and their value or, where it has no name, its own text.
@@ -23,10 +22,9 @@ fn put_item(
     keys: &Keys,
     item: NodeId,
     room: usize,
-) -> Result<(), Fault>
+) -> Result<(), AllocError>
     requires ranked { RanksAre both.now.graph both.now.ranks }
     ensures ok { OnOk result (AreKeys both.now keys.now → string_bytes out.new ≡ string_bytes out.old ++ called room (tree both.now.graph item.0) (name_of (Some (tree both.now.graph item.0)))) }
-    ensures err { IfErr result (λ fault. fault ≡ Fault.OutOfMemory) }
 {
     match name_of(both, item, keys) {
         Some((words, value)) => {
@@ -54,10 +52,9 @@ fn words_of(list: &[Step]) -> &'static str
 }
 
 /// What is told of a list of which only the order changed.
-fn order_label(alloc: Global, both: &Both<'_>, list: &[Step]) -> Result<String, Fault>
+fn order_label(alloc: Global, both: &Both<'_>, list: &[Step]) -> Result<String, AllocError>
     requires ranked { RanksAre both.now.graph both.now.ranks }
     ensures ok { IfOk result (λ text. string_bytes text ≡ order_label both.now list.now) }
-    ensures err { IfErr result (λ fault. fault ≡ Fault.OutOfMemory) }
 {
     let count = count_of(both, list);
     let mut out = String::new(alloc);
@@ -71,9 +68,8 @@ fn order_label(alloc: Global, both: &Both<'_>, list: &[Step]) -> Result<String, 
 
 /// How many others there are, if there are some.
 #[tactic(auto, using(crate::proofs::LabelLaws::others_none, crate::proofs::LabelLaws::others_some))]
-fn put_others(out: &mut String, others: usize) -> Result<(), Fault>
+fn put_others(out: &mut String, others: usize) -> Result<(), AllocError>
     ensures ok { OnOk result (string_bytes out.new ≡ string_bytes out.old ++ others_text others) }
-    ensures err { IfErr result (λ fault. fault ≡ Fault.OutOfMemory) }
 {
     if others == 0 {
         return Ok(());
@@ -97,10 +93,9 @@ fn item_label(
     item: NodeId,
     others: usize,
     room: usize,
-) -> Result<String, Fault>
+) -> Result<String, AllocError>
     requires ranked { RanksAre both.now.graph both.now.ranks }
     ensures ok { IfOk result (λ text. AreKeys both.now keys.now → Some (string_bytes text) ≡ item_label room others (Some (tree both.now.graph item.0))) }
-    ensures err { IfErr result (λ fault. fault ≡ Fault.OutOfMemory) }
 {
     let mut out = String::new(alloc);
     put_item(alloc, &mut out, both, keys, item, room)?;
@@ -120,10 +115,9 @@ pub fn label_of(
     group: Group,
     path: &[Step],
     room: usize,
-) -> Result<Option<String>, Fault>
+) -> Result<Option<String>, AllocError>
     requires ranked { RanksAre both.now.graph both.now.ranks }
     ensures ok { IfOk result (λ told. AreKeys both.now keys.now → option_map string_bytes told ≡ label both.now room group path.now) }
-    ensures err { IfErr result (λ fault. fault ≡ Fault.OutOfMemory) }
 {
     let Some((_, list)) = path.split_first() else {
         return Ok(None);

@@ -1,5 +1,5 @@
 //! Where two streams differ, as lines.
-ghost use Rattle.std.specs.Prelude.{◌≡◌, ◌↔◌, ◌<◌, ◌≤◌, ◌&&◌, ◌==◌, ◌++◌, ◌-◌, true, false, not, length, map, take, drop, [], string_bytes, OnOk, IfOk, IfErr};
+ghost use Rattle.std.specs.Prelude.{◌≡◌, ◌↔◌, ◌<◌, ◌≤◌, ◌&&◌, ◌==◌, ◌++◌, ◌-◌, true, false, not, length, map, take, drop, [], string_bytes, OnOk, IfOk};
 ghost use Rattle.std.specs.List.{sum_by};
 ghost use Rattle.yaml_definitions.specs.model.Same.{Alike};
 ghost use Rattle.yaml_graph.specs.GraphView.{roots_of, tree};
@@ -27,10 +27,9 @@ use review_text::options::{Diff, Form, Paths};
 use review_text::path::path_text;
 use review_text::text::{CUT, WHOLE, node_text};
 use review_values::{Members, members_of};
-use std::alloc::Global;
+use std::alloc::{AllocError, Global};
 use yaml_diff::{Difference, Found};
 use yaml_place::Place;
-use yaml_text::fault::Fault;
 use yaml_tree::node::NodeId;
 
 /// The text of a node, if there is one.
@@ -39,10 +38,9 @@ fn shown(
     both: &Both<'_>,
     id: Option<NodeId>,
     room: usize,
-) -> Result<Option<String>, Fault>
+) -> Result<Option<String>, AllocError>
     requires ranked { RanksAre both.now.graph both.now.ranks }
     ensures ok { IfOk result (ShowsNode both.now.graph room id) }
-    ensures err { IfErr result (λ fault. fault ≡ Fault.OutOfMemory) }
 {
     match id {
         Some(id) => Ok(Some(node_text(alloc, both, id, room)?)),
@@ -78,11 +76,10 @@ fn fronts(
     both: &Both<'_>,
     difference: &Difference,
     room: usize,
-) -> Result<Texts, Fault>
+) -> Result<Texts, AllocError>
     requires ranked { RanksAre both.now.graph both.now.ranks }
     ensures left { IfOk result (λ s. ShowsNode both.now.graph room difference.now.left s.left) }
     ensures right { IfOk result (λ s. ShowsNode both.now.graph room difference.now.right s.right) }
-    ensures err { IfErr result (λ fault. fault ≡ Fault.OutOfMemory) }
 {
     Ok(Texts {
         left: shown(alloc, both, difference.left, room)?,
@@ -98,10 +95,9 @@ fn shown_both(
     difference: &Difference,
     room: usize,
     budget: &mut Budget,
-) -> Result<Texts, Fault>
+) -> Result<Texts, AllocError>
     requires ranked { RanksAre both.now.graph both.now.ranks }
     ensures ok { IfOk result (λ s. ShowsBoth both.now.graph room difference.now s.left s.right) }
-    ensures err { IfErr result (λ fault. fault ≡ Fault.OutOfMemory) }
 {
     let texts = fronts(alloc, both, difference, room)?;
     if !texts.is_one() {
@@ -117,9 +113,8 @@ fn shown_both(
 }
 
 /// Whether both sides have a text, and these look the same.
-fn are_alike(alloc: Global, texts: &Texts) -> Result<bool, Fault>
+fn are_alike(alloc: Global, texts: &Texts) -> Result<bool, AllocError>
     ensures ok { IfOk result (λ answer. answer ≡ are_alike texts.now.left texts.now.right) }
-    ensures err { IfErr result (λ fault. fault ≡ Fault.OutOfMemory) }
 {
     let Some(left) = &texts.left else {
         return Ok(false);
@@ -131,9 +126,8 @@ fn are_alike(alloc: Global, texts: &Texts) -> Result<bool, Fault>
 }
 
 /// The text of a side with an escape for each character outside ASCII.
-fn in_ascii(alloc: Global, text: &Option<String>) -> Result<Option<String>, Fault>
+fn in_ascii(alloc: Global, text: &Option<String>) -> Result<Option<String>, AllocError>
     ensures ok { IfOk result (λ s. IsAscii text.now s) }
-    ensures err { IfErr result (λ fault. fault ≡ Fault.OutOfMemory) }
 {
     match text {
         Some(text) => Ok(Some(ascii_text(alloc, text.as_str())?)),
@@ -143,9 +137,8 @@ fn in_ascii(alloc: Global, text: &Option<String>) -> Result<Option<String>, Faul
 
 /// Two texts, both with escapes where they would look the same.
 #[tactic(auto, using(crate::proofs::StringLaws::as_they_are, crate::proofs::StringLaws::in_escapes))]
-fn told_apart(alloc: Global, texts: Texts) -> Result<Texts, Fault>
+fn told_apart(alloc: Global, texts: Texts) -> Result<Texts, AllocError>
     ensures ok { IfOk result (λ s. TellsApart (are_alike texts.left texts.right) texts.left texts.right s.left s.right) }
-    ensures err { IfErr result (λ fault. fault ≡ Fault.OutOfMemory) }
 {
     if !are_alike(alloc, &texts)? {
         return Ok(texts);
@@ -164,10 +157,9 @@ fn shown_apart(
     difference: &Difference,
     room: usize,
     budget: &mut Budget,
-) -> Result<Texts, Fault>
+) -> Result<Texts, AllocError>
     requires ranked { RanksAre both.now.graph both.now.ranks }
     ensures ok { IfOk result (λ s. ShowsApart both.now.graph room difference.now s.left s.right) }
-    ensures err { IfErr result (λ fault. fault ≡ Fault.OutOfMemory) }
 {
     let texts = shown_both(alloc, both, difference, room, budget)?;
     told_apart(alloc, texts)
@@ -206,10 +198,9 @@ fn path_of(
     both: &Both<'_>,
     difference: &Difference,
     paths: Paths,
-) -> Result<String, Fault>
+) -> Result<String, AllocError>
     requires ranked { RanksAre both.now.graph both.now.ranks }
     ensures ok { IfOk result (λ s. string_bytes s ≡ path_as paths (is_numbered both.now) difference.now.left difference.now.right (way_of both.now.graph difference.now.path.items)) }
-    ensures err { IfErr result (λ fault. fault ≡ Fault.OutOfMemory) }
 {
     let numbered = is_numbered(both);
     let path = &difference.path;
@@ -228,10 +219,9 @@ pub(crate) fn members_in(
     difference: &Difference,
     form: Form,
     budget: &mut Budget,
-) -> Result<Option<Members>, Fault>
+) -> Result<Option<Members>, AllocError>
     requires ranked { RanksAre both.now.graph both.now.ranks }
     ensures ok { IfOk result (TellsMembers form both.now.graph difference.now) }
-    ensures err { IfErr result (λ fault. fault ≡ Fault.OutOfMemory) }
 {
     match form {
         Form::Line => Ok(None),
@@ -249,11 +239,10 @@ fn line_of(
     places: (Option<Place>, Option<Place>),
     count: usize,
     budget: &mut Budget,
-) -> Result<Line, Fault>
+) -> Result<Line, AllocError>
     requires ranked { RanksAre both.now.graph both.now.ranks }
     ensures one { IfOk result (TellsOne both.now asked.now difference.now) }
     ensures count { IfOk result (λ line. line.count ≡ count) }
-    ensures err { IfErr result (λ fault. fault ≡ Fault.OutOfMemory) }
 {
     let path = path_of(alloc, both, difference, asked.paths)?;
     let nodes = shown_apart(alloc, both, difference, room_of(asked.whole), budget)?;
@@ -280,11 +269,10 @@ fn lines_with(
     asked: &Diff<'_>,
     places: &Places,
     counts: &[usize],
-) -> Result<Vec<Line>, Fault>
+) -> Result<Vec<Line>, AllocError>
     requires ranked { RanksAre both.now.graph both.now.ranks }
     requires level { length counts.now ≡ length list.now }
     ensures ok { IfOk result (λ lines. TellsEach both.now asked.now (take asked.now.lines (with_lines list.now counts.now)) lines.items) }
-    ensures err { IfErr result (λ fault. fault ≡ Fault.OutOfMemory) }
 {
     let mut lines = Vec::new(alloc);
     let mut budget = Budget::new();
@@ -310,10 +298,9 @@ pub(crate) fn lines_of(
     asked: &Diff<'_>,
     columns: bool,
     sides: Option<(Traced<'_>, Traced<'_>)>,
-) -> Result<Vec<Line>, Fault>
+) -> Result<Vec<Line>, AllocError>
     requires ranked { RanksAre both.now.graph both.now.ranks }
     ensures ok { IfOk result (λ lines. TellsDifferences columns both.now asked.now list.now lines.items) }
-    ensures err { IfErr result (λ fault. fault ≡ Fault.OutOfMemory) }
 {
     let folds = columns && asked.folds;
     let sides = if list.is_empty() { None } else { sides };
@@ -351,9 +338,8 @@ pub(crate) fn left_out(found: &Found, lines: &[Line], moves: &MoveLines) -> Left
 }
 
 /// Lines as text.
-fn put_each(alloc: Global, text: &mut String, lines: &[Line], asked: &Diff<'_>) -> Result<(), Fault>
+fn put_each(alloc: Global, text: &mut String, lines: &[Line], asked: &Diff<'_>) -> Result<(), AllocError>
     ensures ok { OnOk result (string_bytes text.new ≡ string_bytes text.old ++ lines_text asked.now lines.now) }
-    ensures err { IfErr result (λ fault. fault ≡ Fault.OutOfMemory) }
 {
     for line in lines {
         line.put(alloc, text, asked)?;
@@ -385,10 +371,9 @@ fn text_of(
     asked: &Diff<'_>,
     sides: Option<(Traced<'_>, Traced<'_>)>,
     found: &Found,
-) -> Result<String, Fault>
+) -> Result<String, AllocError>
     requires ranked { RanksAre both.now.graph both.now.ranks }
     ensures ok { IfOk result (λ text. TellsFound both.now asked.now found.now (string_bytes text)) }
-    ensures err { IfErr result (λ fault. fault ≡ Fault.OutOfMemory) }
 {
     let columns = is_line(asked.form);
     let lines = lines_of(alloc, both, &found.list, asked, columns, sides)?;
@@ -409,10 +394,9 @@ fn asked_text(
     asked: &Diff<'_>,
     sides: Option<(Traced<'_>, Traced<'_>)>,
     found: &Found,
-) -> Result<String, Fault>
+) -> Result<String, AllocError>
     requires ranked { RanksAre both.now.graph both.now.ranks }
     ensures ok { IfOk result (λ text. TellsAsked asked.now.lines both.now asked.now found.now (string_bytes text)) }
-    ensures err { IfErr result (λ fault. fault ≡ Fault.OutOfMemory) }
 {
     if asked.lines == 0 {
         return Ok(String::new(alloc));
@@ -427,11 +411,10 @@ fn told_text(
     asked: &Diff<'_>,
     sides: Option<(Traced<'_>, Traced<'_>)>,
     found: &Found,
-) -> Result<String, Fault>
+) -> Result<String, AllocError>
     requires ranked { RanksAre both.now.graph both.now.ranks }
     ensures lines { IfOk result (λ text. asked.now.stat ≡ false → TellsAsked asked.now.lines both.now asked.now found.now (string_bytes text)) }
     ensures counts { IfOk result (λ text. asked.now.stat ≡ true → string_bytes text ≡ stat_text asked.now found.now) }
-    ensures err { IfErr result (λ fault. fault ≡ Fault.OutOfMemory) }
 {
     if asked.stat {
         return stat_text(alloc, asked, found);
@@ -455,11 +438,10 @@ pub fn compare(
     asked: &Diff<'_>,
     ignored: &[Pattern<'_>],
     sides: Option<(Traced<'_>, Traced<'_>)>,
-) -> Result<Compared, Fault>
+) -> Result<Compared, AllocError>
     requires ranked { RanksAre both.now.graph both.now.ranks }
     ensures text { IfOk result (λ told. TellsStreams both.now asked.now ignored.now told.same (string_bytes told.text)) }
     ensures same { IfOk result (λ told. ignored.now ≡ [] → ((told.same ≡ true) ↔ Alike (map (λ i. tree both.now.graph i.0) (take both.now.documents (roots_of both.now.graph))) (map (λ i. tree both.now.graph i.0) (drop both.now.documents (roots_of both.now.graph))))) }
-    ensures err { IfErr result (λ fault. fault ≡ Fault.OutOfMemory) }
 {
     let found = searched(alloc, both, asked, ignored)?;
     let kept = kept(alloc, both, ignored, found)?;

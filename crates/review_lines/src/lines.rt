@@ -1,5 +1,5 @@
 //! The lines of a comparison.
-ghost use Rattle.std.specs.Prelude.{◌≡◌, ◌++◌, cond, unwrap_or, option_map, [], string_bytes, OnOk, IfErr};
+ghost use Rattle.std.specs.Prelude.{◌≡◌, ◌++◌, cond, unwrap_or, option_map, [], string_bytes, OnOk};
 ghost use Rattle.review_text.specs.Hidden.{visible};
 ghost use Rattle.review_lines.specs.Lines.{column, place_text, more_text, rest_object, rest_json, rest_text, others_text};
 
@@ -10,9 +10,8 @@ use review_text::options::{Diff, Form};
 use review_text::{put_json, put_visible};
 use review_values::Members;
 use review_values::writing::{put_place_json, put_raw, put_text};
-use std::alloc::Global;
+use std::alloc::{AllocError, Global};
 use yaml_place::Place;
-use yaml_text::fault::Fault;
 
 /// The changed lines of two scalars of one tag.
 #[derive(Drop)]
@@ -50,7 +49,7 @@ const MORE: &str = "...\n";
 const PLAIN: &str = "\u{1b}[0m";
 
 impl Line {
-    ghost use Rattle.std.specs.Prelude.{◌≡◌, ◌++◌, [], cond, unwrap_or, option_map, string_bytes, OnOk, IfErr};
+    ghost use Rattle.std.specs.Prelude.{◌≡◌, ◌++◌, [], cond, unwrap_or, option_map, string_bytes, OnOk};
     ghost use Rattle.review_lines.specs.Lines.{sign, kind, color_text, plain_text, label_or, values, below, places_text, columns, told_text, left_value, right_value, steps_text, line_object, line_json, line_text};
 
     /// What the two sides have at the path: other things, or one of them nothing. Where both have no text, a pair of items moved.
@@ -99,9 +98,8 @@ impl Line {
     }
 
     /// Both texts or, of scalars whose changed lines are printed below, what is said of these; of items that moved their label.
-    fn put_values(&self, out: &mut String) -> Result<(), Fault>
+    fn put_values(&self, out: &mut String) -> Result<(), AllocError>
         ensures ok { OnOk result (string_bytes out.new ≡ string_bytes out.old ++ values self.now.changes self.now) }
-        ensures err { IfErr result (λ fault. fault ≡ Fault.OutOfMemory) }
     {
         match &self.changes {
             Some(changes) => put_column(out, Some(changes.summary.as_str())),
@@ -113,9 +111,8 @@ impl Line {
     }
 
     /// The places' columns, if they are told.
-    fn put_places(&self, out: &mut String, places: bool) -> Result<(), Fault>
+    fn put_places(&self, out: &mut String, places: bool) -> Result<(), AllocError>
         ensures ok { OnOk result (string_bytes out.new ≡ string_bytes out.old ++ places_text places self.now) }
-        ensures err { IfErr result (λ fault. fault ≡ Fault.OutOfMemory) }
     {
         if places {
             put_place(out, self.left_place)?;
@@ -125,9 +122,8 @@ impl Line {
     }
 
     /// The changed lines, where they are printed.
-    fn put_below(&self, out: &mut String) -> Result<(), Fault>
+    fn put_below(&self, out: &mut String) -> Result<(), AllocError>
         ensures ok { OnOk result (string_bytes out.new ≡ string_bytes out.old ++ below self.now.changes) }
-        ensures err { IfErr result (λ fault. fault ≡ Fault.OutOfMemory) }
     {
         match &self.changes {
             Some(changes) => put_visible(out, &changes.text),
@@ -136,9 +132,8 @@ impl Line {
     }
 
     /// Columns parted by tabs: sign, path, what the sides have, and behind these the places if they are told; and the lines below.
-    fn put_columns(&self, out: &mut String, places: bool, color: bool) -> Result<(), Fault>
+    fn put_columns(&self, out: &mut String, places: bool, color: bool) -> Result<(), AllocError>
         ensures ok { OnOk result (string_bytes out.new ≡ string_bytes out.old ++ columns places color self.now) }
-        ensures err { IfErr result (λ fault. fault ≡ Fault.OutOfMemory) }
     {
         put_if(out, color, self.color())?;
         out.push_str(self.sign())?;
@@ -153,9 +148,8 @@ impl Line {
 
     /// The columns and, where the line tells several differences, how many others; nothing where another line tells this one.
     #[tactic(auto, using(crate::proofs::LineLaws::told_none, crate::proofs::LineLaws::told_some))]
-    fn put_told(&self, out: &mut String, places: bool, color: bool) -> Result<(), Fault>
+    fn put_told(&self, out: &mut String, places: bool, color: bool) -> Result<(), AllocError>
         ensures ok { OnOk result (string_bytes out.new ≡ string_bytes out.old ++ told_text self.now.count (columns places color self.now)) }
-        ensures err { IfErr result (λ fault. fault ≡ Fault.OutOfMemory) }
     {
         if self.count == 0 {
             return Ok(());
@@ -196,9 +190,8 @@ impl Line {
     }
 
     /// One JSON object, with all characters as they are.
-    fn put_object(&self, alloc: Global, out: &mut String) -> Result<(), Fault>
+    fn put_object(&self, alloc: Global, out: &mut String) -> Result<(), AllocError>
         ensures ok { OnOk result (string_bytes out.new ≡ string_bytes out.old ++ line_object self.now) }
-        ensures err { IfErr result (λ fault. fault ≡ Fault.OutOfMemory) }
     {
         put_text(alloc, out, "{\"kind\":", Some(self.kind()))?;
         put_text(alloc, out, ",\"left\":", text_of(&self.left))?;
@@ -214,9 +207,8 @@ impl Line {
     }
 
     /// The same with escapes for the characters that a terminal would not show.
-    fn put_json(&self, alloc: Global, out: &mut String) -> Result<(), Fault>
+    fn put_json(&self, alloc: Global, out: &mut String) -> Result<(), AllocError>
         ensures ok { OnOk result (string_bytes out.new ≡ string_bytes out.old ++ line_json self.now) }
-        ensures err { IfErr result (λ fault. fault ≡ Fault.OutOfMemory) }
     {
         let mut object = String::new(alloc);
         self.put_object(alloc, &mut object)?;
@@ -224,9 +216,8 @@ impl Line {
     }
 
     /// Writes the line in the form that is asked for.
-    pub fn put(&self, alloc: Global, out: &mut String, asked: &Diff<'_>) -> Result<(), Fault>
+    pub fn put(&self, alloc: Global, out: &mut String, asked: &Diff<'_>) -> Result<(), AllocError>
         ensures ok { OnOk result (string_bytes out.new ≡ string_bytes out.old ++ line_text asked.now self.now) }
-        ensures err { IfErr result (λ fault. fault ≡ Fault.OutOfMemory) }
     {
         match asked.form {
             Form::Line => self.put_told(out, asked.places, asked.color),
@@ -236,9 +227,8 @@ impl Line {
 }
 
 /// Tells that there are more lines.
-pub fn put_more(out: &mut String, form: Form) -> Result<(), Fault>
+pub fn put_more(out: &mut String, form: Form) -> Result<(), AllocError>
     ensures ok { OnOk result (string_bytes out.new ≡ string_bytes out.old ++ more_text form) }
-    ensures err { IfErr result (λ fault. fault ≡ Fault.OutOfMemory) }
 {
     match form {
         Form::Line => out.push_str(MORE)?,
@@ -248,9 +238,8 @@ pub fn put_more(out: &mut String, form: Form) -> Result<(), Fault>
 }
 
 /// Writes what no line tells as an object of JSON.
-fn put_rest_object(out: &mut String, left_out: LeftOut) -> Result<(), Fault>
+fn put_rest_object(out: &mut String, left_out: LeftOut) -> Result<(), AllocError>
     ensures ok { OnOk result (string_bytes out.new ≡ string_bytes out.old ++ rest_object left_out) }
-    ensures err { IfErr result (λ fault. fault ≡ Fault.OutOfMemory) }
 {
     put_number(out, "{\"differences\":", left_out.differences)?;
     put_number(out, ",\"kind\":\"more\",\"moves\":", left_out.moves)?;
@@ -259,9 +248,8 @@ fn put_rest_object(out: &mut String, left_out: LeftOut) -> Result<(), Fault>
 }
 
 /// The same, if there is something.
-fn put_rest_json(out: &mut String, left_out: LeftOut) -> Result<(), Fault>
+fn put_rest_json(out: &mut String, left_out: LeftOut) -> Result<(), AllocError>
     ensures ok { OnOk result (string_bytes out.new ≡ string_bytes out.old ++ rest_json left_out) }
-    ensures err { IfErr result (λ fault. fault ≡ Fault.OutOfMemory) }
 {
     if left_out.is_none() {
         return Ok(());
@@ -270,9 +258,8 @@ fn put_rest_json(out: &mut String, left_out: LeftOut) -> Result<(), Fault>
 }
 
 /// Writes in the form that is asked for what no line tells, if there is something.
-pub(crate) fn put_rest(out: &mut String, form: Form, left_out: LeftOut) -> Result<(), Fault>
+pub(crate) fn put_rest(out: &mut String, form: Form, left_out: LeftOut) -> Result<(), AllocError>
     ensures ok { OnOk result (string_bytes out.new ≡ string_bytes out.old ++ rest_text form left_out) }
-    ensures err { IfErr result (λ fault. fault ≡ Fault.OutOfMemory) }
 {
     match form {
         Form::Line => left_out.put_between(out, "... not listed: ", "\n"),
@@ -282,9 +269,8 @@ pub(crate) fn put_rest(out: &mut String, form: Form, left_out: LeftOut) -> Resul
 
 /// How many other differences a line tells, on a line of its own behind a tab, if there are some.
 #[tactic(auto, using(crate::proofs::LineLaws::others_none, crate::proofs::LineLaws::others_some))]
-fn put_others(out: &mut String, others: usize) -> Result<(), Fault>
+fn put_others(out: &mut String, others: usize) -> Result<(), AllocError>
     ensures ok { OnOk result (string_bytes out.new ≡ string_bytes out.old ++ others_text others) }
-    ensures err { IfErr result (λ fault. fault ≡ Fault.OutOfMemory) }
 {
     if others == 0 {
         return Ok(());
@@ -294,9 +280,8 @@ fn put_others(out: &mut String, others: usize) -> Result<(), Fault>
 }
 
 /// A text, if it is asked for.
-fn put_if(out: &mut String, is_asked: bool, text: &str) -> Result<(), Fault>
+fn put_if(out: &mut String, is_asked: bool, text: &str) -> Result<(), AllocError>
     ensures ok { OnOk result (string_bytes out.new ≡ string_bytes out.old ++ cond is_asked text.now []) }
-    ensures err { IfErr result (λ fault. fault ≡ Fault.OutOfMemory) }
 {
     if is_asked {
         out.push_str(text)?;
@@ -305,9 +290,8 @@ fn put_if(out: &mut String, is_asked: bool, text: &str) -> Result<(), Fault>
 }
 
 /// A column behind another: the text, if there is one, with escapes for the characters that a terminal would not show.
-fn put_column(out: &mut String, text: Option<&str>) -> Result<(), Fault>
+fn put_column(out: &mut String, text: Option<&str>) -> Result<(), AllocError>
     ensures ok { OnOk result (string_bytes out.new ≡ string_bytes out.old ++ column (visible (unwrap_or (option_map (λ told. told.now) text.entry) []))) }
-    ensures err { IfErr result (λ fault. fault ≡ Fault.OutOfMemory) }
 {
     out.push('\t')?;
     if let Some(text) = text {
@@ -317,9 +301,8 @@ fn put_column(out: &mut String, text: Option<&str>) -> Result<(), Fault>
 }
 
 /// A column with a place, if there is one.
-fn put_place(out: &mut String, place: Option<Place>) -> Result<(), Fault>
+fn put_place(out: &mut String, place: Option<Place>) -> Result<(), AllocError>
     ensures ok { OnOk result (string_bytes out.new ≡ string_bytes out.old ++ column (place_text place)) }
-    ensures err { IfErr result (λ fault. fault ≡ Fault.OutOfMemory) }
 {
     out.push('\t')?;
     if let Some(place) = place {

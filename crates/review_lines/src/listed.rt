@@ -1,5 +1,5 @@
 //! Where two streams differ, as a list.
-ghost use Rattle.std.specs.Prelude.{◌≡◌, ◌↔◌, true, map, take, drop, [], IfOk, IfErr};
+ghost use Rattle.std.specs.Prelude.{◌≡◌, ◌↔◌, true, map, take, drop, [], IfOk};
 ghost use Rattle.yaml_definitions.specs.model.Same.{Alike};
 ghost use Rattle.yaml_graph.specs.GraphView.{roots_of, tree};
 ghost use Rattle.yaml_rank.specs.RanksView.{RanksAre};
@@ -15,9 +15,8 @@ use review_patterns::Pattern;
 use review_places::trace::Traced;
 use review_text::both::Both;
 use review_text::options::Diff;
-use std::alloc::Global;
+use std::alloc::{AllocError, Global};
 use yaml_diff::Found;
-use yaml_text::fault::Fault;
 
 /// What a comparison lists: its differences, the pairs of items that moved, what is left out, and whether nothing was found.
 #[derive(Drop)]
@@ -36,10 +35,9 @@ fn lines_listed(
     asked: &Diff<'_>,
     sides: Option<(Traced<'_>, Traced<'_>)>,
     found: &Found,
-) -> Result<Listed, Fault>
+) -> Result<Listed, AllocError>
     requires ranked { RanksAre both.now.graph both.now.ranks }
     ensures ok { IfOk result (ListsFound both.now asked.now found.now) }
-    ensures err { IfErr result (λ fault. fault ≡ Fault.OutOfMemory) }
 {
     let lines = lines_of(alloc, both, &found.list, asked, true, sides)?;
     let room = asked.lines.saturating_sub(lines.len());
@@ -62,11 +60,10 @@ pub fn list_differences(
     asked: &Diff<'_>,
     ignored: &[Pattern<'_>],
     sides: Option<(Traced<'_>, Traced<'_>)>,
-) -> Result<Listed, Fault>
+) -> Result<Listed, AllocError>
     requires ranked { RanksAre both.now.graph both.now.ranks }
     ensures lists { IfOk result (ListsStreams both.now asked.now ignored.now) }
     ensures same { IfOk result (λ told. ignored.now ≡ [] → ((told.same ≡ true) ↔ Alike (map (λ i. tree both.now.graph i.0) (take both.now.documents (roots_of both.now.graph))) (map (λ i. tree both.now.graph i.0) (drop both.now.documents (roots_of both.now.graph))))) }
-    ensures err { IfErr result (λ fault. fault ≡ Fault.OutOfMemory) }
 {
     let found = searched(alloc, both, asked, ignored)?;
     let kept = kept(alloc, both, ignored, found)?;

@@ -1,5 +1,5 @@
 //! The lines of items that moved.
-ghost use Rattle.std.specs.Prelude.{◌≡◌, ◌++◌, ◌-◌, length, None, cond, take, option_map, is_some, string_bytes, OnOk, IfOk, IfSome, IfErr};
+ghost use Rattle.std.specs.Prelude.{◌≡◌, ◌++◌, ◌-◌, length, None, cond, take, option_map, is_some, string_bytes, OnOk, IfOk, IfSome};
 ghost use Rattle.std.specs.List.{sum_by};
 ghost use Rattle.yaml_rank.specs.RanksView.{RanksAre};
 ghost use Rattle.yaml_diff.specs.Lines.{way_of};
@@ -18,11 +18,10 @@ use review_places::trace::Traced;
 use review_text::both::Both;
 use review_text::options::{Diff, Paths};
 use review_text::path::path_text;
-use std::alloc::Global;
+use std::alloc::{AllocError, Global};
 use yaml_diff::{Difference, Found, Move, Step};
 use yaml_path::places::Places;
 use yaml_place::Place;
-use yaml_text::fault::Fault;
 
 /// Whether paths are as the pages show them, with the places of both sides.
 fn is_plain(paths: Paths) -> bool
@@ -36,9 +35,8 @@ fn is_plain(paths: Paths) -> bool
 
 /// The first move of a group as a difference that has no node on either side, and whose path leads to the items.
 #[tactic(auto, using(crate::proofs::MoveLaws::first_none, crate::proofs::MoveLaws::first_some))]
-fn first_of(alloc: Global, moves: &[Move], group: Group) -> Result<Difference, Fault>
+fn first_of(alloc: Global, moves: &[Move], group: Group) -> Result<Difference, AllocError>
     ensures ok { IfOk result (IsFirst moves.now group) }
-    ensures err { IfErr result (λ fault. fault ≡ Fault.OutOfMemory) }
 {
     let Some(one) = moves.get(group.first) else {
         return Ok(Difference {
@@ -68,9 +66,8 @@ fn last_of(moves: &[Move], group: Group) -> Option<Places>
 }
 
 /// Writes where neighbours stand on both sides: the places of the first one and of the last one.
-fn put_range(out: &mut String, first: Step, last: Places) -> Result<(), Fault>
+fn put_range(out: &mut String, first: Step, last: Places) -> Result<(), AllocError>
     ensures ok { OnOk result (string_bytes out.new ≡ string_bytes out.old ++ range_of first last) }
-    ensures err { IfErr result (λ fault. fault ≡ Fault.OutOfMemory) }
 {
     match (first, last) {
         (Step::Item(Places::Both(left, right)), Places::Both(left_end, right_end)) => {
@@ -87,10 +84,9 @@ fn put_range(out: &mut String, first: Step, last: Places) -> Result<(), Fault>
 
 /// What a plain path to an item of a list has before the item's own step.
 #[tactic(auto, using(crate::proofs::MoveLaws::before_alone, crate::proofs::MoveLaws::before_path))]
-fn before_text(alloc: Global, both: &Both<'_>, list: &[Step]) -> Result<String, Fault>
+fn before_text(alloc: Global, both: &Both<'_>, list: &[Step]) -> Result<String, AllocError>
     requires ranked { RanksAre both.now.graph both.now.ranks }
     ensures ok { IfOk result (λ s. string_bytes s ≡ before_text (is_numbered both.now) (way_of both.now.graph list.now)) }
-    ensures err { IfErr result (λ fault. fault ≡ Fault.OutOfMemory) }
 {
     let numbered = is_numbered(both);
     if list.len() == 1 && !numbered {
@@ -107,10 +103,9 @@ fn range_path(
     list: &[Step],
     first: Step,
     last: Places,
-) -> Result<String, Fault>
+) -> Result<String, AllocError>
     requires ranked { RanksAre both.now.graph both.now.ranks }
     ensures ok { IfOk result (λ s. string_bytes s ≡ range_path (is_numbered both.now) first last (way_of both.now.graph list.now)) }
-    ensures err { IfErr result (λ fault. fault ≡ Fault.OutOfMemory) }
 {
     let mut out = before_text(alloc, both, list)?;
     if list.is_empty() {
@@ -129,10 +124,9 @@ fn path_of_both(
     both: &Both<'_>,
     paths: Paths,
     path: &[Step],
-) -> Result<String, Fault>
+) -> Result<String, AllocError>
     requires ranked { RanksAre both.now.graph both.now.ranks }
     ensures ok { IfOk result (λ s. string_bytes s ≡ path_as paths (is_numbered both.now) None None (way_of both.now.graph path.now)) }
-    ensures err { IfErr result (λ fault. fault ≡ Fault.OutOfMemory) }
 {
     let numbered = is_numbered(both);
     match paths {
@@ -144,10 +138,9 @@ fn path_of_both(
 
 /// The path to a list on both sides. Of all documents it is a dot, as the pattern that matches them.
 #[tactic(auto, using(crate::proofs::MoveLaws::list_pasted, crate::proofs::MoveLaws::list_inside, crate::proofs::MoveLaws::list_of_all))]
-fn list_path(alloc: Global, both: &Both<'_>, paths: Paths, list: &[Step]) -> Result<String, Fault>
+fn list_path(alloc: Global, both: &Both<'_>, paths: Paths, list: &[Step]) -> Result<String, AllocError>
     requires ranked { RanksAre both.now.graph both.now.ranks }
     ensures ok { IfOk result (λ s. string_bytes s ≡ list_path paths (is_numbered both.now) (way_of both.now.graph list.now)) }
-    ensures err { IfErr result (λ fault. fault ≡ Fault.OutOfMemory) }
 {
     if !is_plain(paths) {
         return path_of_both(alloc, both, paths, list);
@@ -170,10 +163,9 @@ fn group_path(
     whole: bool,
     last: Option<Places>,
     path: &[Step],
-) -> Result<String, Fault>
+) -> Result<String, AllocError>
     requires ranked { RanksAre both.now.graph both.now.ranks }
     ensures ok { IfOk result (λ s. string_bytes s ≡ group_text paths (is_numbered both.now) both.now.graph whole last path.now) }
-    ensures err { IfErr result (λ fault. fault ≡ Fault.OutOfMemory) }
 {
     let Some((first, list)) = path.split_first() else {
         return Ok(String::new(alloc));
@@ -196,11 +188,10 @@ fn label_if(
     keys: &Option<Keys>,
     group: Group,
     path: &[Step],
-) -> Result<Option<String>, Fault>
+) -> Result<Option<String>, AllocError>
     requires ranked { RanksAre both.now.graph both.now.ranks }
     requires keys { IfSome keys.now (AreKeys both.now) }
     ensures ok { IfOk result (λ told. option_map string_bytes told ≡ cond (is_some keys.now) (label both.now (room_of asked.now.whole) group path.now) None) }
-    ensures err { IfErr result (λ fault. fault ≡ Fault.OutOfMemory) }
 {
     match keys {
         Some(keys) => label_of(alloc, both, keys, group, path, room_of(asked.whole)),
@@ -218,11 +209,10 @@ fn line_of_group(
     group: Group,
     keys: &Option<Keys>,
     places: (Option<Place>, Option<Place>),
-) -> Result<Line, Fault>
+) -> Result<Line, AllocError>
     requires ranked { RanksAre both.now.graph both.now.ranks }
     requires keys { IfSome keys.now (AreKeys both.now) }
     ensures ok { IfOk result (TellsGroup (is_some keys.now) both.now asked.now moves.now group) }
-    ensures err { IfErr result (λ fault. fault ≡ Fault.OutOfMemory) }
 {
     let first = first_of(alloc, moves, group)?;
     let last = last_of(moves, group);
@@ -245,8 +235,7 @@ fn line_of_group(
 }
 
 /// The first move of each group as a difference.
-fn firsts(alloc: Global, moves: &[Move], groups: &[Group]) -> Result<Vec<Difference>, Fault>
-    ensures err { IfErr result (λ fault. fault ≡ Fault.OutOfMemory) }
+fn firsts(alloc: Global, moves: &[Move], groups: &[Group]) -> Result<Vec<Difference>, AllocError>
 {
     let mut list = Vec::new(alloc);
     for group in groups {
@@ -264,11 +253,10 @@ fn lines_of_groups(
     groups: &[Group],
     keys: &Option<Keys>,
     sides: Option<(Traced<'_>, Traced<'_>)>,
-) -> Result<Vec<Line>, Fault>
+) -> Result<Vec<Line>, AllocError>
     requires ranked { RanksAre both.now.graph both.now.ranks }
     requires keys { IfSome keys.now (AreKeys both.now) }
     ensures ok { IfOk result (λ lines. TellsGroups (is_some keys.now) both.now asked.now moves.now groups.now lines.items) }
-    ensures err { IfErr result (λ fault. fault ≡ Fault.OutOfMemory) }
 {
     let firsts = firsts(alloc, moves, groups)?;
     let sides = if firsts.is_empty() { None } else { sides };
@@ -285,11 +273,10 @@ fn lines_of_groups(
 }
 
 /// The keys that name items, where there are labels.
-fn keys_if(alloc: Global, both: &Both<'_>, has_labels: bool) -> Result<Option<Keys>, Fault>
+fn keys_if(alloc: Global, both: &Both<'_>, has_labels: bool) -> Result<Option<Keys>, AllocError>
     requires ranked { RanksAre both.now.graph both.now.ranks }
     ensures are { IfOk result (λ keys. IfSome keys (AreKeys both.now)) }
     ensures told { IfOk result (λ keys. is_some keys ≡ has_labels) }
-    ensures err { IfErr result (λ fault. fault ≡ Fault.OutOfMemory) }
 {
     if has_labels {
         return Ok(Some(Keys::new(alloc, both)?));
@@ -334,10 +321,9 @@ pub(crate) fn lines_of_moves(
     found: &Found,
     room: usize,
     columns: bool,
-) -> Result<MoveLines, Fault>
+) -> Result<MoveLines, AllocError>
     requires ranked { RanksAre both.now.graph both.now.ranks }
     ensures ok { IfOk result (λ told. TellsMoves columns both.now asked.now found.now room told.lines.items told.untold) }
-    ensures err { IfErr result (λ fault. fault ≡ Fault.OutOfMemory) }
 {
     let folds = columns && asked.folds;
     let groups = groups(alloc, folds, is_plain(asked.paths), found)?;

@@ -1,5 +1,5 @@
 //! Where the nodes of differences stand, and which of them have one cause.
-ghost use Rattle.std.specs.Prelude.{◌≡◌, IfErr};
+ghost use Rattle.std.specs.Prelude.{◌≡◌};
 
 use review_folds::Cause;
 use review_places::finder::{Finder, Hand, Seat, Stream};
@@ -7,11 +7,10 @@ use review_places::layout::lay_out_from;
 use review_places::places::{places, unmarked};
 use review_places::trace::Traced;
 use review_text::both::Both;
-use std::alloc::Global;
+use std::alloc::{AllocError, Global};
 use std::collections::BTreeSet;
 use yaml_diff::Difference;
 use yaml_place::Place;
-use yaml_text::fault::Fault;
 
 /// The places of the nodes of each difference, where they are told, and what each has as its cause, where that is known.
 #[derive(Drop)]
@@ -91,8 +90,7 @@ fn seat_at(
     finder: &mut Finder<'_>,
     difference: &Difference,
     hand: Hand,
-) -> Result<Option<Seat>, Fault>
-    ensures err { IfErr result (λ fault. fault ≡ Fault.OutOfMemory) }
+) -> Result<Option<Seat>, AllocError>
 {
     if has_node(difference, hand) {
         return finder.seat(alloc, &difference.path);
@@ -112,8 +110,7 @@ fn side_places(
     hand: Hand,
     side: Traced<'_>,
     lines: usize,
-) -> Result<SidePlaces, Fault>
-    ensures err { IfErr result (λ fault. fault ≡ Fault.OutOfMemory) }
+) -> Result<SidePlaces, AllocError>
 {
     let layout = lay_out_from(alloc, side.trace, side.first, side.end)?;
     let mut finder = Finder::new(alloc, both, stream_of(both, hand), layout);
@@ -156,8 +153,7 @@ fn own_causes(
     alloc: Global,
     lefts: &[Option<Mark>],
     rights: &[Option<Mark>],
-) -> Result<BTreeSet<Cause>, Fault>
-    ensures err { IfErr result (λ fault. fault ≡ Fault.OutOfMemory) }
+) -> Result<BTreeSet<Cause>, AllocError>
 {
     let mut own = BTreeSet::new(alloc);
     for number in 0..lefts.len() {
@@ -176,8 +172,7 @@ fn causes_of(
     alloc: Global,
     lefts: &[Option<Mark>],
     rights: &[Option<Mark>],
-) -> Result<Vec<Option<Cause>>, Fault>
-    ensures err { IfErr result (λ fault. fault ≡ Fault.OutOfMemory) }
+) -> Result<Vec<Option<Cause>>, AllocError>
 {
     let own = own_causes(alloc, lefts, rights)?;
     let mut causes = Vec::new(alloc);
@@ -195,8 +190,7 @@ fn causes_of(
 }
 
 /// The places of one side by the numbers of their lines, of which there are so many.
-fn spread(alloc: Global, places: &[(usize, Place)], len: usize) -> Result<Vec<Option<Place>>, Fault>
-    ensures err { IfErr result (λ fault. fault ≡ Fault.OutOfMemory) }
+fn spread(alloc: Global, places: &[(usize, Place)], len: usize) -> Result<Vec<Option<Place>>, AllocError>
 {
     let mut list = vec![in alloc; None; len]?;
     for (number, place) in places {
@@ -214,8 +208,7 @@ pub(crate) fn find_places(
     list: &[Difference],
     sides: Option<(Traced<'_>, Traced<'_>)>,
     lines: usize,
-) -> Result<Places, Fault>
-    ensures err { IfErr result (λ fault. fault ≡ Fault.OutOfMemory) }
+) -> Result<Places, AllocError>
 {
     match sides {
         Some((left, right)) => {

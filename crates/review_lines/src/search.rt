@@ -1,5 +1,5 @@
 //! The differences and moves of two streams.
-ghost use Rattle.std.specs.Prelude.{◌≡◌, ◌&&◌, ◌==◌, [], true, take, drop, length, IfOk, IfErr};
+ghost use Rattle.std.specs.Prelude.{◌≡◌, ◌&&◌, ◌==◌, [], true, take, drop, length, IfOk};
 ghost use Rattle.yaml_graph.specs.GraphView.{roots_of};
 ghost use Rattle.yaml_rank.specs.RanksView.{RanksAre};
 ghost use Rattle.yaml_diff.specs.Found.{FindsItems, moves_of};
@@ -8,15 +8,13 @@ ghost use Rattle.review_lines.specs.Searched.{least_room, search_room, Searches}
 use review_patterns::Pattern;
 use review_text::both::Both;
 use review_text::options::Diff;
-use std::alloc::Global;
+use std::alloc::{AllocError, Global};
 use yaml_diff::{Found, stream_differences};
 use yaml_graph::graph::Graph;
 use yaml_pair::Asked;
-use yaml_text::fault::Fault;
 
 /// The keys of texts, in each of which commas part them.
-fn keys_of<'a>(alloc: Global, texts: &[&'a str]) -> Result<Vec<&'a str>, Fault>
-    ensures err { IfErr result (λ fault. fault ≡ Fault.OutOfMemory) }
+fn keys_of<'a>(alloc: Global, texts: &[&'a str]) -> Result<Vec<&'a str>, AllocError>
 {
     let mut keys = Vec::new(alloc);
     for text in texts {
@@ -30,11 +28,10 @@ fn keys_of<'a>(alloc: Global, texts: &[&'a str]) -> Result<Vec<&'a str>, Fault>
 }
 
 /// The differences and moves of two streams, at most so many.
-fn list_of(alloc: Global, both: &Both<'_>, asked: &Diff<'_>, room: usize) -> Result<Found, Fault>
+fn list_of(alloc: Global, both: &Both<'_>, asked: &Diff<'_>, room: usize) -> Result<Found, AllocError>
     requires ranked { RanksAre both.now.graph both.now.ranks }
     ensures ok { IfOk result (FindsItems both.now.graph (take both.now.documents (roots_of both.now.graph)) (drop both.now.documents (roots_of both.now.graph)) room) }
     ensures calm { asked.now.by_position ≡ true → IfOk result (λ found. moves_of found ≡ []) }
-    ensures err { IfErr result (λ fault. fault ≡ Fault.OutOfMemory) }
 {
     let (lefts, rights) = both.sides();
     let by = keys_of(alloc, asked.by)?;
@@ -87,10 +84,9 @@ pub(crate) fn searched(
     both: &Both<'_>,
     asked: &Diff<'_>,
     ignored: &[Pattern<'_>],
-) -> Result<Found, Fault>
+) -> Result<Found, AllocError>
     requires ranked { RanksAre both.now.graph both.now.ranks }
     ensures ok { IfOk result (Searches both.now ignored.now asked.now) }
-    ensures err { IfErr result (λ fault. fault ≡ Fault.OutOfMemory) }
 {
     let room = search_room(&both.graph, ignored, asked.lines);
     list_of(alloc, both, asked, room)

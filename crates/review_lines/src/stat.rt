@@ -1,12 +1,11 @@
 //! How many differences and moves there are.
-ghost use Rattle.std.specs.Prelude.{◌≡◌, ◌++◌, decimal, string_bytes, OnOk, IfOk, IfErr};
+ghost use Rattle.std.specs.Prelude.{◌≡◌, ◌++◌, decimal, string_bytes, OnOk, IfOk};
 ghost use Rattle.review_lines.specs.Stat.{is_added, is_removed, is_changed, added, removed, changed, moved, moves_text, whole_text, stat_line, stat_json, numbers_text, stat_text};
 
 use review_text::options::{Diff, Form};
 use review_text::put_shown;
-use std::alloc::Global;
+use std::alloc::{AllocError, Global};
 use yaml_diff::{Difference, Found};
-use yaml_text::fault::Fault;
 
 /// Whether the right side alone has a node.
 fn is_added(difference: &Difference) -> bool
@@ -54,9 +53,8 @@ fn moved(found: &Found) -> usize
 }
 
 /// Writes the number of moves, if there are some.
-fn put_moves(out: &mut String, moves: usize) -> Result<(), Fault>
+fn put_moves(out: &mut String, moves: usize) -> Result<(), AllocError>
     ensures ok { OnOk result (string_bytes out.new ≡ string_bytes out.old ++ moves_text moves) }
-    ensures err { IfErr result (λ fault. fault ≡ Fault.OutOfMemory) }
 {
     if moves > 0 {
         write!(out, " >{moves}")?;
@@ -65,9 +63,8 @@ fn put_moves(out: &mut String, moves: usize) -> Result<(), Fault>
 }
 
 /// Writes the numbers and the name of the right file. Behind numbers that are not all stands `...`.
-fn put_line(out: &mut String, found: &Found, right: &str) -> Result<(), Fault>
+fn put_line(out: &mut String, found: &Found, right: &str) -> Result<(), AllocError>
     ensures ok { OnOk result (string_bytes out.new ≡ string_bytes out.old ++ stat_line found.now right.now) }
-    ensures err { IfErr result (λ fault. fault ≡ Fault.OutOfMemory) }
 {
     let (added, removed, changed) = (added(found), removed(found), changed(found));
     write!(out, "+{added} -{removed} ~{changed}")?;
@@ -79,9 +76,8 @@ fn put_line(out: &mut String, found: &Found, right: &str) -> Result<(), Fault>
 }
 
 /// Writes what stands before a member's number, and the number.
-pub(crate) fn put_number(out: &mut String, front: &str, number: usize) -> Result<(), Fault>
+pub(crate) fn put_number(out: &mut String, front: &str, number: usize) -> Result<(), AllocError>
     ensures ok { OnOk result (string_bytes out.new ≡ string_bytes out.old ++ (front.now ++ decimal number)) }
-    ensures err { IfErr result (λ fault. fault ≡ Fault.OutOfMemory) }
 {
     out.push_str(front)?;
     write!(out, "{number}")?;
@@ -89,9 +85,8 @@ pub(crate) fn put_number(out: &mut String, front: &str, number: usize) -> Result
 }
 
 /// Writes whether all were looked for, and the object's end.
-pub(crate) fn put_whole(out: &mut String, whole: bool) -> Result<(), Fault>
+pub(crate) fn put_whole(out: &mut String, whole: bool) -> Result<(), AllocError>
     ensures ok { OnOk result (string_bytes out.new ≡ string_bytes out.old ++ whole_text whole) }
-    ensures err { IfErr result (λ fault. fault ≡ Fault.OutOfMemory) }
 {
     if whole {
         out.push_str(",\"whole\":true}\n")?;
@@ -102,9 +97,8 @@ pub(crate) fn put_whole(out: &mut String, whole: bool) -> Result<(), Fault>
 }
 
 /// Writes the numbers, and whether they are all, as an object of JSON.
-fn put_json(out: &mut String, found: &Found) -> Result<(), Fault>
+fn put_json(out: &mut String, found: &Found) -> Result<(), AllocError>
     ensures ok { OnOk result (string_bytes out.new ≡ string_bytes out.old ++ stat_json found.now) }
-    ensures err { IfErr result (λ fault. fault ≡ Fault.OutOfMemory) }
 {
     put_number(out, "{\"added\":", added(found))?;
     put_number(out, ",\"changed\":", changed(found))?;
@@ -115,9 +109,8 @@ fn put_json(out: &mut String, found: &Found) -> Result<(), Fault>
 }
 
 /// Writes the numbers in the form that is asked for.
-fn put_numbers(out: &mut String, asked: &Diff<'_>, found: &Found) -> Result<(), Fault>
+fn put_numbers(out: &mut String, asked: &Diff<'_>, found: &Found) -> Result<(), AllocError>
     ensures ok { OnOk result (string_bytes out.new ≡ string_bytes out.old ++ numbers_text asked.now.form found.now asked.now.right.now) }
-    ensures err { IfErr result (λ fault. fault ≡ Fault.OutOfMemory) }
 {
     match asked.form {
         Form::Line => put_line(out, found, asked.right),
@@ -126,9 +119,8 @@ fn put_numbers(out: &mut String, asked: &Diff<'_>, found: &Found) -> Result<(), 
 }
 
 /// The numbers of differences and moves as a line; no line where none is asked for, or where nothing is listed.
-pub(crate) fn stat_text(alloc: Global, asked: &Diff<'_>, found: &Found) -> Result<String, Fault>
+pub(crate) fn stat_text(alloc: Global, asked: &Diff<'_>, found: &Found) -> Result<String, AllocError>
     ensures ok { IfOk result (λ text. string_bytes text ≡ stat_text asked.now found.now) }
-    ensures err { IfErr result (λ fault. fault ≡ Fault.OutOfMemory) }
 {
     let mut out = String::new(alloc);
     if asked.lines == 0 || (found.list.is_empty() && found.moves.is_empty()) {

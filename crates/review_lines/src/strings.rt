@@ -1,5 +1,5 @@
 //! What is shown of two scalars of one tag that differ: their changed lines, or the parts where they differ.
-ghost use Rattle.std.specs.Prelude.{◌≡◌, ◌==◌, ◌++◌, ◌≤◌, [], cond, nat_le, take, drop, length, codes, string_bytes, Some, OnOk, IfOk, IfSome, IfErr};
+ghost use Rattle.std.specs.Prelude.{◌≡◌, ◌==◌, ◌++◌, ◌≤◌, [], cond, nat_le, take, drop, length, codes, string_bytes, Some, OnOk, IfOk, IfSome};
 ghost use Rattle.yaml_scalar.specs.Spelling.{quoted_bytes};
 ghost use Rattle.yaml_definitions.specs.model.Tree.{scalar};
 ghost use Rattle.yaml_graph.specs.GraphView.{tree};
@@ -10,14 +10,12 @@ ghost use Rattle.review_lines.specs.Compared.{IsScalar, part_text, ShowsParts, S
 use crate::lines::Changes;
 use review_text::both::Both;
 use review_text::options::Diff;
-use review_text::text::front;
+use review_text::text::{front, put_spelled};
 use review_values::Room;
-use std::alloc::Global;
+use std::alloc::{AllocError, Global};
 use yaml_diff::Difference;
 use yaml_graph::node::NodeKind;
-use yaml_scalar::spell::spell_into;
 use yaml_script::{Edit, put_script, script_of};
-use yaml_text::fault::Fault;
 use yaml_tree::node::NodeId;
 
 /// How many bytes before the first difference are shown.
@@ -132,20 +130,18 @@ fn dots_behind(rest: &str, room: usize) -> &'static str
 }
 
 /// Writes a part of a content, from a byte on.
-fn put_part(out: &mut String, start: usize, rest: &str, room: usize) -> Result<(), Fault>
+fn put_part(out: &mut String, start: usize, rest: &str, room: usize) -> Result<(), AllocError>
     ensures ok { OnOk result (string_bytes out.new ≡ string_bytes out.old ++ (cond (start == 0) [] (codes "...") ++ (quoted_bytes (front room rest.now) ++ cond (nat_le (length rest.now) room) [] (codes "...")))) }
-    ensures err { IfErr result (λ fault. fault ≡ Fault.OutOfMemory) }
 {
     out.push_str(dots_before(start))?;
-    spell_into(front(rest, room), out)?;
+    put_spelled(out, front(rest, room))?;
     out.push_str(dots_behind(rest, room))?;
     Ok(())
 }
 
 /// The text of a part of a content, from a byte on.
-fn part_of(alloc: Global, start: usize, rest: &str, room: usize) -> Result<String, Fault>
+fn part_of(alloc: Global, start: usize, rest: &str, room: usize) -> Result<String, AllocError>
     ensures ok { IfOk result (λ s. string_bytes s ≡ cond (start == 0) [] (codes "...") ++ (quoted_bytes (front room rest.now) ++ cond (nat_le (length rest.now) room) [] (codes "..."))) }
-    ensures err { IfErr result (λ fault. fault ≡ Fault.OutOfMemory) }
 {
     let mut out = String::new(alloc);
     put_part(&mut out, start, rest, room)?;
@@ -197,9 +193,8 @@ pub(crate) fn differing_parts(
     difference: &Difference,
     room: usize,
     budget: &mut Budget,
-) -> Result<Option<(String, String)>, Fault>
+) -> Result<Option<(String, String)>, AllocError>
     ensures ok { IfOk result (λ told. IfSome told (λ texts. ShowsParts both.now.graph room difference.now (Some texts.0) (Some texts.1))) }
-    ensures err { IfErr result (λ fault. fault ≡ Fault.OutOfMemory) }
 {
     let Some((left, right)) = scalars_of(both, difference) else {
         return Ok(None);
@@ -245,8 +240,7 @@ impl Counts {
 }
 
 /// The groups of changed lines.
-fn groups_of(alloc: Global, edits: &[Edit<'_>]) -> Result<(Vec<Group>, usize), Fault>
-    ensures err { IfErr result (λ fault. fault ≡ Fault.OutOfMemory) }
+fn groups_of(alloc: Global, edits: &[Edit<'_>]) -> Result<(Vec<Group>, usize), AllocError>
 {
     let mut groups: Vec<Group> = Vec::new(alloc);
     let mut lines = 0usize;
@@ -281,8 +275,7 @@ fn groups_of(alloc: Global, edits: &[Edit<'_>]) -> Result<(Vec<Group>, usize), F
 }
 
 /// Writes a number of lines and what becomes of them, if there are any.
-fn put_count(out: &mut String, count: usize, words: &str) -> Result<(), Fault>
-    ensures err { IfErr result (λ fault. fault ≡ Fault.OutOfMemory) }
+fn put_count(out: &mut String, count: usize, words: &str) -> Result<(), AllocError>
 {
     if count > 0 {
         write!(out, ", {count} {words}")?;
@@ -291,8 +284,7 @@ fn put_count(out: &mut String, count: usize, words: &str) -> Result<(), Fault>
 }
 
 /// How many lines the left content has, how many are changed, removed and added, and the left lines at which that is.
-fn summary_of(alloc: Global, edits: &[Edit<'_>]) -> Result<String, Fault>
-    ensures err { IfErr result (λ fault. fault ≡ Fault.OutOfMemory) }
+fn summary_of(alloc: Global, edits: &[Edit<'_>]) -> Result<String, AllocError>
 {
     let (groups, lines) = groups_of(alloc, edits)?;
     let mut counts = Counts {
@@ -322,9 +314,8 @@ fn summary_of(alloc: Global, edits: &[Edit<'_>]) -> Result<String, Fault>
 }
 
 /// The changed lines of an edit script as they are printed.
-fn lines_of(alloc: Global, edits: &[Edit<'_>], asked: &Diff<'_>) -> Result<String, Fault>
+fn lines_of(alloc: Global, edits: &[Edit<'_>], asked: &Diff<'_>) -> Result<String, AllocError>
     ensures ok { IfOk result (λ s. string_bytes s ≡ script_text asked.now.context asked.now.color edits.now) }
-    ensures err { IfErr result (λ fault. fault ≡ Fault.OutOfMemory) }
 {
     let mut text = String::new(alloc);
     put_script(&mut text, edits, asked.context, asked.color)?;
@@ -339,9 +330,8 @@ pub(crate) fn changed_lines(
     difference: &Difference,
     asked: &Diff<'_>,
     budget: &mut Budget,
-) -> Result<Option<Changes>, Fault>
+) -> Result<Option<Changes>, AllocError>
     ensures ok { IfOk result (ShowsChanges both.now.graph asked.now.context asked.now.color difference.now) }
-    ensures err { IfErr result (λ fault. fault ≡ Fault.OutOfMemory) }
 {
     let Some((left, right)) = scalars_of(both, difference) else {
         return Ok(None);

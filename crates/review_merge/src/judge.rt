@@ -66,5 +66,5 @@ pub(crate) fn judge(
 {
     let graph = &four.both.graph;
     let ranks = &four.both.ranks;
-    stream_conflicts(alloc, graph, ranks, roots, given, room)
+    Ok(stream_conflicts(alloc, graph, ranks, roots, given, room)?)
 }

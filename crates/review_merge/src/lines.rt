@@ -1,5 +1,5 @@
 //! The lines of conflicts.
-ghost use Rattle.std.specs.Prelude.{◌≡◌, ◌++◌, ℕ, List, Option, cond, [], map, length, unwrap_or, string_bytes, OnOk, IfOk, IfErr};
+ghost use Rattle.std.specs.Prelude.{◌≡◌, ◌++◌, ℕ, List, Option, cond, [], map, length, unwrap_or, string_bytes, OnOk, IfOk};
 ghost use Rattle.std.specs.Option.{is_some, option_map};
 ghost use Rattle.std.specs.List.{slice_get, enumerate_from};
 ghost use Rattle.yaml_rank.specs.RanksView.{RanksAre};
@@ -18,7 +18,7 @@ use crate::texts::{Budget, texts_of};
 use crate::told::Seats;
 use review_text::path::path_text;
 use review_text::{Both, put_visible};
-use std::alloc::Global;
+use std::alloc::{AllocError, Global};
 use yaml_conflicts::{Conflict, Outcome, Roots, Step};
 use yaml_diff::Step as Shown;
 use yaml_path::places::Places;
@@ -47,9 +47,8 @@ fn color(given: bool) -> &'static str
 }
 
 /// A text, if it is asked for.
-fn put_if(out: &mut String, is_asked: bool, text: &str) -> Result<(), Fault>
+fn put_if(out: &mut String, is_asked: bool, text: &str) -> Result<(), AllocError>
     ensures ok { OnOk result (string_bytes out.new ≡ string_bytes out.old ++ cond is_asked text.now []) }
-    ensures err { IfErr result (λ fault. fault ≡ Fault.OutOfMemory) }
 {
     if is_asked {
         out.push_str(text)?;
@@ -71,9 +70,8 @@ fn name_of(number: usize) -> &'static str
 }
 
 /// The text of a side's node, or that there is none.
-fn put_value(out: &mut String, text: &Option<String>) -> Result<(), Fault>
+fn put_value(out: &mut String, text: &Option<String>) -> Result<(), AllocError>
     ensures ok { OnOk result (string_bytes out.new ≡ string_bytes out.old ++ value_text (option_map string_bytes text.now)) }
-    ensures err { IfErr result (λ fault. fault ≡ Fault.OutOfMemory) }
 {
     match text {
         Some(text) => put_visible(out, text)?,
@@ -83,9 +81,8 @@ fn put_value(out: &mut String, text: &Option<String>) -> Result<(), Fault>
 }
 
 /// A column: whose value it is, and its text, or that there is none.
-fn put_column(out: &mut String, number: usize, text: &Option<String>) -> Result<(), Fault>
+fn put_column(out: &mut String, number: usize, text: &Option<String>) -> Result<(), AllocError>
     ensures ok { OnOk result (string_bytes out.new ≡ string_bytes out.old ++ value_column (number, option_map string_bytes text.now)) }
-    ensures err { IfErr result (λ fault. fault ≡ Fault.OutOfMemory) }
 {
     out.push('\t')?;
     out.push_str(name_of(number))?;
@@ -94,9 +91,8 @@ fn put_column(out: &mut String, number: usize, text: &Option<String>) -> Result<
 }
 
 /// Columns: whose value each is, and its text, or that there is none.
-fn put_values(out: &mut String, texts: &[Option<String>]) -> Result<(), Fault>
+fn put_values(out: &mut String, texts: &[Option<String>]) -> Result<(), AllocError>
     ensures ok { OnOk result (string_bytes out.new ≡ string_bytes out.old ++ values_text (values_in texts.now)) }
-    ensures err { IfErr result (λ fault. fault ≡ Fault.OutOfMemory) }
 {
     'texts: for (number, text) in texts.iter().enumerate() {
         put_column(out, number, text)?;
@@ -105,9 +101,8 @@ fn put_values(out: &mut String, texts: &[Option<String>]) -> Result<(), Fault>
 }
 
 /// A column with a place, which is empty where there is none.
-fn put_place(out: &mut String, place: Option<Place>) -> Result<(), Fault>
+fn put_place(out: &mut String, place: Option<Place>) -> Result<(), AllocError>
     ensures ok { OnOk result (string_bytes out.new ≡ string_bytes out.old ++ column (place_text place)) }
-    ensures err { IfErr result (λ fault. fault ≡ Fault.OutOfMemory) }
 {
     out.push('\t')?;
     if let Some(place) = place {
@@ -119,9 +114,8 @@ fn put_place(out: &mut String, place: Option<Place>) -> Result<(), Fault>
 }
 
 /// A column with the place of each value of a line, which is empty where there is none.
-fn put_places(out: &mut String, seats: &[Seats], number: usize) -> Result<(), Fault>
+fn put_places(out: &mut String, seats: &[Seats], number: usize) -> Result<(), AllocError>
     ensures ok { OnOk result ((places : List (Option Place)) × Tells number seats.now places × (string_bytes out.new ≡ string_bytes out.old ++ places_text places)) }
-    ensures err { IfErr result (λ fault. fault ≡ Fault.OutOfMemory) }
 {
     'seats: for side in seats {
         put_place(out, side.place(number))?;
@@ -140,9 +134,8 @@ fn shown_step(step: Step) -> Shown
 }
 
 /// The steps of a path as `diff` has them.
-fn shown_steps(alloc: Global, path: &[Step]) -> Result<Vec<Shown>, Fault>
+fn shown_steps(alloc: Global, path: &[Step]) -> Result<Vec<Shown>, AllocError>
     ensures ok { IfOk result (λ list. list.items ≡ map shown_step path.now) }
-    ensures err { IfErr result (λ fault. fault ≡ Fault.OutOfMemory) }
 {
     let mut list = Vec::new(alloc);
     'steps: for step in path {
@@ -170,10 +163,9 @@ fn values_of(
     one: &Conflict,
     style: &Style,
     budget: &mut Budget,
-) -> Result<Vec<Option<String>>, Fault>
+) -> Result<Vec<Option<String>>, AllocError>
     requires ranked { RanksAre both.now.graph both.now.ranks }
     ensures ok { IfOk result (λ texts. ShowsValues both.now.graph (nodes_of style.now.given one.now.sides) budget.old.bytes budget.new.bytes (values_in texts.items) style.now.print.whole) }
-    ensures err { IfErr result (λ fault. fault ≡ Fault.OutOfMemory) }
 {
     let sides = one.sides;
     let whole = style.print.whole;
@@ -192,9 +184,8 @@ fn put_line(
     values: &[Option<String>],
     style: &Style,
     number: usize,
-) -> Result<(), Fault>
+) -> Result<(), AllocError>
     ensures ok { OnOk result ((places : List (Option Place)) × Tells number style.now.seats.items places × (string_bytes out.new ≡ string_bytes out.old ++ line_text style.now.given style.now.print.color path.now (values_in values.now) places)) }
-    ensures err { IfErr result (λ fault. fault ≡ Fault.OutOfMemory) }
 {
     put_if(out, style.print.color, color(style.given))?;
     out.push_str(sign(style.given))?;
@@ -208,9 +199,8 @@ fn put_line(
 }
 
 /// How many documents a stream has.
-fn put_count(out: &mut String, whose: &str, count: usize) -> Result<(), Fault>
+fn put_count(out: &mut String, whose: &str, count: usize) -> Result<(), AllocError>
     ensures ok { OnOk result (string_bytes out.new ≡ string_bytes out.old ++ count_text whose.now count) }
-    ensures err { IfErr result (λ fault. fault ≡ Fault.OutOfMemory) }
 {
     let unit = if count == 1 { "document" } else { "documents" };
     write!(out, "\t{whose} {count} {unit}")?;
@@ -218,9 +208,8 @@ fn put_count(out: &mut String, whose: &str, count: usize) -> Result<(), Fault>
 }
 
 /// How many documents the result has, if there is one.
-fn put_result_count(out: &mut String, given: bool, count: usize) -> Result<(), Fault>
+fn put_result_count(out: &mut String, given: bool, count: usize) -> Result<(), AllocError>
     ensures ok { OnOk result (string_bytes out.new ≡ string_bytes out.old ++ result_count_text given count) }
-    ensures err { IfErr result (λ fault. fault ≡ Fault.OutOfMemory) }
 {
     if given {
         put_count(out, "result", count)?;
@@ -234,9 +223,8 @@ fn put_streams(
     roots: &Roots<'_>,
     given: bool,
     is_colored: bool,
-) -> Result<(), Fault>
+) -> Result<(), AllocError>
     ensures ok { OnOk result (string_bytes out.new ≡ string_bytes out.old ++ streams_text given is_colored roots.now) }
-    ensures err { IfErr result (λ fault. fault ≡ Fault.OutOfMemory) }
 {
     put_if(out, is_colored, color(given))?;
     out.push_str(sign(given))?;
@@ -251,9 +239,8 @@ fn put_streams(
 }
 
 /// The paths of conflicts as `diff` has them.
-fn paths_of(alloc: Global, list: &[Conflict]) -> Result<Vec<Vec<Shown>>, Fault>
+fn paths_of(alloc: Global, list: &[Conflict]) -> Result<Vec<Vec<Shown>>, AllocError>
     ensures ok { IfOk result (λ paths. map (λ path. path.items) paths.items ≡ map steps_of list.now) }
-    ensures err { IfErr result (λ fault. fault ≡ Fault.OutOfMemory) }
 {
     let mut paths = Vec::new(alloc);
     'list: for one in list {
@@ -281,11 +268,10 @@ fn put_conflict(
     steps: &[Shown],
     style: &Style,
     budget: &mut Budget,
-) -> Result<(), Fault>
+) -> Result<(), AllocError>
     requires ranked { RanksAre both.now.graph both.now.ranks }
     requires steps { steps.now ≡ steps_of one.1.now }
     ensures ok { OnOk result ((text : List ℕ) × IsStyled both.now style.now (one.entry.0, one.entry.1.now) budget.old.bytes budget.new.bytes text × (string_bytes out.new ≡ string_bytes out.old ++ text)) }
-    ensures err { IfErr result (λ fault. fault ≡ Fault.OutOfMemory) }
 {
     let path = path_text(alloc, both, steps, style.numbered)?;
     let values = values_of(alloc, both, one.1, style, budget)?;
@@ -293,9 +279,8 @@ fn put_conflict(
 }
 
 /// That there are more lines, unless these are all.
-fn put_more(out: &mut String, whole: bool) -> Result<(), Fault>
+fn put_more(out: &mut String, whole: bool) -> Result<(), AllocError>
     ensures ok { OnOk result (string_bytes out.new ≡ string_bytes out.old ++ more_text whole) }
-    ensures err { IfErr result (λ fault. fault ≡ Fault.OutOfMemory) }
 {
     if !whole {
         out.push_str(MORE)?;
@@ -311,11 +296,10 @@ fn put_lines(
     list: &[Conflict],
     paths: &[Vec<Shown>],
     style: &Style,
-) -> Result<(), Fault>
+) -> Result<(), AllocError>
     requires ranked { RanksAre both.now.graph both.now.ranks }
     requires paths { map (λ path. path.items) paths.now ≡ map steps_of list.now }
     ensures ok { OnOk result ((text : List ℕ) × AreLines (IsStyled both.now style.now) (enumerate_from 0 list.now) budget text × (string_bytes out.new ≡ string_bytes out.old ++ text)) }
-    ensures err { IfErr result (λ fault. fault ≡ Fault.OutOfMemory) }
 {
     let mut budget = Budget::new();
     'list: for (number, one) in list.iter().enumerate() {

@@ -21,7 +21,7 @@ fn layout_of(alloc: Global, bytes: &[u8]) -> Result<Layout, Fault>
 {
     let source = Chars::read(bytes)?;
     let trace = trace_of(alloc, &source)?;
-    lay_out(alloc, &trace)
+    Ok(lay_out(alloc, &trace)?)
 }
 
 /// Adds the offset of the node to which a path leads, with the path's number, if there is one.

@@ -1,5 +1,5 @@
 //! The texts of values that differ.
-ghost use Rattle.std.specs.Prelude.{◌≡◌, ◌-◌, ◌<◌, ◌++◌, [], cond, max, map, length, nat_lt, unwrap_or, codes, string_bytes, OnOk, IfOk, IfErr};
+ghost use Rattle.std.specs.Prelude.{◌≡◌, ◌-◌, ◌<◌, ◌++◌, [], cond, max, map, length, nat_lt, unwrap_or, codes, string_bytes, OnOk, IfOk};
 ghost use Rattle.std.specs.Option.{option_map};
 ghost use Rattle.std.specs.Str.{IsCharBoundary};
 ghost use Rattle.yaml_rank.specs.RanksView.{RanksAre};
@@ -8,8 +8,7 @@ ghost use Rattle.review_merge.specs.Parts.{values_in, node_value, node_texts, bu
 
 use review_text::Both;
 use review_text::text::{CUT, WHOLE, front, node_text, put_all};
-use std::alloc::Global;
-use yaml_text::fault::Fault;
+use std::alloc::{AllocError, Global};
 use yaml_tree::node::NodeId;
 
 /// How many bytes are shown before the place by which a text differs.
@@ -45,10 +44,9 @@ fn text_in(
     both: &Both<'_>,
     node: Option<NodeId>,
     room: usize,
-) -> Result<Option<String>, Fault>
+) -> Result<Option<String>, AllocError>
     requires ranked { RanksAre both.now.graph both.now.ranks }
     ensures ok { IfOk result (λ text. option_map string_bytes text ≡ node_value both.now.graph room node) }
-    ensures err { IfErr result (λ fault. fault ≡ Fault.OutOfMemory) }
 {
     match node {
         Some(id) => Ok(Some(node_text(alloc, both, id, room)?)),
@@ -62,10 +60,9 @@ fn texts_in(
     both: &Both<'_>,
     nodes: &[Option<NodeId>],
     room: usize,
-) -> Result<Vec<Option<String>>, Fault>
+) -> Result<Vec<Option<String>>, AllocError>
     requires ranked { RanksAre both.now.graph both.now.ranks }
     ensures ok { IfOk result (λ texts. values_in texts.items ≡ node_texts both.now.graph room nodes.now) }
-    ensures err { IfErr result (λ fault. fault ≡ Fault.OutOfMemory) }
 {
     let mut texts = Vec::new(alloc);
     'nodes: for node in nodes {
@@ -169,9 +166,8 @@ fn part_start(text: &str, place: usize) -> usize
 }
 
 /// A text of up to 60 bytes, or the front of a longer one, and dots.
-fn put_front(out: &mut String, text: &str) -> Result<(), Fault>
+fn put_front(out: &mut String, text: &str) -> Result<(), AllocError>
     ensures ok { OnOk result (string_bytes out.new ≡ string_bytes out.old ++ shown 60 text.now) }
-    ensures err { IfErr result (λ fault. fault ≡ Fault.OutOfMemory) }
 {
     if text.len() > CUT {
         return put_all(out, &[front(text, CUT), MORE]);
@@ -181,9 +177,8 @@ fn put_front(out: &mut String, text: &str) -> Result<(), Fault>
 }
 
 /// The part of a text near a place, with dots for what is left out.
-fn part_of(alloc: Global, text: &str, place: usize) -> Result<String, Fault>
+fn part_of(alloc: Global, text: &str, place: usize) -> Result<String, AllocError>
     ensures ok { IfOk result (λ part. string_bytes part ≡ part_of place text.now) }
-    ensures err { IfErr result (λ fault. fault ≡ Fault.OutOfMemory) }
 {
     let start = part_start(text, place);
     let rest = &text[start..];
@@ -199,9 +194,8 @@ fn looks_like(
     wholes: &[Option<String>],
     one: &str,
     other: &str,
-) -> Result<bool, Fault>
+) -> Result<bool, AllocError>
     ensures ok { IfOk result (λ is. is ≡ looks_like (values_in wholes.now) one.now other.now) }
-    ensures err { IfErr result (λ fault. fault ≡ Fault.OutOfMemory) }
 {
     if one == other {
         return Ok(false);
@@ -217,9 +211,8 @@ fn place_behind(
     wholes: &[Option<String>],
     before: &[Option<String>],
     text: &str,
-) -> Result<usize, Fault>
+) -> Result<usize, AllocError>
     ensures ok { IfOk result (λ place. place ≡ place_behind (values_in wholes.now) (values_in before.now) text.now) }
-    ensures err { IfErr result (λ fault. fault ≡ Fault.OutOfMemory) }
 {
     'others: for other in before {
         if let Some(other) = other {
@@ -237,9 +230,8 @@ fn part_behind(
     wholes: &[Option<String>],
     before: &[Option<String>],
     whole: &Option<String>,
-) -> Result<Option<String>, Fault>
+) -> Result<Option<String>, AllocError>
     ensures ok { IfOk result (λ part. option_map string_bytes part ≡ option_map (part_behind (values_in wholes.now) (values_in before.now)) (option_map string_bytes whole.now)) }
-    ensures err { IfErr result (λ fault. fault ≡ Fault.OutOfMemory) }
 {
     match whole {
         Some(text) => {
@@ -251,9 +243,8 @@ fn part_behind(
 }
 
 /// The parts of texts by which they differ.
-fn parts_of(alloc: Global, wholes: &[Option<String>]) -> Result<Vec<Option<String>>, Fault>
+fn parts_of(alloc: Global, wholes: &[Option<String>]) -> Result<Vec<Option<String>>, AllocError>
     ensures ok { IfOk result (λ parts. values_in parts.items ≡ parts_behind (values_in wholes.now) [] (values_in wholes.now)) }
-    ensures err { IfErr result (λ fault. fault ≡ Fault.OutOfMemory) }
 {
     let mut parts = Vec::new(alloc);
     'wholes: for (at, whole) in wholes.iter().enumerate() {
@@ -289,11 +280,10 @@ fn node_parts(
     both: &Both<'_>,
     nodes: &[Option<NodeId>],
     budget: &mut Budget,
-) -> Result<Vec<Option<String>>, Fault>
+) -> Result<Vec<Option<String>>, AllocError>
     requires ranked { RanksAre both.now.graph both.now.ranks }
     requires some_left { 0 < budget.old.bytes }
     ensures ok { IfOk result (λ texts. ShowsParts both.now.graph nodes.now budget.old.bytes budget.new.bytes (values_in texts.items)) }
-    ensures err { IfErr result (λ fault. fault ≡ Fault.OutOfMemory) }
 {
     let wholes = texts_in(alloc, both, nodes, WHOLE)?;
     budget.bytes = left_of(budget.bytes, &wholes);
@@ -307,10 +297,9 @@ pub(crate) fn texts_of(
     nodes: &[Option<NodeId>],
     whole: bool,
     budget: &mut Budget,
-) -> Result<Vec<Option<String>>, Fault>
+) -> Result<Vec<Option<String>>, AllocError>
     requires ranked { RanksAre both.now.graph both.now.ranks }
     ensures ok { IfOk result (λ texts. ShowsValues both.now.graph nodes.now budget.old.bytes budget.new.bytes (values_in texts.items) whole) }
-    ensures err { IfErr result (λ fault. fault ≡ Fault.OutOfMemory) }
 {
     if whole {
         return texts_in(alloc, both, nodes, WHOLE);

@@ -1,5 +1,5 @@
 //! Which keys filters and pointers can have.
-ghost use Rattle.std.specs.Prelude.{◌≡◌, ◌&&◌, ◌==◌, not, length, map, reverse, option_map, bytes_eq, nat_le, IfOk, IfErr};
+ghost use Rattle.std.specs.Prelude.{◌≡◌, ◌&&◌, ◌==◌, not, length, map, reverse, option_map, bytes_eq, nat_le, IfOk};
 ghost use Rattle.std.specs.List.{list_all};
 ghost use Rattle.yaml_definitions.specs.model.Tag.{str_tag};
 ghost use Rattle.yaml_graph.specs.GraphView.{tree};
@@ -12,11 +12,10 @@ ghost use Rattle.review_paths.specs.Pasted.{str_content, is_no_tab, is_seen, is_
 use review_text::both::Both;
 use review_text::text::WHOLE;
 use review_text::{put_shown, put_visible};
-use std::alloc::Global;
+use std::alloc::{AllocError, Global};
 use yaml_diff::Step;
 use yaml_graph::node::NodeKind;
 use yaml_text::core_tag;
-use yaml_text::fault::Fault;
 use yaml_tree::node::NodeId;
 
 /// Whether a tag is that of strings.
@@ -61,9 +60,8 @@ fn has_no_tab(text: &str) -> bool
 }
 
 /// Whether a terminal shows each character of a text as itself.
-fn is_seen(alloc: Global, text: &str) -> Result<bool, Fault>
+fn is_seen(alloc: Global, text: &str) -> Result<bool, AllocError>
     ensures ok { IfOk result (λ seen. seen ≡ is_seen text.now) }
-    ensures err { IfErr result (λ fault. fault ≡ Fault.OutOfMemory) }
 {
     let mut shown = String::new(alloc);
     put_shown(&mut shown, text)?;
@@ -80,9 +78,8 @@ fn is_short(text: &str) -> bool
 }
 
 /// Whether a key of this content can be pasted.
-fn is_fit(alloc: Global, text: &str) -> Result<bool, Fault>
+fn is_fit(alloc: Global, text: &str) -> Result<bool, AllocError>
     ensures ok { IfOk result (λ fit. fit ≡ is_fit text.now) }
-    ensures err { IfErr result (λ fault. fault ≡ Fault.OutOfMemory) }
 {
     if !is_short(text) {
         return Ok(false);
@@ -91,9 +88,8 @@ fn is_fit(alloc: Global, text: &str) -> Result<bool, Fault>
 }
 
 /// Whether a step can be pasted: to an item, or to the value of a key that is a string, short and seen.
-fn fits_step(alloc: Global, both: &Both<'_>, step: Step) -> Result<bool, Fault>
+fn fits_step(alloc: Global, both: &Both<'_>, step: Step) -> Result<bool, AllocError>
     ensures ok { IfOk result (λ fits. fits ≡ fits_step (step_of both.now.graph step)) }
-    ensures err { IfErr result (λ fault. fault ≡ Fault.OutOfMemory) }
 {
     match step {
         Step::Item(_) => Ok(true),
@@ -112,9 +108,8 @@ fn are(one: bool, other: bool) -> bool
 }
 
 /// Whether all steps can be pasted, of which the last one comes first.
-pub(crate) fn fits(alloc: Global, both: &Both<'_>, steps: &[Step]) -> Result<bool, Fault>
+pub(crate) fn fits(alloc: Global, both: &Both<'_>, steps: &[Step]) -> Result<bool, AllocError>
     ensures ok { IfOk result (λ fits. fits ≡ list_all (λ step. fits_step (step_of both.now.graph step)) (reverse steps.now)) }
-    ensures err { IfErr result (λ fault. fault ≡ Fault.OutOfMemory) }
 {
     let mut all = true;
     'steps: for step in steps.iter().rev() {

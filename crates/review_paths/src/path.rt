@@ -1,5 +1,5 @@
 //! Paths as filters of jq and as JSON pointers.
-ghost use Rattle.std.specs.Prelude.{◌≡◌, ◌++◌, map, reverse, string_bytes, IfOk, IfErr};
+ghost use Rattle.std.specs.Prelude.{◌≡◌, ◌++◌, map, reverse, string_bytes, IfOk};
 ghost use Rattle.std.specs.List.{list_all, flat_map};
 ghost use Rattle.yaml_graph.specs.declared.graph.Graph.{Graph};
 ghost use Rattle.yaml_rank.specs.RanksView.{RanksAre};
@@ -10,9 +10,8 @@ use crate::fit::fits;
 use crate::step::put_steps;
 use review_text::both::Both;
 use review_text::path::path_text;
-use std::alloc::Global;
+use std::alloc::{AllocError, Global};
 use yaml_diff::Step;
-use yaml_text::fault::Fault;
 
 /// The steps that are written: without that to the document, unless its number is told.
 fn kept<'p>(path: &'p [Step], numbered: bool) -> &'p [Step]
@@ -38,9 +37,8 @@ fn has_dot(text: &str) -> bool
 }
 
 /// A text with a dot before it, unless it has one.
-fn dotted(alloc: Global, text: String) -> Result<String, Fault>
+fn dotted(alloc: Global, text: String) -> Result<String, AllocError>
     ensures ok { IfOk result (λ s. string_bytes s ≡ dotted (string_bytes text)) }
-    ensures err { IfErr result (λ fault. fault ≡ Fault.OutOfMemory) }
 {
     if has_dot(&text) {
         return Ok(text);
@@ -52,9 +50,8 @@ fn dotted(alloc: Global, text: String) -> Result<String, Fault>
 }
 
 /// A filter begins with a dot.
-fn begun(alloc: Global, text: String, is_filter: bool) -> Result<String, Fault>
+fn begun(alloc: Global, text: String, is_filter: bool) -> Result<String, AllocError>
     ensures ok { IfOk result (λ s. string_bytes s ≡ begun is_filter (string_bytes text)) }
-    ensures err { IfErr result (λ fault. fault ≡ Fault.OutOfMemory) }
 {
     if is_filter {
         dotted(alloc, text)
@@ -64,10 +61,9 @@ fn begun(alloc: Global, text: String, is_filter: bool) -> Result<String, Fault>
 }
 
 /// What is written where a step cannot be pasted: the path as `path_text` has it, behind `!`.
-fn unfit(alloc: Global, both: &Both<'_>, path: &[Step], numbered: bool) -> Result<String, Fault>
+fn unfit(alloc: Global, both: &Both<'_>, path: &[Step], numbered: bool) -> Result<String, AllocError>
     requires ranked { RanksAre both.now.graph both.now.ranks }
     ensures ok { IfOk result (λ s. string_bytes s ≡ unfit numbered (way_of both.now.graph path.now)) }
-    ensures err { IfErr result (λ fault. fault ≡ Fault.OutOfMemory) }
 {
     let plain = path_text(alloc, both, path, numbered)?;
     let mut text = String::new(alloc);
@@ -84,10 +80,9 @@ fn side_text(
     numbered: bool,
     is_filter: bool,
     is_left: bool,
-) -> Result<String, Fault>
+) -> Result<String, AllocError>
     requires ranked { RanksAre both.now.graph both.now.ranks }
     ensures ok { IfOk result (λ s. string_bytes s ≡ side_text is_filter numbered is_left (way_of both.now.graph path.now)) }
-    ensures err { IfErr result (λ fault. fault ≡ Fault.OutOfMemory) }
 {
     let steps = kept(path, numbered);
     let fit = fits(alloc, both, steps)?;
@@ -110,10 +105,9 @@ fn column_text(
     is_filter: bool,
     is_left: bool,
     is_there: bool,
-) -> Result<String, Fault>
+) -> Result<String, AllocError>
     requires ranked { RanksAre both.now.graph both.now.ranks }
     ensures ok { IfOk result (λ s. string_bytes s ≡ column_text is_there is_filter numbered is_left (way_of both.now.graph path.now)) }
-    ensures err { IfErr result (λ fault. fault ≡ Fault.OutOfMemory) }
 {
     if is_there {
         return side_text(alloc, both, path, numbered, is_filter, is_left);
@@ -138,10 +132,9 @@ pub fn pasted(
     is_filter: bool,
     has_left: bool,
     has_right: bool,
-) -> Result<String, Fault>
+) -> Result<String, AllocError>
     requires ranked { RanksAre both.now.graph both.now.ranks }
     ensures ok { IfOk result (λ s. string_bytes s ≡ pasted is_filter numbered has_left has_right (way_of both.now.graph path.now)) }
-    ensures err { IfErr result (λ fault. fault ≡ Fault.OutOfMemory) }
 {
     let mut text = column_text(alloc, both, path, numbered, is_filter, true, has_left)?;
     let right = column_text(alloc, both, path, numbered, is_filter, false, has_right)?;

@@ -1,5 +1,5 @@
 //! Steps of filters and of pointers.
-ghost use Rattle.std.specs.Prelude.{◌≡◌, ◌++◌, ◌&&◌, cond, unwrap_or, reverse, string_bytes, OnOk, IfErr};
+ghost use Rattle.std.specs.Prelude.{◌≡◌, ◌++◌, ◌&&◌, cond, unwrap_or, reverse, string_bytes, OnOk};
 ghost use Rattle.std.specs.List.{list_all, flat_map};
 ghost use Rattle.std.specs.Str.{encode_utf8_all};
 ghost use Rattle.yaml_graph.specs.GraphView.{tree};
@@ -8,15 +8,14 @@ ghost use Rattle.review_paths.specs.Pasted.{side_place, filter_char, pointer_cha
 
 use crate::fit::content_of;
 use review_text::both::Both;
+use std::alloc::AllocError;
 use yaml_diff::Step;
 use yaml_path::places::Places;
-use yaml_text::fault::Fault;
 use yaml_tree::node::NodeId;
 
 /// Writes a character of a string in a filter: `"` and `\` behind a `\`.
-fn put_filter_char(out: &mut String, c: char) -> Result<(), Fault>
+fn put_filter_char(out: &mut String, c: char) -> Result<(), AllocError>
     ensures ok { OnOk result (string_bytes out.new ≡ string_bytes out.old ++ encode_utf8_all (filter_char c)) }
-    ensures err { IfErr result (λ fault. fault ≡ Fault.OutOfMemory) }
 {
     match c {
         '"' => out.push_str("\\\"")?,
@@ -27,9 +26,8 @@ fn put_filter_char(out: &mut String, c: char) -> Result<(), Fault>
 }
 
 /// Writes a character of a pointer's token: `~0` for `~`, and `~1` for `/`.
-fn put_pointer_char(out: &mut String, c: char) -> Result<(), Fault>
+fn put_pointer_char(out: &mut String, c: char) -> Result<(), AllocError>
     ensures ok { OnOk result (string_bytes out.new ≡ string_bytes out.old ++ encode_utf8_all (pointer_char c)) }
-    ensures err { IfErr result (λ fault. fault ≡ Fault.OutOfMemory) }
 {
     match c {
         '~' => out.push_str("~0")?,
@@ -40,9 +38,8 @@ fn put_pointer_char(out: &mut String, c: char) -> Result<(), Fault>
 }
 
 /// Writes a character of a key.
-fn put_char(out: &mut String, c: char, is_filter: bool) -> Result<(), Fault>
+fn put_char(out: &mut String, c: char, is_filter: bool) -> Result<(), AllocError>
     ensures ok { OnOk result (string_bytes out.new ≡ string_bytes out.old ++ encode_utf8_all (escaped_char is_filter c)) }
-    ensures err { IfErr result (λ fault. fault ≡ Fault.OutOfMemory) }
 {
     if is_filter {
         put_filter_char(out, c)
@@ -52,9 +49,8 @@ fn put_char(out: &mut String, c: char, is_filter: bool) -> Result<(), Fault>
 }
 
 /// Writes the characters of a key.
-fn put_escaped(out: &mut String, text: &str, is_filter: bool) -> Result<(), Fault>
+fn put_escaped(out: &mut String, text: &str, is_filter: bool) -> Result<(), AllocError>
     ensures ok { OnOk result (string_bytes out.new ≡ string_bytes out.old ++ escaped is_filter text.now) }
-    ensures err { IfErr result (λ fault. fault ≡ Fault.OutOfMemory) }
 {
     'chars: for c in text.chars() {
         put_char(out, c, is_filter)?;
@@ -94,9 +90,8 @@ fn is_filter_name(text: &str) -> bool
 }
 
 /// Writes the step of a filter to the value of a key.
-fn put_filter_key(out: &mut String, content: &str) -> Result<(), Fault>
+fn put_filter_key(out: &mut String, content: &str) -> Result<(), AllocError>
     ensures ok { OnOk result (string_bytes out.new ≡ string_bytes out.old ++ filter_key content.now) }
-    ensures err { IfErr result (λ fault. fault ≡ Fault.OutOfMemory) }
 {
     if is_filter_name(content) {
         out.push('.')?;
@@ -110,18 +105,16 @@ fn put_filter_key(out: &mut String, content: &str) -> Result<(), Fault>
 }
 
 /// Writes the step of a pointer to the value of a key.
-fn put_pointer_key(out: &mut String, content: &str) -> Result<(), Fault>
+fn put_pointer_key(out: &mut String, content: &str) -> Result<(), AllocError>
     ensures ok { OnOk result (string_bytes out.new ≡ string_bytes out.old ++ pointer_key content.now) }
-    ensures err { IfErr result (λ fault. fault ≡ Fault.OutOfMemory) }
 {
     out.push('/')?;
     put_escaped(out, content, false)
 }
 
 /// Writes the step to the value of a key.
-fn put_key(out: &mut String, content: &str, is_filter: bool) -> Result<(), Fault>
+fn put_key(out: &mut String, content: &str, is_filter: bool) -> Result<(), AllocError>
     ensures ok { OnOk result (string_bytes out.new ≡ string_bytes out.old ++ key_step is_filter content.now) }
-    ensures err { IfErr result (λ fault. fault ≡ Fault.OutOfMemory) }
 {
     if is_filter {
         put_filter_key(out, content)
@@ -131,9 +124,8 @@ fn put_key(out: &mut String, content: &str, is_filter: bool) -> Result<(), Fault
 }
 
 /// Writes the step to the item at a place.
-fn put_item(out: &mut String, place: usize, is_filter: bool) -> Result<(), Fault>
+fn put_item(out: &mut String, place: usize, is_filter: bool) -> Result<(), AllocError>
     ensures ok { OnOk result (string_bytes out.new ≡ string_bytes out.old ++ item_step is_filter place) }
-    ensures err { IfErr result (λ fault. fault ≡ Fault.OutOfMemory) }
 {
     if is_filter {
         write!(out, "[{place}]")?;
@@ -160,9 +152,8 @@ fn put_step(
     step: Step,
     is_filter: bool,
     is_left: bool,
-) -> Result<(), Fault>
+) -> Result<(), AllocError>
     ensures ok { OnOk result (string_bytes out.new ≡ string_bytes out.old ++ pasted_step is_filter is_left (step_of both.now.graph step)) }
-    ensures err { IfErr result (λ fault. fault ≡ Fault.OutOfMemory) }
 {
     match step {
         Step::Item(places) => put_item(out, side_place(is_left, places), is_filter),
@@ -181,9 +172,8 @@ pub(crate) fn put_steps(
     steps: &[Step],
     is_filter: bool,
     is_left: bool,
-) -> Result<(), Fault>
+) -> Result<(), AllocError>
     ensures ok { OnOk result (string_bytes out.new ≡ string_bytes out.old ++ flat_map (λ step. pasted_step is_filter is_left (step_of both.now.graph step)) (reverse steps.now)) }
-    ensures err { IfErr result (λ fault. fault ≡ Fault.OutOfMemory) }
 {
     'steps: for step in steps.iter().rev() {
         put_step(out, both, *step, is_filter, is_left)?;

@@ -1,5 +1,5 @@
 //! Where the nodes of differences stand.
-ghost use Rattle.std.specs.Prelude.{◌≡◌, ◌+◌, ◌*◌, ◌∷◌, [], ℕ, Some, None, length, nat_lt, slice_get, option_map, IfOk, IfErr, IfSome, IfNone};
+ghost use Rattle.std.specs.Prelude.{◌≡◌, ◌+◌, ◌*◌, ◌∷◌, [], ℕ, Some, None, length, nat_lt, slice_get, option_map, IfOk, IfSome, IfNone};
 ghost use Rattle.yaml_tree.specs.declared.node.NodeId.{NodeId};
 ghost use Rattle.yaml_diff.specs.Found.{HasEntries};
 ghost use Rattle.review_places.specs.Layout.{offsets_of, alias_events, node_numbers, node_told};
@@ -8,11 +8,10 @@ ghost use Rattle.review_places.specs.Seats.{layout_of, both_of, place_on, IsRank
 use crate::keys::Keys;
 use crate::layout::Layout;
 use review_text::Both;
-use std::alloc::Global;
+use std::alloc::{AllocError, Global};
 use yaml_diff::Step;
 use yaml_graph::node::NodeKind;
 use yaml_path::places::Places;
-use yaml_text::fault::Fault;
 use yaml_tree::node::NodeId;
 
 /// One of the two streams.
@@ -102,12 +101,11 @@ impl<'g> Finder<'g> {
         mapping: NodeId,
         entries: &[(NodeId, NodeId)],
         key: NodeId,
-    ) -> Result<Option<(NodeId, usize)>, Fault>
+    ) -> Result<Option<(NodeId, usize)>, AllocError>
         requires { HasEntries (both_of self.now).graph mapping.0 entries.now }
         ensures same { SameStream self.old self.new }
         ensures some { IfOk result (λ found. IfSome found (λ value. IsValue (both_of self.old) mapping key value.0 value.1)) }
         ensures none { IfOk result (λ found. IfNone found ((part : NodeId) (number : ℕ) → IsValue (both_of self.old) mapping key part number → ⊥)) }
-        ensures err { IfErr result (λ fault. fault ≡ Fault.OutOfMemory) }
     {
         let Some(rank) = self.keys.both.rank(key) else {
             return Ok(None);
@@ -124,11 +122,10 @@ impl<'g> Finder<'g> {
         alloc: Global,
         node: NodeId,
         step: Step,
-    ) -> Result<Option<(NodeId, usize)>, Fault>
+    ) -> Result<Option<(NodeId, usize)>, AllocError>
         ensures same { SameStream self.old self.new }
         ensures down { IfOk result (λ found. IfSome found (λ part. LeadsDown (both_of self.old) self.old.stream.hand step node part.0 part.1)) }
         ensures none { IfOk result (λ found. IfNone found ((part : NodeId) (number : ℕ) → LeadsDown (both_of self.old) self.old.stream.hand step node part number → ⊥)) }
-        ensures err { IfErr result (λ fault. fault ≡ Fault.OutOfMemory) }
     {
         let Some(whole) = self.keys.both.node(node) else {
             return Ok(None);
@@ -171,11 +168,10 @@ impl<'g> Finder<'g> {
         node: NodeId,
         event: usize,
         step: Step,
-    ) -> Result<Option<(NodeId, usize)>, Fault>
+    ) -> Result<Option<(NodeId, usize)>, AllocError>
         ensures same { SameStream self.old self.new }
         ensures leads { IfOk result (λ found. IfSome found (λ part. IsPart (both_of self.old) self.old.stream self.old.layout step node event part.0 part.1)) }
         ensures none { IfOk result (λ found. IfNone found (IsRanked (both_of self.old) → (part : NodeId) (below : ℕ) → IsPart (both_of self.old) self.old.stream self.old.layout step node event part below → ⊥)) }
-        ensures err { IfErr result (λ fault. fault ≡ Fault.OutOfMemory) }
     {
         let Some(part) = self.step_down(alloc, node, step)? else {
             return Ok(None);
@@ -194,11 +190,10 @@ impl<'g> Finder<'g> {
     }
 
     /// The node and the event to which a path leads, the last step first; and whether no alias is on the way.
-    fn walk(&mut self, alloc: Global, path: &[Step]) -> Result<Option<(NodeId, usize, bool)>, Fault>
+    fn walk(&mut self, alloc: Global, path: &[Step]) -> Result<Option<(NodeId, usize, bool)>, AllocError>
         ensures same { SameStream self.old self.new }
         ensures leads { IfOk result (λ found. IfSome found (λ end. IsEnd (both_of self.old) self.old.stream self.old.layout path.now end.0 end.1 end.2)) }
         ensures none { IfOk result (λ found. IfNone found (EndsNowhere (both_of self.old) self.old.stream self.old.layout path.now)) }
-        ensures err { IfErr result (λ fault. fault ≡ Fault.OutOfMemory) }
     {
         let Some((step, rest)) = path.split_first() else {
             return Ok(None);
@@ -220,11 +215,10 @@ impl<'g> Finder<'g> {
     ///
     /// # Errors
     /// `OutOfMemory`
-    pub fn seat(&mut self, alloc: Global, path: &[Step]) -> Result<Option<Seat>, Fault>
+    pub fn seat(&mut self, alloc: Global, path: &[Step]) -> Result<Option<Seat>, AllocError>
         ensures seat { IfOk result (λ found. IfSome found (IsSeat self.old path.now)) }
         ensures none { IfOk result (λ found. IfNone found (HasNoSeat self.old path.now)) }
         ensures same { SameStream self.old self.new }
-        ensures err { IfErr result (λ fault. fault ≡ Fault.OutOfMemory) }
     {
         let Some(end) = self.walk(alloc, path)? else {
             return Ok(None);

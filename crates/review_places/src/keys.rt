@@ -1,5 +1,5 @@
 //! The entries of mappings by the ranks of their keys.
-ghost use Rattle.std.specs.Prelude.{◌≡◌, ◌≢◌, ℕ, Vec, Some, IfOk, IfErr, IfSome, IfNone};
+ghost use Rattle.std.specs.Prelude.{◌≡◌, ◌≢◌, ℕ, Vec, Some, IfOk, IfSome, IfNone};
 ghost use Rattle.std.specs.List.{All, Contains};
 ghost use Rattle.std.specs.List.Sorted.{IsNonDecreasingBy};
 ghost use Rattle.std.specs.BTreeMap.{get};
@@ -10,9 +10,8 @@ ghost use Rattle.yaml_diff.specs.Found.{HasEntries};
 ghost use Rattle.review_places.specs.Tables.{rank_at, IsKeyTable, IsTableOf};
 
 use review_text::Both;
-use std::alloc::Global;
+use std::alloc::{AllocError, Global};
 use std::collections::BTreeMap;
-use yaml_text::fault::Fault;
 use yaml_tree::node::NodeId;
 
 /// The ranks of the keys of entries, which rise, each with its entry's place in the file.
@@ -20,9 +19,8 @@ fn key_table(
     alloc: Global,
     both: &Both<'_>,
     entries: &[(NodeId, NodeId)],
-) -> Result<Vec<(usize, usize)>, Fault>
+) -> Result<Vec<(usize, usize)>, AllocError>
     ensures ok { IfOk result (λ table. IsKeyTable both.now entries.now table.items) }
-    ensures err { IfErr result (λ fault. fault ≡ Fault.OutOfMemory) }
 {
     let mut table = Vec::new(alloc);
     'entries: for (place, entry) in entries.iter().enumerate() {
@@ -73,12 +71,11 @@ impl<'g> Keys<'g> {
         mapping: NodeId,
         entries: &[(NodeId, NodeId)],
         rank: usize,
-    ) -> Result<Option<usize>, Fault>
+    ) -> Result<Option<usize>, AllocError>
         requires { HasEntries self.now.both.now.graph mapping.0 entries.now }
         ensures same { self.new.both.now ≡ self.old.both.now }
         ensures some { IfOk result (λ found. IfSome found (λ place. rank_at self.old.both.now entries.now place ≡ Some rank)) }
         ensures none { IfOk result (λ found. IfNone found ((place : ℕ) → rank_at self.old.both.now entries.now place ≡ Some rank → ⊥)) }
-        ensures err { IfErr result (λ fault. fault ≡ Fault.OutOfMemory) }
     {
         if let Some(table) = self.tables.get(&mapping.0) {
             return Ok(place_in(table, rank));

@@ -1,14 +1,13 @@
 //! Where the nodes of a stream stand: the events of each node's parts.
-ghost use Rattle.std.specs.Prelude.{◌≡◌, ℕ, ◌+◌, List, [], Some, drop, slice_get, slice_set, IfOk, IfErr, OnOk};
+ghost use Rattle.std.specs.Prelude.{◌≡◌, ℕ, ◌+◌, List, [], Some, drop, slice_get, slice_set, IfOk, OnOk};
 ghost use Rattle.std.specs.Bool.{OnTrue};
 ghost use Rattle.review_places.specs.Trace.{shapes_in, offsets_in, events_in};
 ghost use Rattle.review_places.specs.Layout.{offsets_of, node_numbers, Stands, IsWhole, IsLayout};
 ghost use Rattle.review_places.specs.declared.layout.Open.{Open};
 
 use crate::trace::{Noted, Shape, Trace};
-use std::alloc::Global;
+use std::alloc::{AllocError, Global};
 use std::collections::BTreeMap;
-use yaml_text::fault::Fault;
 
 /// Of an event that begins no node, and is no alias of a whole one.
 const NONE: u32 = u32::MAX;
@@ -108,22 +107,20 @@ struct Open {
 }
 
 /// A node's number in four bytes, of which the greatest tells that there is none.
-fn number_of(len: usize) -> Result<u32, Fault>
+fn number_of(len: usize) -> Result<u32, AllocError>
     ensures ok { IfOk result (λ n. n ≡ len) }
-    ensures err { IfErr result (λ fault. fault ≡ Fault.OutOfMemory) }
 {
     match u32::try_from(len) {
         Ok(number) if number < NONE => Ok(number),
-        _ => Err(Fault::OutOfMemory),
+        _ => Err(AllocError),
     }
 }
 
 impl Layout {
     /// Takes the event of this number.
-    fn take(&mut self, around: &mut Open, at: usize, shape: Shape) -> Result<(), Fault>
+    fn take(&mut self, around: &mut Open, at: usize, shape: Shape) -> Result<(), AllocError>
         ensures stands { (s : List Shape) → slice_get s at ≡ Some shape → Stands s at self.old around.old → OnOk result (Stands s (at + 1) self.new around.new) }
         ensures offsets { self.new.offsets ≡ self.old.offsets }
-        ensures err { IfErr result (λ fault. fault ≡ Fault.OutOfMemory) }
     {
         match shape {
             Shape::Scalar => {
@@ -156,10 +153,9 @@ impl Layout {
     }
 
     /// The node that begins at this event, and whose parts begin at these, is whole.
-    fn whole(&mut self, event: usize, parts: &[usize]) -> Result<(), Fault>
+    fn whole(&mut self, event: usize, parts: &[usize]) -> Result<(), AllocError>
         ensures ok { OnOk result (IsWhole event parts.now self.old self.new) }
         ensures offsets { self.new.offsets ≡ self.old.offsets }
-        ensures err { IfErr result (λ fault. fault ≡ Fault.OutOfMemory) }
     {
         let number = number_of(self.firsts.len())?;
         self.set_number(event, number);
@@ -169,13 +165,12 @@ impl Layout {
     }
 
     /// The innermost open collection ends. That none is open is no stream's event.
-    fn close(&mut self, around: &mut Open) -> Result<(), Fault>
+    fn close(&mut self, around: &mut Open) -> Result<(), AllocError>
         ensures stands { (s : List Shape) (at : ℕ) → slice_get s at ≡ Some Shape.Closes → Stands s at self.old around.old → OnOk result (Stands s (at + 1) self.new around.new) }
         ensures offsets { self.new.offsets ≡ self.old.offsets }
-        ensures err { IfErr result (λ fault. fault ≡ Fault.OutOfMemory) }
     {
         let Some(last) = around.outer.pop() else {
-            return Err(Fault::OutOfMemory);
+            return Err(AllocError);
         };
         self.whole(last.0, behind(&around.nodes, last.1))?;
         around.nodes.truncate(last.1);
@@ -204,8 +199,7 @@ struct Anchors<'t> {
 
 impl<'t> Anchors<'t> {
     /// Those of the events from one on.
-    fn new(alloc: Global, trace: &'t Trace, first: usize) -> Result<Anchors<'t>, Fault>
-        ensures err { IfErr result (λ fault. fault ≡ Fault.OutOfMemory) }
+    fn new(alloc: Global, trace: &'t Trace, first: usize) -> Result<Anchors<'t>, AllocError>
     {
         let mut named = Vec::new(alloc);
         for noted in &trace.notes {
@@ -242,11 +236,10 @@ impl Layout {
         at: usize,
         shape: Shape,
         name: &'t [u8],
-    ) -> Result<(), Fault>
+    ) -> Result<(), AllocError>
         ensures stands { (s : List Shape) (around : Open) → Stands s at self.old around → OnOk result (Stands s at self.new around) }
         ensures offsets { self.new.offsets ≡ self.old.offsets }
         ensures aliases { self.new.aliases ≡ self.old.aliases }
-        ensures err { IfErr result (λ fault. fault ≡ Fault.OutOfMemory) }
     {
         if let Shape::Alias = shape {
             let target = anchors.last.get(name).copied();
@@ -266,10 +259,9 @@ impl Layout {
         at: usize,
         traced: usize,
         shape: Shape,
-    ) -> Result<(), Fault>
+    ) -> Result<(), AllocError>
         ensures stands { (s : List Shape) → slice_get s at ≡ Some shape → Stands s at self.old around.old → OnOk result (Stands s (at + 1) self.new around.new) }
         ensures offsets { self.new.offsets ≡ self.old.offsets }
-        ensures err { IfErr result (λ fault. fault ≡ Fault.OutOfMemory) }
     {
         if let Some(name) = anchors.name(traced) {
             self.take_name(anchors, at, shape, name)?;
@@ -282,10 +274,9 @@ impl Layout {
 ///
 /// # Errors
 /// `OutOfMemory`
-pub fn lay_out(alloc: Global, trace: &Trace) -> Result<Layout, Fault>
+pub fn lay_out(alloc: Global, trace: &Trace) -> Result<Layout, AllocError>
     ensures offsets { IfOk result (λ layout. offsets_of layout ≡ offsets_in trace.now.events.items) }
     ensures nodes { IfOk result (IsLayout (shapes_in trace.now.events.items)) }
-    ensures err { IfErr result (λ fault. fault ≡ Fault.OutOfMemory) }
 {
     lay_out_events(alloc, trace, 0, &trace.events)
 }
@@ -294,10 +285,9 @@ pub fn lay_out(alloc: Global, trace: &Trace) -> Result<Layout, Fault>
 ///
 /// # Errors
 /// `OutOfMemory`
-pub fn lay_out_from(alloc: Global, trace: &Trace, first: usize, end: usize) -> Result<Layout, Fault>
+pub fn lay_out_from(alloc: Global, trace: &Trace, first: usize, end: usize) -> Result<Layout, AllocError>
     ensures offsets { IfOk result (λ layout. offsets_of layout ≡ offsets_in (events_in trace.now first end)) }
     ensures nodes { IfOk result (IsLayout (shapes_in (events_in trace.now first end))) }
-    ensures err { IfErr result (λ fault. fault ≡ Fault.OutOfMemory) }
 {
     lay_out_events(alloc, trace, first, events_from(trace, first, end))
 }
@@ -319,10 +309,9 @@ fn lay_out_events(
     trace: &Trace,
     first: usize,
     events: &[(Shape, u32)],
-) -> Result<Layout, Fault>
+) -> Result<Layout, AllocError>
     ensures offsets { IfOk result (λ layout. offsets_of layout ≡ offsets_in events.now) }
     ensures nodes { IfOk result (IsLayout (shapes_in events.now)) }
-    ensures err { IfErr result (λ fault. fault ≡ Fault.OutOfMemory) }
 {
     let mut layout = Layout {
         offsets: offsets_from(alloc, events)?,
@@ -345,7 +334,7 @@ fn lay_out_events(
         layout.roots = around.nodes;
         return Ok(layout);
     }
-    Err(Fault::OutOfMemory)
+    Err(AllocError)
 }
 
 /// Whether no collection is open.
@@ -356,9 +345,8 @@ fn is_none_open(around: &Open) -> bool
 }
 
 /// The offsets of events.
-fn offsets_from(alloc: Global, events: &[(Shape, u32)]) -> Result<Vec<u32>, Fault>
+fn offsets_from(alloc: Global, events: &[(Shape, u32)]) -> Result<Vec<u32>, AllocError>
     ensures ok { IfOk result (λ offsets. offsets.items ≡ offsets_in events.now) }
-    ensures err { IfErr result (λ fault. fault ≡ Fault.OutOfMemory) }
 {
     Ok(events.iter().map(|event| event.1).collect(alloc)?)
 }

@@ -1,14 +1,13 @@
 //! Lines and columns of many offsets, in one pass over a text.
-ghost use Rattle.std.specs.Prelude.{◌≡◌, ◌≤◌, drop, map, length, IfOk, IfErr};
+ghost use Rattle.std.specs.Prelude.{◌≡◌, ◌≤◌, drop, map, length, IfOk};
 ghost use Rattle.std.specs.List.{All};
 ghost use Rattle.std.specs.List.Sorted.{IsPermutation, IsNonDecreasingBy};
 ghost use Rattle.yaml_definitions.specs.model.Text.{mark_len};
 ghost use Rattle.yaml_place.specs.LineModel.{IsPlace};
 ghost use Rattle.review_places.specs.Told.{IsTold};
 
-use std::alloc::Global;
+use std::alloc::{AllocError, Global};
 use yaml_place::{Place, place_after, place_at};
-use yaml_text::fault::Fault;
 
 /// The bytes of the byte order mark (YAML 1.2.2, 5.2), which has no column.
 const MARK: [u8; 3] = [0xEF, 0xBB, 0xBF];
@@ -53,11 +52,10 @@ pub fn places(
     alloc: Global,
     text: &[u8],
     mut offsets: Vec<(usize, usize)>,
-) -> Result<Vec<(usize, Place)>, Fault>
+) -> Result<Vec<(usize, Place)>, AllocError>
     ensures ok { IfOk result (λ list. All (IsTold text.now offsets.items) list.items) }
     ensures numbers { IfOk result (λ list. IsPermutation (map (λ given. given.1) offsets.items) (map (λ told. told.0) list.items)) }
     ensures rising { IfOk result (λ list. IsNonDecreasingBy (λ told. told.0) list.items) }
-    ensures err { IfErr result (λ fault. fault ≡ Fault.OutOfMemory) }
 {
     offsets.sort_unstable();
     let mut list = Vec::with_capacity(alloc, offsets.len())?;

@@ -14,7 +14,7 @@ ghost use Rattle.yaml_read.specs.Decided.{HasNoReading};
 ghost use Rattle.yaml_text.specs.EventModel.{event_of};
 ghost use Rattle.review_places.specs.Trace.{TraceHolds, IsTagAt, shape_of};
 
-use std::alloc::Global;
+use std::alloc::{AllocError, Global};
 use std::borrow::CowStr;
 use yaml_read::read_into;
 use yaml_sink::properties::{Given, Properties};
@@ -133,9 +133,8 @@ impl Trace {
     }
 
     /// Makes a note at the event of this number.
-    fn put_note(&mut self, event: usize, note: Note) -> Result<(), Fault>
+    fn put_note(&mut self, event: usize, note: Note) -> Result<(), AllocError>
         ensures events { self.new.events ≡ self.old.events }
-        ensures err { IfErr result (λ e. e ≡ OutOfMemory) }
     {
         let noted = Noted {
             event: short(event)?,
@@ -147,9 +146,8 @@ impl Trace {
     }
 
     /// Notes the name of an alias, or of an anchor, at the event of this number.
-    fn note_name(&mut self, event: usize, name: &str) -> Result<(), Fault>
+    fn note_name(&mut self, event: usize, name: &str) -> Result<(), AllocError>
         ensures events { self.new.events ≡ self.old.events }
-        ensures err { IfErr result (λ e. e ≡ OutOfMemory) }
     {
         let start = short(self.names.len())?;
         self.names.extend_from_slice(name.as_bytes())?;
@@ -158,18 +156,16 @@ impl Trace {
     }
 
     /// Notes the offset of a tag at the event of this number.
-    fn note_tag(&mut self, event: usize, at: usize) -> Result<(), Fault>
+    fn note_tag(&mut self, event: usize, at: usize) -> Result<(), AllocError>
         ensures events { self.new.events ≡ self.old.events }
-        ensures err { IfErr result (λ e. e ≡ OutOfMemory) }
     {
         let at = short(at)?;
         self.put_note(event, Note::Tag { at })
     }
 
     /// Notes an anchor and a tag, where there are such, at the event of this number. Of the tag `!` nothing is noted.
-    fn note_given(&mut self, event: usize, given: &Given<'_>) -> Result<(), Fault>
+    fn note_given(&mut self, event: usize, given: &Given<'_>) -> Result<(), AllocError>
         ensures events { self.new.events ≡ self.old.events }
-        ensures err { IfErr result (λ e. e ≡ OutOfMemory) }
     {
         if let Some(name) = &given.anchor {
             self.note_name(event, name.as_str())?;
@@ -193,9 +189,8 @@ impl Trace {
     }
 
     /// Notes the name that an event bears, whose number is this.
-    fn note_event(&mut self, number: usize, event: &Event<'_>) -> Result<(), Fault>
+    fn note_event(&mut self, number: usize, event: &Event<'_>) -> Result<(), AllocError>
         ensures events { self.new.events ≡ self.old.events }
-        ensures err { IfErr result (λ e. e ≡ OutOfMemory) }
     {
         match event {
             Event::Alias { name }
@@ -269,12 +264,11 @@ impl Trace {
     }
 
     /// Puts an event before that of a place, or at the end.
-    fn grow(&mut self, place: usize, shape: Shape, at: usize) -> Result<(), Fault>
+    fn grow(&mut self, place: usize, shape: Shape, at: usize) -> Result<(), AllocError>
         ensures ok { IfOk result (λ _. self.new.events.items ≡ insert self.old.events.items (min place (length self.old.events.items)) (shape, at)) }
-        ensures err { IfErr result (λ e. e ≡ OutOfMemory) }
     {
         if self.lost {
-            return Err(Fault::OutOfMemory);
+            return Err(AllocError);
         }
         let at = short(at)?;
         let place = place.min(self.events.len());
@@ -284,12 +278,11 @@ impl Trace {
     }
 
     /// Puts an event behind the others.
-    fn put(&mut self, shape: Shape, at: usize) -> Result<(), Fault>
+    fn put(&mut self, shape: Shape, at: usize) -> Result<(), AllocError>
         ensures ok { IfOk result (λ _. self.new.events.items ≡ self.old.events.items ++ ((shape, at) ∷ [])) }
-        ensures err { IfErr result (λ e. e ≡ OutOfMemory) }
     {
         if self.lost {
-            return Err(Fault::OutOfMemory);
+            return Err(AllocError);
         }
         let at = short(at)?;
         self.events.push((shape, at))?;
@@ -316,13 +309,12 @@ impl Trace {
 }
 
 /// An offset in four bytes. One past them, which no text has, is a want of room.
-fn short(at: usize) -> Result<u32, Fault>
+fn short(at: usize) -> Result<u32, AllocError>
     ensures ok { IfOk result (λ n. n ≡ at) }
-    ensures err { IfErr result (λ e. e ≡ Fault.OutOfMemory) }
 {
     match u32::try_from(at) {
         Ok(at) => Ok(at),
-        Err(_) => Err(Fault::OutOfMemory),
+        Err(_) => Err(AllocError),
     }
 }
 
@@ -365,23 +357,28 @@ impl Keeper for Trace {
     fn push(&mut self, event: &Event<'_>, at: usize) -> Result<(), Fault> {
         let number = self.events.len();
         self.put(shape_of(event), at)?;
-        self.note_event(number, event)
+        self.note_event(number, event)?;
+        Ok(())
     }
 
     fn scalar(&mut self, _style: Style, _text: &mut CowStr<'_>, at: usize) -> Result<(), Fault> {
-        self.put(Shape::Scalar, at)
+        self.put(Shape::Scalar, at)?;
+        Ok(())
     }
 
     fn begin(&mut self, _collection: Collection, _flow: bool, at: usize) -> Result<(), Fault> {
-        self.put(Shape::Opens, at)
+        self.put(Shape::Opens, at)?;
+        Ok(())
     }
 
     fn end(&mut self, _collection: Collection, at: usize) -> Result<(), Fault> {
-        self.put(Shape::Closes, at)
+        self.put(Shape::Closes, at)?;
+        Ok(())
     }
 
     fn insert(&mut self, start: usize, _flow: bool, at: usize) -> Result<(), Fault> {
-        self.grow(start, Shape::Opens, at)
+        self.grow(start, Shape::Opens, at)?;
+        Ok(())
     }
 
     fn announce(&mut self, _own: &Properties<'_>) {}

@@ -1,16 +1,15 @@
 //! Paths of events, where no graph is made.
-ghost use Rattle.std.specs.Prelude.{◌≡◌, ◌++◌, [], codes, map, find, reverse, slice_get, option_map, string_bytes, IfOk, OnOk, IfErr};
+ghost use Rattle.std.specs.Prelude.{◌≡◌, ◌++◌, [], codes, map, find, reverse, slice_get, option_map, string_bytes, IfOk, OnOk};
 ghost use Rattle.std.specs.Fmt.{decimal};
 ghost use Rattle.yaml_definitions.specs.model.Core.{resolve};
 ghost use Rattle.yaml_text.specs.EventModel.{event_of, written_of, style_of};
 ghost use Rattle.review_places.specs.Trails.{documents_before, documents_after, open_frames, begun_in, opened, frames_after, untold, resolved_step, key_step, has_part, is_key, frame_step, begins_document, is_numbered, number_text, steps_text, or_dot, path_of};
 
 use review_text::text::{put_all, put_scalar_key};
-use std::alloc::Global;
+use std::alloc::{AllocError, Global};
 use yaml_core::CoreFault;
 use yaml_core::scalar::resolve;
 use yaml_text::event::{Event, EventTag, Style};
-use yaml_text::fault::Fault;
 
 /// A collection that is open.
 #[derive(Clone, Copy)]
@@ -73,10 +72,9 @@ impl Trail {
         }
     }
 
-    fn open(&mut self, at: usize, is_mapping: bool) -> Result<(), Fault>
+    fn open(&mut self, at: usize, is_mapping: bool) -> Result<(), AllocError>
         ensures document { documents_before self.new ≡ documents_before self.old }
         ensures frames { IfOk result (λ _. open_frames self.new ≡ opened at is_mapping (open_frames self.old)) }
-        ensures err { IfErr result (λ fault. fault ≡ Fault.OutOfMemory) }
     {
         self.begin(at);
         self.frames.push(Frame {
@@ -93,10 +91,9 @@ impl Trail {
     ///
     /// # Errors
     /// `OutOfMemory`
-    pub fn take(&mut self, at: usize, event: &Event<'_>) -> Result<(), Fault>
+    pub fn take(&mut self, at: usize, event: &Event<'_>) -> Result<(), AllocError>
         ensures document { IfOk result (λ _. documents_before self.new ≡ documents_after (event_of event.now) (documents_before self.old)) }
         ensures frames { IfOk result (λ _. open_frames self.new ≡ frames_after at (event_of event.now) (open_frames self.old)) }
-        ensures err { IfErr result (λ fault. fault ≡ Fault.OutOfMemory) }
     {
         match event {
             Event::SequenceStart { .. } => self.open(at, false)?,
@@ -129,9 +126,8 @@ impl Trail {
     }
 
     /// The number of the document, unless it is the only one.
-    fn put_number(&self, out: &mut String, events: &[Event<'_>]) -> Result<(), Fault>
+    fn put_number(&self, out: &mut String, events: &[Event<'_>]) -> Result<(), AllocError>
         ensures ok { OnOk result (string_bytes out.new ≡ string_bytes out.old ++ number_text (map event_of events.now) (documents_before self.now)) }
-        ensures err { IfErr result (λ fault. fault ≡ Fault.OutOfMemory) }
     {
         if is_numbered(events) {
             let number = self.document;
@@ -141,9 +137,8 @@ impl Trail {
     }
 
     /// The steps from the document to the node that began last.
-    fn put_steps(&self, alloc: Global, out: &mut String, events: &[Event<'_>]) -> Result<(), Fault>
+    fn put_steps(&self, alloc: Global, out: &mut String, events: &[Event<'_>]) -> Result<(), AllocError>
         ensures ok { OnOk result (string_bytes out.new ≡ string_bytes out.old ++ steps_text (map event_of events.now) (open_frames self.now)) }
-        ensures err { IfErr result (λ fault. fault ≡ Fault.OutOfMemory) }
     {
         'frames: for frame in &self.frames {
             put_frame(alloc, out, frame, events)?;
@@ -156,9 +151,8 @@ impl Trail {
     ///
     /// # Errors
     /// `OutOfMemory`
-    pub fn path(&self, alloc: Global, events: &[Event<'_>]) -> Result<String, Fault>
+    pub fn path(&self, alloc: Global, events: &[Event<'_>]) -> Result<String, AllocError>
         ensures ok { IfOk result (λ path. string_bytes path ≡ path_of self.now (map event_of events.now)) }
-        ensures err { IfErr result (λ fault. fault ≡ Fault.OutOfMemory) }
     {
         let mut text = String::new(alloc);
         self.put_number(&mut text, events)?;
@@ -168,9 +162,8 @@ impl Trail {
 }
 
 /// The same text, or a dot for none.
-fn or_dot(mut text: String) -> Result<String, Fault>
+fn or_dot(mut text: String) -> Result<String, AllocError>
     ensures ok { IfOk result (λ path. string_bytes path ≡ or_dot (string_bytes text)) }
-    ensures err { IfErr result (λ fault. fault ≡ Fault.OutOfMemory) }
 {
     if text.is_empty() {
         text.push('.')?;
@@ -205,9 +198,8 @@ fn put_frame(
     out: &mut String,
     frame: &Frame,
     events: &[Event<'_>],
-) -> Result<(), Fault>
+) -> Result<(), AllocError>
     ensures ok { OnOk result (string_bytes out.new ≡ string_bytes out.old ++ frame_step (map event_of events.now) frame.now) }
-    ensures err { IfErr result (λ fault. fault ≡ Fault.OutOfMemory) }
 {
     if frame.parts == 0 {
         return Ok(());
@@ -220,18 +212,16 @@ fn put_frame(
 }
 
 /// The step to the item at a place.
-fn put_item(out: &mut String, place: usize) -> Result<(), Fault>
+fn put_item(out: &mut String, place: usize) -> Result<(), AllocError>
     ensures ok { OnOk result (string_bytes out.new ≡ string_bytes out.old ++ (codes "[" ++ (decimal place ++ codes "]"))) }
-    ensures err { IfErr result (λ fault. fault ≡ Fault.OutOfMemory) }
 {
     write!(out, "[{place}]")?;
     Ok(())
 }
 
 /// The step to the value of the key that this event begins.
-fn put_key(alloc: Global, out: &mut String, event: Option<&Event<'_>>) -> Result<(), Fault>
+fn put_key(alloc: Global, out: &mut String, event: Option<&Event<'_>>) -> Result<(), AllocError>
     ensures ok { OnOk result (string_bytes out.new ≡ string_bytes out.old ++ key_step (option_map (λ e. event_of e.now) event.entry)) }
-    ensures err { IfErr result (λ fault. fault ≡ Fault.OutOfMemory) }
 {
     match event {
         Some(
@@ -248,9 +238,8 @@ fn put_key(alloc: Global, out: &mut String, event: Option<&Event<'_>>) -> Result
 }
 
 /// The step of a key that is not told.
-fn put_untold(out: &mut String) -> Result<(), Fault>
+fn put_untold(out: &mut String) -> Result<(), AllocError>
     ensures ok { OnOk result (string_bytes out.new ≡ string_bytes out.old ++ untold) }
-    ensures err { IfErr result (λ fault. fault ≡ Fault.OutOfMemory) }
 {
     Ok(out.push_str("[?]")?)
 }
@@ -262,13 +251,12 @@ fn put_scalar_step(
     tag: &EventTag<'_>,
     style: Style,
     text: &str,
-) -> Result<(), Fault>
+) -> Result<(), AllocError>
     ensures ok { OnOk result (string_bytes out.new ≡ string_bytes out.old ++ resolved_step (resolve (written_of tag.now) (style_of style) text.now)) }
-    ensures err { IfErr result (λ fault. fault ≡ Fault.OutOfMemory) }
 {
     match resolve(alloc, tag, style, text) {
         Ok(scalar) => put_scalar_key(alloc, out, scalar.tag.as_str(), scalar.content.as_str()),
-        Err(CoreFault::OutOfMemory) => Err(Fault::OutOfMemory),
+        Err(CoreFault::OutOfMemory) => Err(AllocError),
         Err(_) => put_untold(out),
     }
 }

@@ -12,14 +12,13 @@ use review_formats::{Finding, Level, Sides, Sign};
 use review_lines::lines::Line;
 use review_text::put_visible;
 use review_text::text::{CUT, front, put_all};
-use std::alloc::Global;
+use std::alloc::{AllocError, Global};
 use yaml_place::Place;
 use yaml_text::fault::Fault;
 
 /// A text with escapes for the characters that would not be seen.
-fn visible(alloc: Global, text: &str) -> Result<String, Fault>
+fn visible(alloc: Global, text: &str) -> Result<String, AllocError>
     ensures ok { IfOk result (λ s. string_bytes s ≡ visible text.now) }
-    ensures err { IfErr result (λ fault. fault ≡ Fault.OutOfMemory) }
 {
     let mut out = String::new(alloc);
     put_visible(&mut out, text)?;
@@ -27,9 +26,8 @@ fn visible(alloc: Global, text: &str) -> Result<String, Fault>
 }
 
 /// The same, if there is a text.
-fn visible_of(alloc: Global, text: &Option<String>) -> Result<Option<String>, Fault>
+fn visible_of(alloc: Global, text: &Option<String>) -> Result<Option<String>, AllocError>
     ensures ok { IfOk result (λ s. option_map string_bytes s ≡ option_map (λ t. visible (string_bytes t)) text.now) }
-    ensures err { IfErr result (λ fault. fault ≡ Fault.OutOfMemory) }
 {
     match text {
         Some(text) => Ok(Some(visible(alloc, text)?)),
@@ -50,9 +48,8 @@ fn sign_of(line: &Line) -> Sign
 }
 
 /// Writes the texts of both sides.
-fn put_sides(out: &mut String, sides: &Sides) -> Result<(), Fault>
+fn put_sides(out: &mut String, sides: &Sides) -> Result<(), AllocError>
     ensures ok { OnOk result (string_bytes out.new ≡ string_bytes out.old ++ sides_text (option_map string_bytes sides.now.left) (option_map string_bytes sides.now.right)) }
-    ensures err { IfErr result (λ fault. fault ≡ Fault.OutOfMemory) }
 {
     match (&sides.left, &sides.right) {
         (Some(left), Some(right)) => put_all(out, &[": ", left, " -> ", right]),
@@ -62,9 +59,8 @@ fn put_sides(out: &mut String, sides: &Sides) -> Result<(), Fault>
 }
 
 /// What is said of a difference behind its path.
-fn message_of(alloc: Global, sides: &Sides) -> Result<String, Fault>
+fn message_of(alloc: Global, sides: &Sides) -> Result<String, AllocError>
     ensures ok { IfOk result (λ s. string_bytes s ≡ message_text (sides_says sides.now) (option_map string_bytes sides.now.left) (option_map string_bytes sides.now.right)) }
-    ensures err { IfErr result (λ fault. fault ≡ Fault.OutOfMemory) }
 {
     let mut out = String::new(alloc);
     sides.put_says(&mut out)?;
@@ -73,9 +69,8 @@ fn message_of(alloc: Global, sides: &Sides) -> Result<String, Fault>
 }
 
 /// The changed lines of two strings, if there are.
-fn changes_of(alloc: Global, line: &Line) -> Result<Option<String>, Fault>
+fn changes_of(alloc: Global, line: &Line) -> Result<Option<String>, AllocError>
     ensures ok { IfOk result (λ s. option_map string_bytes s ≡ option_map (λ changes. visible (string_bytes changes.text)) line.now.changes) }
-    ensures err { IfErr result (λ fault. fault ≡ Fault.OutOfMemory) }
 {
     match &line.changes {
         Some(changes) => Ok(Some(visible(alloc, &changes.text)?)),
@@ -84,9 +79,8 @@ fn changes_of(alloc: Global, line: &Line) -> Result<Option<String>, Fault>
 }
 
 /// What both sides have.
-fn sides_of(alloc: Global, line: &Line) -> Result<Sides, Fault>
+fn sides_of(alloc: Global, line: &Line) -> Result<Sides, AllocError>
     ensures ok { IfOk result (AreSides line.now) }
-    ensures err { IfErr result (λ fault. fault ≡ Fault.OutOfMemory) }
 {
     Ok(Sides {
         sign: sign_of(line),
@@ -120,9 +114,8 @@ fn place_of(line: &Line, sign: Sign) -> Option<Place>
 }
 
 /// A difference of two files of these names, at the right one unless that has nothing there.
-fn difference_found(alloc: Global, left: &str, right: &str, line: &Line) -> Result<Finding, Fault>
+fn difference_found(alloc: Global, left: &str, right: &str, line: &Line) -> Result<Finding, AllocError>
     ensures ok { IfOk result (IsDifference left.now right.now line.now) }
-    ensures err { IfErr result (λ fault. fault ≡ Fault.OutOfMemory) }
 {
     let sides = sides_of(alloc, line)?;
     Ok(Finding {
@@ -146,9 +139,8 @@ pub fn differences_found(
     left: &str,
     right: &str,
     lines: &[Line],
-) -> Result<Vec<Finding>, Fault>
+) -> Result<Vec<Finding>, AllocError>
     ensures ok { IfOk result (λ list. AreDifferences left.now right.now lines.now list.items) }
-    ensures err { IfErr result (λ fault. fault ≡ Fault.OutOfMemory) }
 {
     let mut list = Vec::new(alloc);
     'lines: for line in lines {
@@ -180,9 +172,8 @@ pub fn fault_found(alloc: Global, name: &str, bytes: &[u8], fault: Fault) -> Res
 }
 
 /// What is said of a scalar or a name that other tools read otherwise.
-fn warning_words(alloc: Global, warning: &Warning) -> Result<String, Fault>
+fn warning_words(alloc: Global, warning: &Warning) -> Result<String, AllocError>
     ensures ok { IfOk result (λ s. string_bytes s ≡ visible (front 60 (string_bytes warning.now.text)) ++ (codes ": " ++ string_bytes warning.now.words)) }
-    ensures err { IfErr result (λ fault. fault ≡ Fault.OutOfMemory) }
 {
     let mut out = visible(alloc, front(&warning.text, CUT))?;
     out.push_str(": ")?;
@@ -191,9 +182,8 @@ fn warning_words(alloc: Global, warning: &Warning) -> Result<String, Fault>
 }
 
 /// A scalar or a name that other tools read otherwise.
-pub(crate) fn warning_found(alloc: Global, name: &str, warning: &Warning) -> Result<Finding, Fault>
+pub(crate) fn warning_found(alloc: Global, name: &str, warning: &Warning) -> Result<Finding, AllocError>
     ensures ok { IfOk result (IsFoundWarning name.now warning.now) }
-    ensures err { IfErr result (λ fault. fault ≡ Fault.OutOfMemory) }
 {
     Ok(Finding {
         rule: warning.rule,

@@ -17,7 +17,7 @@ use review_files::unread::{Unread, greater};
 use review_formats::{Finding, Findings, LeftOut, Part, github_text, markdown_text, sarif_text};
 use review_html::html_text;
 use review_text::options::Page;
-use std::alloc::Global;
+use std::alloc::{AllocError, Global};
 use std::io::{Read, Write};
 use yaml_command::shelf::Shelf;
 use yaml_command::streams::write_out;
@@ -33,9 +33,8 @@ const REJECTED: u8 = 2;
 ///
 /// # Errors
 /// 21: memory is refused.
-pub fn page_text(alloc: Global, page: Page, found: &Findings) -> Result<String, Fault>
+pub fn page_text(alloc: Global, page: Page, found: &Findings) -> Result<String, AllocError>
     ensures ok { IfOk result (λ text. IsPageText page found.now (string_bytes text)) }
-    ensures err { IfErr result (λ fault. fault ≡ Fault.OutOfMemory) }
 {
     match page {
         Page::Html => html_text(alloc, found),
@@ -65,9 +64,8 @@ pub fn fault_list(
 }
 
 /// Warnings of a file, as they are found.
-fn warnings_found(alloc: Global, name: &str, warnings: &[Warning]) -> Result<Vec<Finding>, Fault>
+fn warnings_found(alloc: Global, name: &str, warnings: &[Warning]) -> Result<Vec<Finding>, AllocError>
     ensures ok { IfOk result (λ list. AreFoundWarnings name.now warnings.now list.items) }
-    ensures err { IfErr result (λ fault. fault ≡ Fault.OutOfMemory) }
 {
     let mut list = Vec::new(alloc);
     'warnings: for warning in warnings {
@@ -175,9 +173,8 @@ fn file_list<S: Shelf, R: Read, E: Write>(
 }
 
 /// Adds what is found in a file to a list.
-fn add(list: &mut Vec<Finding>, mut more: Vec<Finding>) -> Result<(), Fault>
+fn add(list: &mut Vec<Finding>, mut more: Vec<Finding>) -> Result<(), AllocError>
     ensures ok { OnOk result (list.new.items ≡ list.old.items ++ more.items) }
-    ensures err { IfErr result (λ fault. fault ≡ Fault.OutOfMemory) }
 {
     list.append(&mut more)?;
     Ok(())
@@ -191,9 +188,8 @@ fn files_list<S: Shelf, R: Read, E: Write>(
     files: &[&str],
     input: &mut R,
     err: &mut E,
-) -> Result<(Vec<Finding>, u8), Fault>
+) -> Result<(Vec<Finding>, u8), AllocError>
     ensures ok { IfOk result (λ told. FindsFiles (S.holds shelf.now) R.remaining kind.entry (map (λ s. s.now) files.now) input.old input.new told.0.items told.1) }
-    ensures err { IfErr result (λ fault. fault ≡ Fault.OutOfMemory) }
 {
     let mut list = Vec::new(alloc);
     let mut status = DONE;
@@ -216,9 +212,8 @@ fn word_of(kind: Kind<'_>) -> &'static str
 }
 
 /// What a command found, of which all is listed.
-fn as_found(alloc: Global, kind: Kind<'_>, list: Vec<Finding>) -> Result<Findings, Fault>
+fn as_found(alloc: Global, kind: Kind<'_>, list: Vec<Finding>) -> Result<Findings, AllocError>
     ensures ok { IfOk result (AreFound kind.entry list.items) }
-    ensures err { IfErr result (λ fault. fault ≡ Fault.OutOfMemory) }
 {
     let mut parts = Vec::new(alloc);
     parts.push(Part {
@@ -240,9 +235,8 @@ fn found_text(
     kind: Kind<'_>,
     page: Page,
     list: Vec<Finding>,
-) -> Result<String, Fault>
+) -> Result<String, AllocError>
     ensures ok { IfOk result (λ text. IsListText kind.entry page list.items (string_bytes text)) }
-    ensures err { IfErr result (λ fault. fault ≡ Fault.OutOfMemory) }
 {
     page_text(alloc, page, &as_found(alloc, kind, list)?)
 }
@@ -265,7 +259,7 @@ fn put_page<W: Write, E: Write>(
             Ok(()) => status,
             Err(fault) => greater(status, tell_bare(fault, err)),
         },
-        Err(fault) => greater(status, tell_bare(fault, err)),
+        Err(refused) => greater(status, tell_bare(refused.into(), err)),
     }
 }
 
@@ -284,6 +278,6 @@ pub fn pages<S: Shelf, R: Read, W: Write, E: Write>(
 {
     match files_list(shelf, alloc, told.0, &asked.files, input, err) {
         Ok(found) => put_page(alloc, told, found, out, err),
-        Err(fault) => tell_bare(fault, err),
+        Err(fault) => tell_bare(fault.into(), err),
     }
 }

@@ -1,13 +1,12 @@
 //! Texts that look the same.
-ghost use Rattle.std.specs.Prelude.{◌≡◌, ◌++◌, IfOk, IfErr, OnOk, string_bytes};
+ghost use Rattle.std.specs.Prelude.{◌≡◌, ◌++◌, IfOk, OnOk, string_bytes};
 ghost use Rattle.std.specs.Str.{encode_utf8_all};
 ghost use Rattle.review_text.specs.Alike.{is_wide_space, capital, small, seen, seen_char, look, is_ascii_text, looks_alike};
 ghost use Rattle.review_text.specs.Hidden.{ascii, spelled};
 
 use crate::hidden::put_ascii;
-use std::alloc::Global;
+use std::alloc::{AllocError, Global};
 use unicode_normalization::to_nfd;
-use yaml_text::fault::Fault;
 
 /// Whether a character is a space that is not that of ASCII.
 fn is_wide_space(c: char) -> bool
@@ -83,18 +82,16 @@ fn seen(c: char) -> char
 }
 
 /// Writes what a character looks like.
-fn put_seen(out: &mut String, c: char) -> Result<(), Fault>
+fn put_seen(out: &mut String, c: char) -> Result<(), AllocError>
     ensures ok { OnOk result (string_bytes out.new ≡ string_bytes out.old ++ encode_utf8_all (seen_char c)) }
-    ensures err { IfErr result (λ fault. fault ≡ Fault.OutOfMemory) }
 {
     out.push(seen(c))?;
     Ok(())
 }
 
 /// Writes what the characters of a text look like.
-fn put_look(out: &mut String, text: &str) -> Result<(), Fault>
+fn put_look(out: &mut String, text: &str) -> Result<(), AllocError>
     ensures ok { OnOk result (string_bytes out.new ≡ string_bytes out.old ++ spelled seen_char text.now) }
-    ensures err { IfErr result (λ fault. fault ≡ Fault.OutOfMemory) }
 {
     'chars: for c in text.chars() {
         put_seen(out, c)?;
@@ -103,9 +100,8 @@ fn put_look(out: &mut String, text: &str) -> Result<(), Fault>
 }
 
 /// What is seen of a text: letters apart from their marks (NFD), and Latin letters in place of others that look like them.
-fn look_of(alloc: Global, text: &str) -> Result<String, Fault>
+fn look_of(alloc: Global, text: &str) -> Result<String, AllocError>
     ensures ok { IfOk result (λ seen. string_bytes seen ≡ look text.now) }
-    ensures err { IfErr result (λ fault. fault ≡ Fault.OutOfMemory) }
 {
     let apart = to_nfd(alloc, text)?;
     let mut look = String::new(alloc);
@@ -121,9 +117,8 @@ fn is_ascii(text: &str) -> bool
 }
 
 /// Whether two texts differ, and look the same. Two texts of ASCII never do.
-pub fn look_alike(alloc: Global, left: &str, right: &str) -> Result<bool, Fault>
+pub fn look_alike(alloc: Global, left: &str, right: &str) -> Result<bool, AllocError>
     ensures ok { IfOk result (λ answer. answer ≡ looks_alike left.now right.now) }
-    ensures err { IfErr result (λ fault. fault ≡ Fault.OutOfMemory) }
 {
     if left == right {
         return Ok(false);
@@ -137,9 +132,8 @@ pub fn look_alike(alloc: Global, left: &str, right: &str) -> Result<bool, Fault>
 }
 
 /// A text with the escape of each character outside ASCII.
-pub fn ascii_text(alloc: Global, text: &str) -> Result<String, Fault>
+pub fn ascii_text(alloc: Global, text: &str) -> Result<String, AllocError>
     ensures ok { IfOk result (λ s. string_bytes s ≡ ascii text.now) }
-    ensures err { IfErr result (λ fault. fault ≡ Fault.OutOfMemory) }
 {
     let mut out = String::new(alloc);
     put_ascii(&mut out, text)?;

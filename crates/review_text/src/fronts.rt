@@ -1,12 +1,11 @@
 //! The source line of a place, and a caret under its column.
-ghost use Rattle.std.specs.Prelude.{◌≡◌, ◌≤◌, ◌++◌, min, length, string_bytes, OnOk, IfErr};
+ghost use Rattle.std.specs.Prelude.{◌≡◌, ◌≤◌, ◌++◌, min, length, string_bytes, OnOk};
 ghost use Rattle.review_text.specs.Terminal.{is_unprinted, is_printed, terminal_char, terminal};
 ghost use Rattle.review_text.specs.Window.{spaces, below, margin, IsPartFrom, IsPartTo, IsEnd, IsStart, Sides, window, PutsLine};
 
-use std::alloc::Global;
+use std::alloc::{AllocError, Global};
 use unicode_width::UnicodeWidthChar;
 use yaml_place::source_line;
-use yaml_text::fault::Fault;
 
 /// How many characters of a line are shown on either side of the place.
 const SIDE: usize = 80;
@@ -41,9 +40,8 @@ fn shown(c: char) -> char
 }
 
 /// Writes a text with `?` for what a terminal would not print.
-pub fn put_shown(out: &mut String, text: &str) -> Result<(), Fault>
+pub fn put_shown(out: &mut String, text: &str) -> Result<(), AllocError>
     ensures ok { OnOk result (string_bytes out.new ≡ string_bytes out.old ++ terminal text.now) }
-    ensures err { IfErr result (λ fault. fault ≡ Fault.OutOfMemory) }
 {
     'chars: for c in text.chars() {
         out.push(shown(c))?;
@@ -125,9 +123,8 @@ fn below(c: char) -> &'static str
 }
 
 /// Writes what stands below a text.
-fn put_margin(out: &mut String, text: &str) -> Result<(), Fault>
+fn put_margin(out: &mut String, text: &str) -> Result<(), AllocError>
     ensures ok { OnOk result (string_bytes out.new ≡ string_bytes out.old ++ margin text.now) }
-    ensures err { IfErr result (λ fault. fault ≡ Fault.OutOfMemory) }
 {
     'chars: for c in text.chars() {
         out.push_str(below(shown(c)))?;
@@ -136,9 +133,8 @@ fn put_margin(out: &mut String, text: &str) -> Result<(), Fault>
 }
 
 /// Writes a line of these two pieces, and below it a caret between them.
-fn put_window(out: &mut String, before: &str, behind: &str) -> Result<(), Fault>
+fn put_window(out: &mut String, before: &str, behind: &str) -> Result<(), AllocError>
     ensures ok { OnOk result (string_bytes out.new ≡ string_bytes out.old ++ window before.now behind.now) }
-    ensures err { IfErr result (λ fault. fault ≡ Fault.OutOfMemory) }
 {
     put_shown(out, before)?;
     put_shown(out, behind)?;
@@ -164,9 +160,8 @@ fn sides(text: &[u8], at: usize) -> (&[u8], &[u8])
 ///
 /// # Errors
 /// `OutOfMemory`
-pub fn put_source_line(alloc: Global, out: &mut String, text: &[u8], at: usize) -> Result<(), Fault>
+pub fn put_source_line(alloc: Global, out: &mut String, text: &[u8], at: usize) -> Result<(), AllocError>
     ensures ok { OnOk result (PutsLine text.now (min at (length text.now)) (string_bytes out.old) (string_bytes out.new)) }
-    ensures err { IfErr result (λ fault. fault ≡ Fault.OutOfMemory) }
 {
     let (left, right) = sides(text, at.min(text.len()));
     let before = String::from_utf8_lossy(alloc, left)?;

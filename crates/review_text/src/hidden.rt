@@ -1,10 +1,10 @@
 //! Texts in which a terminal shows each character, as they are and in JSON.
-ghost use Rattle.std.specs.Prelude.{◌≡◌, ◌<◌, ◌++◌, ◌||◌, string_bytes, OnOk, IfErr};
+ghost use Rattle.std.specs.Prelude.{◌≡◌, ◌<◌, ◌++◌, ◌||◌, string_bytes, OnOk};
 ghost use Rattle.std.specs.Str.{encode_utf8_all};
 ghost use Rattle.review_text.specs.Hidden.{is_hidden_low, is_hidden_high, is_hidden, is_control_high, two_digits, escape_text, visible_char, visible, ascii_char, ascii, json_escape, json_char, escaped_char, escaped, json_visible};
 
+use std::alloc::AllocError;
 use yaml_text::digit::hex_digit;
-use yaml_text::fault::Fault;
 
 /// Whether a character below U+3000 is hidden.
 #[tactic(auto, unfolding(crate::specs::Hidden::is_hidden_low))]
@@ -38,10 +38,9 @@ fn is_hidden(c: char) -> bool
 }
 
 /// Writes the two digits of a byte.
-fn put_digits(out: &mut String, byte: u32) -> Result<(), Fault>
+fn put_digits(out: &mut String, byte: u32) -> Result<(), AllocError>
     requires { byte < 256 }
     ensures ok { OnOk result (string_bytes out.new ≡ string_bytes out.old ++ encode_utf8_all (two_digits byte)) }
-    ensures err { IfErr result (λ fault. fault ≡ Fault.OutOfMemory) }
 {
     out.push(char::from(hex_digit(byte / 16)))?;
     out.push(char::from(hex_digit(byte % 16)))?;
@@ -49,10 +48,9 @@ fn put_digits(out: &mut String, byte: u32) -> Result<(), Fault>
 }
 
 /// Writes the escape of a character by its number.
-fn put_escape(out: &mut String, code: u32) -> Result<(), Fault>
+fn put_escape(out: &mut String, code: u32) -> Result<(), AllocError>
     requires { code < 1114112 }
     ensures ok { OnOk result (string_bytes out.new ≡ string_bytes out.old ++ encode_utf8_all (escape_text code)) }
-    ensures err { IfErr result (λ fault. fault ≡ Fault.OutOfMemory) }
 {
     if code < 65_536 {
         out.push_str("\\u")?;
@@ -75,10 +73,9 @@ fn is_control_high(c: char) -> bool
 
 /// Writes the escape of a character in JSON (RFC 8259, 7): two escapes for one above U+FFFF.
 #[tactic(auto, using(crate::proofs::HiddenLaws::two_escapes))]
-fn put_json_escape(out: &mut String, code: u32) -> Result<(), Fault>
+fn put_json_escape(out: &mut String, code: u32) -> Result<(), AllocError>
     requires { code < 1114112 }
     ensures ok { OnOk result (string_bytes out.new ≡ string_bytes out.old ++ encode_utf8_all (json_escape code)) }
-    ensures err { IfErr result (λ fault. fault ≡ Fault.OutOfMemory) }
 {
     if code < 65_536 {
         return put_escape(out, code);
@@ -88,9 +85,8 @@ fn put_json_escape(out: &mut String, code: u32) -> Result<(), Fault>
 }
 
 /// Writes a character of JSON, or its escape if a terminal does not show it.
-fn put_json_char(out: &mut String, c: char) -> Result<(), Fault>
+fn put_json_char(out: &mut String, c: char) -> Result<(), AllocError>
     ensures ok { OnOk result (string_bytes out.new ≡ string_bytes out.old ++ encode_utf8_all (json_char c)) }
-    ensures err { IfErr result (λ fault. fault ≡ Fault.OutOfMemory) }
 {
     if is_control_high(c) || is_hidden(c) {
         put_json_escape(out, u32::from(c))
@@ -101,9 +97,8 @@ fn put_json_char(out: &mut String, c: char) -> Result<(), Fault>
 }
 
 /// Writes a character, or its escape if it is hidden.
-fn put_visible_char(out: &mut String, c: char) -> Result<(), Fault>
+fn put_visible_char(out: &mut String, c: char) -> Result<(), AllocError>
     ensures ok { OnOk result (string_bytes out.new ≡ string_bytes out.old ++ encode_utf8_all (visible_char c)) }
-    ensures err { IfErr result (λ fault. fault ≡ Fault.OutOfMemory) }
 {
     if is_hidden(c) {
         put_escape(out, u32::from(c))
@@ -114,9 +109,8 @@ fn put_visible_char(out: &mut String, c: char) -> Result<(), Fault>
 }
 
 /// Writes a character of ASCII, or the escape of another.
-fn put_ascii_char(out: &mut String, c: char) -> Result<(), Fault>
+fn put_ascii_char(out: &mut String, c: char) -> Result<(), AllocError>
     ensures ok { OnOk result (string_bytes out.new ≡ string_bytes out.old ++ encode_utf8_all (ascii_char c)) }
-    ensures err { IfErr result (λ fault. fault ≡ Fault.OutOfMemory) }
 {
     if u32::from(c) < 128 {
         out.push(c)?;
@@ -137,9 +131,8 @@ enum Kind {
 }
 
 /// Writes a character of a text, or its escape.
-fn put_char(out: &mut String, c: char, kind: Kind) -> Result<(), Fault>
+fn put_char(out: &mut String, c: char, kind: Kind) -> Result<(), AllocError>
     ensures ok { OnOk result (string_bytes out.new ≡ string_bytes out.old ++ encode_utf8_all (escaped_char kind c)) }
-    ensures err { IfErr result (λ fault. fault ≡ Fault.OutOfMemory) }
 {
     match kind {
         Kind::Node => put_visible_char(out, c),
@@ -149,9 +142,8 @@ fn put_char(out: &mut String, c: char, kind: Kind) -> Result<(), Fault>
 }
 
 /// Writes a text with escapes for some of its characters.
-fn put_escaped(out: &mut String, text: &str, kind: Kind) -> Result<(), Fault>
+fn put_escaped(out: &mut String, text: &str, kind: Kind) -> Result<(), AllocError>
     ensures ok { OnOk result (string_bytes out.new ≡ string_bytes out.old ++ escaped kind text.now) }
-    ensures err { IfErr result (λ fault. fault ≡ Fault.OutOfMemory) }
 {
     'chars: for c in text.chars() {
         put_char(out, c, kind)?;
@@ -161,26 +153,23 @@ fn put_escaped(out: &mut String, text: &str, kind: Kind) -> Result<(), Fault>
 
 /// Writes a text with the escape of each hidden character (YAML 1.2.2, 5.7). In the text of a node these stand between double quotes
 /// alone, where the escape is read as the character.
-pub fn put_visible(out: &mut String, text: &str) -> Result<(), Fault>
+pub fn put_visible(out: &mut String, text: &str) -> Result<(), AllocError>
     ensures ok { OnOk result (string_bytes out.new ≡ string_bytes out.old ++ visible text.now) }
-    ensures err { IfErr result (λ fault. fault ≡ Fault.OutOfMemory) }
 {
     put_escaped(out, text, Kind::Node)
 }
 
 /// Writes a text of a node with the escape of each character outside ASCII (YAML 1.2.2, 5.7).
-pub(crate) fn put_ascii(out: &mut String, text: &str) -> Result<(), Fault>
+pub(crate) fn put_ascii(out: &mut String, text: &str) -> Result<(), AllocError>
     ensures ok { OnOk result (string_bytes out.new ≡ string_bytes out.old ++ ascii text.now) }
-    ensures err { IfErr result (λ fault. fault ≡ Fault.OutOfMemory) }
 {
     put_escaped(out, text, Kind::Ascii)
 }
 
 /// Writes a text of JSON with the escape of each character that a terminal does not show. Such characters stand in strings alone, where
 /// the escape is read as the character.
-pub fn put_json(out: &mut String, text: &str) -> Result<(), Fault>
+pub fn put_json(out: &mut String, text: &str) -> Result<(), AllocError>
     ensures ok { OnOk result (string_bytes out.new ≡ string_bytes out.old ++ json_visible text.now) }
-    ensures err { IfErr result (λ fault. fault ≡ Fault.OutOfMemory) }
 {
     put_escaped(out, text, Kind::Json)
 }

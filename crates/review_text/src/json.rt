@@ -1,14 +1,13 @@
 //! Objects of JSON, one a line.
-ghost use Rattle.std.specs.Prelude.{◌≡◌, ◌++◌, map, option_map, string_bytes, OnOk, IfOk, IfErr};
+ghost use Rattle.std.specs.Prelude.{◌≡◌, ◌++◌, map, option_map, string_bytes, OnOk, IfOk};
 ghost use Rattle.serde_json.specs.Data.{object, no_members};
 ghost use Rattle.serde_json.specs.View.{view};
 ghost use Rattle.review_text.specs.Objects.{place_data, said_data, with_members, object_line};
 
 use crate::hidden::put_json;
 use serde_json::{Map, Value, put};
-use std::alloc::Global;
+use std::alloc::{AllocError, Global};
 use yaml_place::Place;
-use yaml_text::fault::Fault;
 
 /// What an object says of something, or `null`.
 #[derive(Clone, Copy)]
@@ -29,9 +28,8 @@ pub fn text_of(text: &Option<String>) -> Option<&str>
 }
 
 /// A place as JSON.
-fn place_value(alloc: Global, place: Option<Place>) -> Result<Value, Fault>
+fn place_value(alloc: Global, place: Option<Place>) -> Result<Value, AllocError>
     ensures ok { IfOk result (λ value. view value ≡ place_data place) }
-    ensures err { IfErr result (λ fault. fault ≡ Fault.OutOfMemory) }
 {
     match place {
         Some(place) => {
@@ -44,9 +42,8 @@ fn place_value(alloc: Global, place: Option<Place>) -> Result<Value, Fault>
     }
 }
 
-fn value_of(alloc: Global, said: Said<'_>) -> Result<Value, Fault>
+fn value_of(alloc: Global, said: Said<'_>) -> Result<Value, AllocError>
     ensures ok { IfOk result (λ value. view value ≡ said_data said.entry) }
-    ensures err { IfErr result (λ fault. fault ≡ Fault.OutOfMemory) }
 {
     match said {
         Said::Number(Some(number)) => Ok(Value::from(number)),
@@ -56,9 +53,8 @@ fn value_of(alloc: Global, said: Said<'_>) -> Result<Value, Fault>
     }
 }
 
-fn object_of(alloc: Global, members: &[(&str, Said<'_>)]) -> Result<Value, Fault>
+fn object_of(alloc: Global, members: &[(&str, Said<'_>)]) -> Result<Value, AllocError>
     ensures ok { IfOk result (λ value. view value ≡ object (with_members (map (λ m. (m.0.now, said_data m.1)) members.now) no_members)) }
-    ensures err { IfErr result (λ fault. fault ≡ Fault.OutOfMemory) }
 {
     let mut object = Map::new(alloc);
     for member in members {
@@ -72,9 +68,8 @@ pub fn put_object(
     alloc: Global,
     out: &mut String,
     members: &[(&str, Said<'_>)],
-) -> Result<(), Fault>
+) -> Result<(), AllocError>
     ensures ok { OnOk result (string_bytes out.new ≡ string_bytes out.old ++ object_line (map (λ m. (m.0.now, said_data m.1)) members.now)) }
-    ensures err { IfErr result (λ fault. fault ≡ Fault.OutOfMemory) }
 {
     let line = object_of(alloc, members)?.to_string(alloc)?;
     put_json(out, line.as_str())?;

@@ -1,20 +1,18 @@
 //! Paths of differences as text.
-ghost use Rattle.std.specs.Prelude.{◌≡◌, ◌++◌, ◌==◌, length, string_bytes, OnOk, IfOk, IfErr};
+ghost use Rattle.std.specs.Prelude.{◌≡◌, ◌++◌, ◌==◌, length, string_bytes, OnOk, IfOk};
 ghost use Rattle.yaml_diff.specs.Lines.{step_of, way_of};
 ghost use Rattle.yaml_rank.specs.RanksView.{RanksAre};
 ghost use Rattle.review_text.specs.PathText.{place_text, first_text, step_text, start_text, path_text};
 
 use crate::both::Both;
 use crate::text::put_key;
-use std::alloc::Global;
+use std::alloc::{AllocError, Global};
 use yaml_diff::Step;
 use yaml_path::places::Places;
-use yaml_text::fault::Fault;
 
 /// Writes where an item or a document stands: its place, or two places where it has another on the right.
-fn put_places(out: &mut String, places: Places) -> Result<(), Fault>
+fn put_places(out: &mut String, places: Places) -> Result<(), AllocError>
     ensures ok { OnOk result (string_bytes out.new ≡ string_bytes out.old ++ place_text places) }
-    ensures err { IfErr result (λ fault. fault ≡ Fault.OutOfMemory) }
 {
     match places {
         Places::Both(left, right) if left != right => write!(out, "{left}:{right}")?,
@@ -26,10 +24,9 @@ fn put_places(out: &mut String, places: Places) -> Result<(), Fault>
 }
 
 /// Writes the step that leads to a document.
-fn put_first(alloc: Global, out: &mut String, both: &Both<'_>, step: Step) -> Result<(), Fault>
+fn put_first(alloc: Global, out: &mut String, both: &Both<'_>, step: Step) -> Result<(), AllocError>
     requires ranked { RanksAre both.now.graph both.now.ranks }
     ensures ok { OnOk result (string_bytes out.new ≡ string_bytes out.old ++ first_text (step_of both.now.graph step)) }
-    ensures err { IfErr result (λ fault. fault ≡ Fault.OutOfMemory) }
 {
     match step {
         Step::Item(places) => put_places(out, places),
@@ -38,10 +35,9 @@ fn put_first(alloc: Global, out: &mut String, both: &Both<'_>, step: Step) -> Re
 }
 
 /// Writes a step that leads to a part of a node.
-fn put_step(alloc: Global, out: &mut String, both: &Both<'_>, step: Step) -> Result<(), Fault>
+fn put_step(alloc: Global, out: &mut String, both: &Both<'_>, step: Step) -> Result<(), AllocError>
     requires ranked { RanksAre both.now.graph both.now.ranks }
     ensures ok { OnOk result (string_bytes out.new ≡ string_bytes out.old ++ step_text (step_of both.now.graph step)) }
-    ensures err { IfErr result (λ fault. fault ≡ Fault.OutOfMemory) }
 {
     match step {
         Step::Item(places) => {
@@ -63,10 +59,9 @@ fn put_start(
     step: Step,
     alone: bool,
     numbered: bool,
-) -> Result<(), Fault>
+) -> Result<(), AllocError>
     requires ranked { RanksAre both.now.graph both.now.ranks }
     ensures ok { OnOk result (string_bytes out.new ≡ string_bytes out.old ++ start_text numbered alone (step_of both.now.graph step)) }
-    ensures err { IfErr result (λ fault. fault ≡ Fault.OutOfMemory) }
 {
     if numbered {
         return put_first(alloc, out, both, step);
@@ -83,10 +78,9 @@ pub fn path_text(
     both: &Both<'_>,
     path: &[Step],
     numbered: bool,
-) -> Result<String, Fault>
+) -> Result<String, AllocError>
     requires ranked { RanksAre both.now.graph both.now.ranks }
     ensures ok { IfOk result (λ s. string_bytes s ≡ path_text numbered (way_of both.now.graph path.now)) }
-    ensures err { IfErr result (λ fault. fault ≡ Fault.OutOfMemory) }
 {
     let mut out = String::new(alloc);
     let Some((document, steps)) = path.split_last() else {

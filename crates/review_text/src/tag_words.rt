@@ -1,13 +1,13 @@
 //! What is said of a node whose tag is not for it: of another kind of node (fault 14), or of a scalar with another text (15).
-ghost use Rattle.std.specs.Prelude.{◌≡◌, ◌++◌, nat_lt, cond, length, codes, string_bytes, OnOk, IfErr};
+ghost use Rattle.std.specs.Prelude.{◌≡◌, ◌++◌, nat_lt, cond, length, codes, string_bytes, OnOk};
 ghost use Rattle.yaml_text.specs.EventModel.{event_of};
 ghost use Rattle.review_text.specs.TagWords.{bearers, accepted, short_name, tag_text, kind_words, content_shown, content_words, scalar_words, tag_words};
 
 use crate::fronts::put_shown;
 use crate::text::{CUT, front, put_all};
+use std::alloc::AllocError;
 use yaml_text::core_tag;
 use yaml_text::event::{Event, EventTag};
-use yaml_text::fault::Fault;
 
 /// What the tags of the core schema are for (YAML 1.2.2, 10.1 to 10.3).
 #[tactic(auto, unfolding(crate::specs::TagWords::bearers, yaml_definitions::specs::model::Tag::core_tag))]
@@ -52,17 +52,15 @@ fn short_name(tag: &str) -> &str
 }
 
 /// Writes the short form of a tag of the core schema between backticks.
-fn put_tag(out: &mut String, tag: &str) -> Result<(), Fault>
+fn put_tag(out: &mut String, tag: &str) -> Result<(), AllocError>
     ensures ok { OnOk result (string_bytes out.new ≡ string_bytes out.old ++ tag_text tag.now) }
-    ensures err { IfErr result (λ fault. fault ≡ Fault.OutOfMemory) }
 {
     put_all(out, &["`!!", short_name(tag), "`"])
 }
 
 /// Says that a tag is not for this kind of node.
-fn put_kind(out: &mut String, tag: &str, kind: &str) -> Result<(), Fault>
+fn put_kind(out: &mut String, tag: &str, kind: &str) -> Result<(), AllocError>
     ensures ok { OnOk result (string_bytes out.new ≡ string_bytes out.old ++ kind_words tag.now kind.now) }
-    ensures err { IfErr result (λ fault. fault ≡ Fault.OutOfMemory) }
 {
     put_tag(out, tag)?;
     out.push_str(" is for ")?;
@@ -84,9 +82,8 @@ fn mark_behind(shown: &str, text: &str) -> &'static str
 }
 
 /// Writes a text between backticks, a long one as far as it is shown.
-fn put_shown_content(out: &mut String, text: &str) -> Result<(), Fault>
+fn put_shown_content(out: &mut String, text: &str) -> Result<(), AllocError>
     ensures ok { OnOk result (string_bytes out.new ≡ string_bytes out.old ++ content_shown text.now) }
-    ensures err { IfErr result (λ fault. fault ≡ Fault.OutOfMemory) }
 {
     if text.len() == 0 {
         out.push_str("an empty text")?;
@@ -100,9 +97,8 @@ fn put_shown_content(out: &mut String, text: &str) -> Result<(), Fault>
 }
 
 /// Says that a scalar's text is none of its tag, and what would be one. A long text is cut.
-fn put_content(out: &mut String, tag: &str, text: &str) -> Result<(), Fault>
+fn put_content(out: &mut String, tag: &str, text: &str) -> Result<(), AllocError>
     ensures ok { OnOk result (string_bytes out.new ≡ string_bytes out.old ++ content_words tag.now text.now) }
-    ensures err { IfErr result (λ fault. fault ≡ Fault.OutOfMemory) }
 {
     put_shown_content(out, text)?;
     out.push_str(" is no ")?;
@@ -114,9 +110,8 @@ fn put_content(out: &mut String, tag: &str, text: &str) -> Result<(), Fault>
 
 /// Says why a tag is not for a scalar of this text.
 #[tactic(auto, unfolding(yaml_definitions::specs::model::Tag::core_tag))]
-fn put_scalar_words(out: &mut String, tag: &str, text: &str) -> Result<(), Fault>
+fn put_scalar_words(out: &mut String, tag: &str, text: &str) -> Result<(), AllocError>
     ensures ok { OnOk result (string_bytes out.new ≡ string_bytes out.old ++ scalar_words tag.now text.now) }
-    ensures err { IfErr result (λ fault. fault ≡ Fault.OutOfMemory) }
 {
     if tag == core_tag::SEQ {
         return put_kind(out, tag, "scalar");
@@ -131,9 +126,8 @@ fn put_scalar_words(out: &mut String, tag: &str, text: &str) -> Result<(), Fault
 ///
 /// # Errors
 /// `OutOfMemory`
-pub fn put_tag_words(out: &mut String, event: &Event<'_>) -> Result<(), Fault>
+pub fn put_tag_words(out: &mut String, event: &Event<'_>) -> Result<(), AllocError>
     ensures ok { OnOk result (string_bytes out.new ≡ string_bytes out.old ++ tag_words (event_of event.now)) }
-    ensures err { IfErr result (λ fault. fault ≡ Fault.OutOfMemory) }
 {
     match event {
         Event::SequenceStart {

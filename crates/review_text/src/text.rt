@@ -1,5 +1,5 @@
 //! The text of a node: that of the canonical text, with aliases in place.
-ghost use Rattle.std.specs.Prelude.{◌≡◌, ◌<◌, ◌≤◌, ◌++◌, ◌∷◌, ◌&&◌, [], length, map, flat_map, cond, bytes_eq, codes, string_bytes, OnOk, IfOk, MatchOption, MatchBool, IfErr};
+ghost use Rattle.std.specs.Prelude.{◌≡◌, ◌<◌, ◌≤◌, ◌++◌, ◌∷◌, ◌&&◌, [], length, map, flat_map, cond, bytes_eq, codes, string_bytes, OnOk, IfOk, MatchOption, MatchBool};
 ghost use Rattle.std.specs.List.{All, list_all};
 ghost use Rattle.std.specs.Str.{encode_utf8_all};
 ghost use Rattle.yaml_definitions.specs.grammar.Characters.{c-mapping-start, c-sequence-start};
@@ -12,6 +12,7 @@ ghost use Rattle.yaml_tree.specs.TreeLists.{trees, pairs};
 ghost use Rattle.yaml_graph.specs.GraphView.{tree};
 ghost use Rattle.yaml_rank.specs.RankModel.{key_pair};
 ghost use Rattle.yaml_rank.specs.RanksView.{RanksAre};
+ghost use Rattle.yaml_scalar.specs.Spelling.{quoted_bytes};
 ghost use Rattle.review_text.specs.Fills.{Fills};
 ghost use Rattle.review_text.specs.NodeText.{text_of, items_out, pairs_out, separator};
 ghost use Rattle.review_text.specs.PathText.{is_name_start, is_name_byte, is_name, key_text, bracketed, whole_limit};
@@ -19,12 +20,11 @@ ghost use Rattle.review_text.specs.Shown.{front, shown, IsLongFront};
 
 use crate::both::Both;
 use percent_encoding::percent_encode_byte;
-use std::alloc::Global;
+use std::alloc::{AllocError, Global};
 use yaml_graph::node::NodeKind;
 use yaml_scalar::spell::spell_into;
 use yaml_text::class::is_uri;
 use yaml_text::core_tag;
-use yaml_text::fault::Fault;
 use yaml_tree::node::NodeId;
 
 /// How many bytes a text has that is not cut.
@@ -76,9 +76,8 @@ fn is_named(tag: &str, content: &str) -> bool
 }
 
 /// Writes texts one behind another.
-pub fn put_all(out: &mut String, texts: &[&str]) -> Result<(), Fault>
+pub fn put_all(out: &mut String, texts: &[&str]) -> Result<(), AllocError>
     ensures ok { OnOk result (string_bytes out.new ≡ string_bytes out.old ++ flat_map (λ text. text.now) texts.now) }
-    ensures err { IfErr result (λ fault. fault ≡ Fault.OutOfMemory) }
 {
     for text in texts {
         out.push_str(text)?;
@@ -87,9 +86,8 @@ pub fn put_all(out: &mut String, texts: &[&str]) -> Result<(), Fault>
 }
 
 /// A byte of a tag: as it is where it is a URI character, else percent-encoded.
-fn put_byte(out: &mut String, byte: u8) -> Result<(), Fault>
+fn put_byte(out: &mut String, byte: u8) -> Result<(), AllocError>
     ensures ok { OnOk result (string_bytes out.new ≡ string_bytes out.old ++ encode_utf8_all (spell_byte byte)) }
-    ensures err { IfErr result (λ fault. fault ≡ Fault.OutOfMemory) }
 {
     let c = char::from(byte);
     if is_uri(c) {
@@ -101,9 +99,8 @@ fn put_byte(out: &mut String, byte: u8) -> Result<(), Fault>
 }
 
 /// A tag's bytes, percent-encoded.
-fn put_encoded(out: &mut String, tag: &str) -> Result<(), Fault>
+fn put_encoded(out: &mut String, tag: &str) -> Result<(), AllocError>
     ensures ok { OnOk result (string_bytes out.new ≡ string_bytes out.old ++ encode_utf8_all (encoded tag.now [])) }
-    ensures err { IfErr result (λ fault. fault ≡ Fault.OutOfMemory) }
 {
     for byte in tag.as_bytes() {
         put_byte(out, *byte)?;
@@ -112,9 +109,8 @@ fn put_encoded(out: &mut String, tag: &str) -> Result<(), Fault>
 }
 
 /// A tag and a space. A kind's own tag is not written.
-fn put_tag(out: &mut String, tag: &str, own: &str) -> Result<(), Fault>
+fn put_tag(out: &mut String, tag: &str, own: &str) -> Result<(), AllocError>
     ensures ok { OnOk result (string_bytes out.new ≡ string_bytes out.old ++ encode_utf8_all (cond (bytes_eq tag.now own.now) [] (full_text tag.now))) }
-    ensures err { IfErr result (λ fault. fault ≡ Fault.OutOfMemory) }
 {
     if tag == own {
         return Ok(());
@@ -143,13 +139,22 @@ fn long_front(text: &str, room: usize) -> &str
     &text[..text.ceil_char_boundary(room)]
 }
 
+/// Writes a content between double quotes, as the canonical text has it (YAML 1.2.2, 5.7).
+pub fn put_spelled(out: &mut String, text: &str) -> Result<(), AllocError>
+    ensures ok { OnOk result (string_bytes out.new ≡ string_bytes out.old ++ quoted_bytes text.now) }
+{
+    match spell_into(text, out) {
+        Ok(()) => Ok(()),
+        Err(_) => Err(AllocError),
+    }
+}
+
 /// A scalar of this tag and content, of which little more is spelled than may be shown.
-pub fn put_scalar(out: &mut String, tag: &str, content: &str, room: usize) -> Result<(), Fault>
+pub fn put_scalar(out: &mut String, tag: &str, content: &str, room: usize) -> Result<(), AllocError>
     ensures ok { OnOk result (Fills room (string_bytes out.old) (string_bytes out.new) (text_of (scalar tag.now content.now))) }
-    ensures err { IfErr result (λ fault. fault ≡ Fault.OutOfMemory) }
 {
     put_tag(out, tag, core_tag::STR)?;
-    spell_into(long_front(content, room), out)
+    put_spelled(out, long_front(content, room))
 }
 
 /// Whether a text has more bytes than there is room for.
@@ -160,9 +165,8 @@ fn is_full(text: &str, room: usize) -> bool
 }
 
 /// What is shown of a text: one of more bytes than there is room for is cut at the end of a character, and ends with `...`.
-fn cut(alloc: Global, text: String, room: usize) -> Result<String, Fault>
+fn cut(alloc: Global, text: String, room: usize) -> Result<String, AllocError>
     ensures ok { IfOk result (λ s. string_bytes s ≡ shown room (string_bytes text)) }
-    ensures err { IfErr result (λ fault. fault ≡ Fault.OutOfMemory) }
 {
     if !is_full(&text, room) {
         return Ok(text);
@@ -173,9 +177,8 @@ fn cut(alloc: Global, text: String, room: usize) -> Result<String, Fault>
 }
 
 /// A step in brackets.
-fn put_bracketed(out: &mut String, text: &str) -> Result<(), Fault>
+fn put_bracketed(out: &mut String, text: &str) -> Result<(), AllocError>
     ensures ok { OnOk result (string_bytes out.new ≡ string_bytes out.old ++ bracketed text.now) }
-    ensures err { IfErr result (λ fault. fault ≡ Fault.OutOfMemory) }
 {
     put_all(out, &["[", text, "]"])
 }
@@ -186,9 +189,8 @@ pub fn put_scalar_key(
     out: &mut String,
     tag: &str,
     content: &str,
-) -> Result<(), Fault>
+) -> Result<(), AllocError>
     ensures ok { OnOk result (string_bytes out.new ≡ string_bytes out.old ++ key_text (scalar tag.now content.now)) }
-    ensures err { IfErr result (λ fault. fault ≡ Fault.OutOfMemory) }
 {
     if is_named(tag, content) {
         return put_all(out, &[".", content]);
@@ -198,9 +200,8 @@ pub fn put_scalar_key(
     put_bracketed(out, &cut(alloc, text, WHOLE)?)
 }
 /// What stands before the part at this place.
-fn put_separator(out: &mut String, place: usize) -> Result<(), Fault>
+fn put_separator(out: &mut String, place: usize) -> Result<(), AllocError>
     ensures ok { OnOk result (string_bytes out.new ≡ string_bytes out.old ++ encode_utf8_all (separator place)) }
-    ensures err { IfErr result (λ fault. fault ≡ Fault.OutOfMemory) }
 {
     if place == 0 {
         return Ok(());
@@ -211,10 +212,9 @@ fn put_separator(out: &mut String, place: usize) -> Result<(), Fault>
 
 /// Writes a node as far as there is room for it, and perhaps further.
 #[cycle(node)]
-fn put_node(both: &Both<'_>, id: NodeId, room: usize, out: &mut String) -> Result<(), Fault>
+fn put_node(both: &Both<'_>, id: NodeId, room: usize, out: &mut String) -> Result<(), AllocError>
     requires { RanksAre both.now.graph both.now.ranks }
     ensures ok { OnOk result (Fills room (string_bytes out.old) (string_bytes out.new) (text_of (tree both.now.graph id.0))) }
-    ensures err { IfErr result (λ fault. fault ≡ Fault.OutOfMemory) }
 {
     if is_full(out, room) {
         return Ok(());
@@ -245,11 +245,10 @@ fn put_items(
     items: &[NodeId],
     room: usize,
     out: &mut String,
-) -> Result<(), Fault>
+) -> Result<(), AllocError>
     requires ranked { RanksAre both.now.graph both.now.ranks }
     requires below { All (λ i. i.0 < owner.0) items.now }
     ensures ok { OnOk result (Fills room (string_bytes out.old) (string_bytes out.new) (encode_utf8_all (c-sequence-start ∷ items_text [] (items_out (trees (map (λ i. arranged (tree both.now.graph i.0)) items.now))) []))) }
-    ensures err { IfErr result (λ fault. fault ≡ Fault.OutOfMemory) }
 {
     out.push('[')?;
     for (place, item) in items.iter().enumerate() {
@@ -271,11 +270,10 @@ fn put_entries(
     entries: &[(NodeId, NodeId)],
     room: usize,
     out: &mut String,
-) -> Result<(), Fault>
+) -> Result<(), AllocError>
     requires ranked { RanksAre both.now.graph both.now.ranks }
     requires below { All (λ p. (p.0.0 < owner.0) × (p.1.0 < owner.0)) entries.now }
     ensures ok { OnOk result (Fills room (string_bytes out.old) (string_bytes out.new) (encode_utf8_all (c-mapping-start ∷ pairs_text [] (pairs_out (pairs (map (key_pair both.now.graph) entries.now))) []))) }
-    ensures err { IfErr result (λ fault. fault ≡ Fault.OutOfMemory) }
 {
     out.push('{')?;
     for (place, entry) in entries.iter().enumerate() {
@@ -294,10 +292,9 @@ fn put_entries(
 /// The text of a node. One of more bytes than there is room for is cut at the end of a character, and ends with `...`.
 ///
 /// A whole text ends with `"`, `]` or `}`, so a `.` at the end tells a cut.
-pub fn node_text(alloc: Global, both: &Both<'_>, id: NodeId, room: usize) -> Result<String, Fault>
+pub fn node_text(alloc: Global, both: &Both<'_>, id: NodeId, room: usize) -> Result<String, AllocError>
     requires { RanksAre both.now.graph both.now.ranks }
     ensures ok { IfOk result (λ s. string_bytes s ≡ shown room (text_of (tree both.now.graph id.0))) }
-    ensures err { IfErr result (λ fault. fault ≡ Fault.OutOfMemory) }
 {
     let mut text = String::new(alloc);
     put_node(both, id, room, &mut text)?;
@@ -324,10 +321,9 @@ fn name_of<'b>(both: &'b Both<'_>, key: NodeId) -> Option<&'b str>
 }
 
 /// The text of a step to the value of a key.
-pub fn put_key(alloc: Global, out: &mut String, both: &Both<'_>, key: NodeId) -> Result<(), Fault>
+pub fn put_key(alloc: Global, out: &mut String, both: &Both<'_>, key: NodeId) -> Result<(), AllocError>
     requires { RanksAre both.now.graph both.now.ranks }
     ensures ok { OnOk result (string_bytes out.new ≡ string_bytes out.old ++ key_text (tree both.now.graph key.0)) }
-    ensures err { IfErr result (λ fault. fault ≡ Fault.OutOfMemory) }
 {
     match name_of(both, key) {
         Some(name) => put_all(out, &[".", name]),

@@ -1,12 +1,11 @@
 //! What a plain text is in YAML 1.1, and where the core schema of YAML 1.2 (1.2.2, 10.3.2) reads it otherwise.
 
-ghost use Rattle.std.specs.Prelude.{◌≡◌, ◌++◌, option_map, codes, string_bytes, IfOk, IfErr};
+ghost use Rattle.std.specs.Prelude.{◌≡◌, ◌++◌, option_map, codes, string_bytes, IfOk};
 ghost use Rattle.review_text.specs.Yaml11.{after_one, all_of, some_of, behind_all, unsigned, octal, prefixed, is_bool_word, is_null_word, is_float_word, old_exponent, old_fraction, old_decimal, pointed, is_old_float, spaced, is_old_int, long_fraction, trailing_zero, old_kind, new_kind, are_same, older_of, SaysShorter, IsTimedWarning, IsOlder};
 
 use crate::timed::read_timed;
-use std::alloc::Global;
+use std::alloc::{AllocError, Global};
 use yaml_core::kind::{PlainKind, plain_kind};
-use yaml_text::fault::Fault;
 
 /// The kinds of plain scalars of YAML 1.1; the first five are those of the core schema.
 #[derive(Clone, Copy)]
@@ -56,16 +55,14 @@ pub enum Older {
 }
 
 /// That an int is one of base 10, and of base 8 in YAML 1.1.
-fn bases(alloc: Global) -> Result<String, Fault>
+fn bases(alloc: Global) -> Result<String, AllocError>
     ensures ok { IfOk result (λ s. string_bytes s ≡ codes "an int of base 10 here, of base 8 in YAML 1.1") }
-    ensures err { IfErr result (λ fault. fault ≡ Fault.OutOfMemory) }
 {
     Ok("an int of base 10 here, of base 8 in YAML 1.1".to_string(alloc)?)
 }
 
 /// Which number a text is by base 10, and which by base 8.
-fn numbers(alloc: Global, text: &str) -> Result<String, Fault>
-    ensures err { IfErr result (λ fault. fault ≡ Fault.OutOfMemory) }
+fn numbers(alloc: Global, text: &str) -> Result<String, AllocError>
 {
     match i128::from_str_radix(text, 10) {
         Ok(here) => match i128::from_str_radix(text, 8) {
@@ -79,33 +76,30 @@ fn numbers(alloc: Global, text: &str) -> Result<String, Fault>
 }
 
 /// What is left of a float whose zeros at the end are lost.
-fn shorter(alloc: Global, text: &str) -> Result<String, Fault>
+fn shorter(alloc: Global, text: &str) -> Result<String, AllocError>
     ensures ok { IfOk result (λ s. SaysShorter text.now (string_bytes s)) }
-    ensures err { IfErr result (λ fault. fault ≡ Fault.OutOfMemory) }
 {
     let short = text.trim_end_matches('0').trim_end_matches('.');
     Ok(format!(in alloc; "a float, {short}")?)
 }
 
 /// Which two kinds a text is of.
-fn both_kinds(alloc: Global, here: &str, there: &str) -> Result<String, Fault>
+fn both_kinds(alloc: Global, here: &str, there: &str) -> Result<String, AllocError>
     ensures ok { IfOk result (λ s. string_bytes s ≡ here.now ++ (codes " here, " ++ (there.now ++ codes " in YAML 1.1"))) }
-    ensures err { IfErr result (λ fault. fault ≡ Fault.OutOfMemory) }
 {
     Ok(format!(in alloc; "{here} here, {there} in YAML 1.1")?)
 }
 
 impl Older {
-    ghost use Rattle.std.specs.Prelude.{◌≡◌, string_bytes, IfOk, IfErr};
+    ghost use Rattle.std.specs.Prelude.{◌≡◌, string_bytes, IfOk};
     ghost use Rattle.review_text.specs.Yaml11.{SaysOlder};
 
     /// What the warning says of a text.
     ///
     /// # Errors
     /// `OutOfMemory`
-    pub fn words(self, alloc: Global, text: &str) -> Result<String, Fault>
+    pub fn words(self, alloc: Global, text: &str) -> Result<String, AllocError>
         ensures ok { IfOk result (λ s. SaysOlder self text.now (string_bytes s)) }
-        ensures err { IfErr result (λ fault. fault ≡ Fault.OutOfMemory) }
     {
         match self {
             Older::Kinds(here, there) => both_kinds(alloc, here.words(), there.words()),

@@ -1,5 +1,5 @@
 //! What a program reads of a difference beside its texts.
-ghost use Rattle.std.specs.Prelude.{◌≡◌, string_bytes, IfOk, IfErr};
+ghost use Rattle.std.specs.Prelude.{◌≡◌, string_bytes, IfOk};
 ghost use Rattle.yaml_rank.specs.RanksView.{RanksAre};
 ghost use Rattle.review_values.specs.Members.{SaysNode, SaysMembers};
 
@@ -7,9 +7,8 @@ use crate::room::Room;
 use crate::steps::steps_text;
 use crate::value::value_text;
 use review_text::Both;
-use std::alloc::Global;
+use std::alloc::{AllocError, Global};
 use yaml_diff::Difference;
-use yaml_text::fault::Fault;
 use yaml_tree::node::NodeId;
 
 /// A difference as JSON: its path, and the values of its nodes where JSON has them.
@@ -26,10 +25,9 @@ fn value_of(
     both: &Both<'_>,
     id: Option<NodeId>,
     room: &mut Room,
-) -> Result<Option<String>, Fault>
+) -> Result<Option<String>, AllocError>
     requires ranked { RanksAre both.now.graph both.now.ranks }
     ensures ok { IfOk result (SaysNode both.now.graph id) }
-    ensures err { IfErr result (λ fault. fault ≡ Fault.OutOfMemory) }
 {
     match id {
         Some(id) => value_text(alloc, both, id, room),
@@ -46,10 +44,9 @@ pub fn members_of(
     both: &Both<'_>,
     difference: &Difference,
     room: &mut Room,
-) -> Result<Members, Fault>
+) -> Result<Members, AllocError>
     requires ranked { RanksAre both.now.graph both.now.ranks }
     ensures ok { IfOk result (SaysMembers both.now.graph difference.now) }
-    ensures err { IfErr result (λ fault. fault ≡ Fault.OutOfMemory) }
 {
     Ok(Members {
         steps: steps_text(alloc, both, &difference.path)?,

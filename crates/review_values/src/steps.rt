@@ -1,5 +1,5 @@
 //! Paths as arrays of JSON.
-ghost use Rattle.std.specs.Prelude.{◌≡◌, ◌++◌, bytes_eq, nat_le, ◌&&◌, length, string_bytes, OnOk, IfOk, MatchOption, IfErr};
+ghost use Rattle.std.specs.Prelude.{◌≡◌, ◌++◌, bytes_eq, nat_le, ◌&&◌, length, string_bytes, OnOk, IfOk, MatchOption};
 ghost use Rattle.yaml_definitions.specs.model.Tag.{str_tag};
 ghost use Rattle.yaml_graph.specs.GraphView.{tree};
 ghost use Rattle.yaml_diff.specs.Lines.{step_of, way_of};
@@ -10,18 +10,16 @@ ghost use Rattle.review_values.specs.Json.{string_json, places_json, key_object,
 use crate::writing::put_string;
 use review_text::Both;
 use review_text::text::{WHOLE, node_text};
-use std::alloc::Global;
+use std::alloc::{AllocError, Global};
 use yaml_diff::Step;
 use yaml_graph::node::NodeKind;
 use yaml_path::places::Places;
 use yaml_text::core_tag;
-use yaml_text::fault::Fault;
 use yaml_tree::node::NodeId;
 
 /// Writes the places of an item on the sides that have it.
-fn put_places(out: &mut String, places: Places) -> Result<(), Fault>
+fn put_places(out: &mut String, places: Places) -> Result<(), AllocError>
     ensures ok { OnOk result (string_bytes out.new ≡ string_bytes out.old ++ places_json places) }
-    ensures err { IfErr result (λ fault. fault ≡ Fault.OutOfMemory) }
 {
     match places {
         Places::Both(left, right) => write!(out, "{{\"left\":{left},\"right\":{right}}}")?,
@@ -40,9 +38,8 @@ fn is_told(tag: &str, content: &str) -> bool
 }
 
 /// Writes a key by its text, as a path has it between brackets.
-fn put_key_object(alloc: Global, out: &mut String, text: &str) -> Result<(), Fault>
+fn put_key_object(alloc: Global, out: &mut String, text: &str) -> Result<(), AllocError>
     ensures ok { OnOk result (string_bytes out.new ≡ string_bytes out.old ++ key_object text.now) }
-    ensures err { IfErr result (λ fault. fault ≡ Fault.OutOfMemory) }
 {
     out.push_str("{\"key\":")?;
     put_string(alloc, out, text)?;
@@ -70,10 +67,9 @@ fn content_of<'b>(both: &'b Both<'_>, key: NodeId) -> Option<&'b str>
 }
 
 /// Writes a key: a str as a string, and any other key by its text.
-fn put_key(alloc: Global, out: &mut String, both: &Both<'_>, key: NodeId) -> Result<(), Fault>
+fn put_key(alloc: Global, out: &mut String, both: &Both<'_>, key: NodeId) -> Result<(), AllocError>
     requires ranked { RanksAre both.now.graph both.now.ranks }
     ensures ok { OnOk result (string_bytes out.new ≡ string_bytes out.old ++ key_json (tree both.now.graph key.0)) }
-    ensures err { IfErr result (λ fault. fault ≡ Fault.OutOfMemory) }
 {
     match content_of(both, key) {
         Some(content) => put_string(alloc, out, content),
@@ -82,10 +78,9 @@ fn put_key(alloc: Global, out: &mut String, both: &Both<'_>, key: NodeId) -> Res
 }
 
 /// Writes a step that leads to an item, a document or the value of a key.
-fn put_step(alloc: Global, out: &mut String, both: &Both<'_>, step: Step) -> Result<(), Fault>
+fn put_step(alloc: Global, out: &mut String, both: &Both<'_>, step: Step) -> Result<(), AllocError>
     requires ranked { RanksAre both.now.graph both.now.ranks }
     ensures ok { OnOk result (string_bytes out.new ≡ string_bytes out.old ++ step_json (step_of both.now.graph step)) }
-    ensures err { IfErr result (λ fault. fault ≡ Fault.OutOfMemory) }
 {
     match step {
         Step::Item(places) => put_places(out, places),
@@ -94,20 +89,18 @@ fn put_step(alloc: Global, out: &mut String, both: &Both<'_>, step: Step) -> Res
 }
 
 /// Writes a step behind another.
-fn put_next(alloc: Global, out: &mut String, both: &Both<'_>, step: Step) -> Result<(), Fault>
+fn put_next(alloc: Global, out: &mut String, both: &Both<'_>, step: Step) -> Result<(), AllocError>
     requires ranked { RanksAre both.now.graph both.now.ranks }
     ensures ok { OnOk result (string_bytes out.new ≡ string_bytes out.old ++ next_json (step_of both.now.graph step)) }
-    ensures err { IfErr result (λ fault. fault ≡ Fault.OutOfMemory) }
 {
     out.push(',')?;
     put_step(alloc, out, both, step)
 }
 
 /// Writes the steps of a path, that to the document first.
-fn put_steps(alloc: Global, out: &mut String, both: &Both<'_>, path: &[Step]) -> Result<(), Fault>
+fn put_steps(alloc: Global, out: &mut String, both: &Both<'_>, path: &[Step]) -> Result<(), AllocError>
     requires ranked { RanksAre both.now.graph both.now.ranks }
     ensures ok { OnOk result (string_bytes out.new ≡ string_bytes out.old ++ inner_json (way_of both.now.graph path.now)) }
-    ensures err { IfErr result (λ fault. fault ≡ Fault.OutOfMemory) }
 {
     let Some((document, steps)) = path.split_last() else {
         return Ok(());
@@ -124,10 +117,9 @@ fn put_steps(alloc: Global, out: &mut String, both: &Both<'_>, path: &[Step]) ->
 ///
 /// # Errors
 /// `OutOfMemory`
-pub fn steps_text(alloc: Global, both: &Both<'_>, path: &[Step]) -> Result<String, Fault>
+pub fn steps_text(alloc: Global, both: &Both<'_>, path: &[Step]) -> Result<String, AllocError>
     requires ranked { RanksAre both.now.graph both.now.ranks }
     ensures ok { IfOk result (λ s. string_bytes s ≡ steps_json (way_of both.now.graph path.now)) }
-    ensures err { IfErr result (λ fault. fault ≡ Fault.OutOfMemory) }
 {
     let mut out = String::new(alloc);
     out.push('[')?;

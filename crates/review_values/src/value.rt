@@ -15,7 +15,7 @@ ghost use Rattle.review_values.specs.Values.{comma, scalar_json, scalar_has_json
 use crate::room::Room;
 use crate::unsaid::Unsaid;
 use review_text::Both;
-use std::alloc::Global;
+use std::alloc::{AllocError, Global};
 use yaml_graph::node::NodeKind;
 use yaml_json::is_json;
 use yaml_show_scalar::escapes::put_json_string;
@@ -23,7 +23,6 @@ use yaml_show_scalar::number::{is_in_words, put_float};
 use yaml_show_scalar::tag::is_resolved;
 use yaml_show_scalar::{Out, Stop};
 use yaml_text::core_tag;
-use yaml_text::fault::Fault;
 use yaml_tree::node::NodeId;
 
 /// How many nodes may be inside one another: some readers of JSON take no more than 127 arrays and objects, and the line is one.
@@ -224,19 +223,18 @@ pub fn value_text(
     both: &Both<'_>,
     id: NodeId,
     room: &mut Room,
-) -> Result<Option<String>, Fault>
+) -> Result<Option<String>, AllocError>
     requires ranked { RanksAre both.now.graph both.now.ranks }
     ensures ok { IfOk result (λ text. IfSome text (λ json. IsValueOf (tree both.now.graph id.0) (string_bytes json))) }
     ensures none { IfOk result (λ text. IfNone text (HasNoValue (tree both.now.graph id.0) (min (room_left room.old) one_value))) }
     ensures room { IfOk result (λ text. IfSome text (λ json. room_left room.new ≡ room_left room.old - length (string_bytes json))) }
-    ensures err { IfErr result (λ fault. fault ≡ Fault.OutOfMemory) }
 {
     let mut out = Out::new(alloc, room.next());
     let answer = put_value(both, id, LEVELS, &mut out);
     room.take(out.text.as_str().len());
     match answer {
         Ok(()) => {}
-        Err(Unsaid::Stopped(Stop::OutOfMemory)) => return Err(Fault::OutOfMemory),
+        Err(Unsaid::Stopped(Stop::OutOfMemory)) => return Err(AllocError),
         Err(_) => return Ok(None),
     }
     if !is_json(alloc, out.text.as_str())? {

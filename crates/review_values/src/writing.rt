@@ -1,16 +1,14 @@
 //! Members of an object of JSON (RFC 8259).
-ghost use Rattle.std.specs.Prelude.{◌≡◌, ◌++◌, option_map, string_bytes, OnOk, IfErr};
+ghost use Rattle.std.specs.Prelude.{◌≡◌, ◌++◌, option_map, string_bytes, OnOk};
 ghost use Rattle.review_values.specs.Json.{string_json, text_json, place_json, raw_text};
 
 use serde_json::Value;
-use std::alloc::Global;
+use std::alloc::{AllocError, Global};
 use yaml_place::Place;
-use yaml_text::fault::Fault;
 
 /// Writes a text as a string of JSON.
-pub(crate) fn put_string(alloc: Global, out: &mut String, text: &str) -> Result<(), Fault>
+pub(crate) fn put_string(alloc: Global, out: &mut String, text: &str) -> Result<(), AllocError>
     ensures ok { OnOk result (string_bytes out.new ≡ string_bytes out.old ++ string_json text.now) }
-    ensures err { IfErr result (λ fault. fault ≡ Fault.OutOfMemory) }
 {
     let string = Value::try_from_str(alloc, text)?.to_string(alloc)?;
     out.push_str(string.as_str())?;
@@ -18,9 +16,8 @@ pub(crate) fn put_string(alloc: Global, out: &mut String, text: &str) -> Result<
 }
 
 /// Writes a text as a string, or `null` for none.
-fn put_text_or_null(alloc: Global, out: &mut String, text: Option<&str>) -> Result<(), Fault>
+fn put_text_or_null(alloc: Global, out: &mut String, text: Option<&str>) -> Result<(), AllocError>
     ensures ok { OnOk result (string_bytes out.new ≡ string_bytes out.old ++ text_json (option_map (λ told. told.now) text.entry)) }
-    ensures err { IfErr result (λ fault. fault ≡ Fault.OutOfMemory) }
 {
     match text {
         Some(text) => put_string(alloc, out, text),
@@ -37,18 +34,16 @@ pub fn put_text(
     out: &mut String,
     front: &str,
     text: Option<&str>,
-) -> Result<(), Fault>
+) -> Result<(), AllocError>
     ensures ok { OnOk result (string_bytes out.new ≡ string_bytes out.old ++ (front.now ++ text_json (option_map (λ told. told.now) text.entry))) }
-    ensures err { IfErr result (λ fault. fault ≡ Fault.OutOfMemory) }
 {
     out.push_str(front)?;
     put_text_or_null(alloc, out, text)
 }
 
 /// Writes what stands before a member's value, and then a place as an object, or `null` for none.
-pub fn put_place_json(out: &mut String, front: &str, place: Option<Place>) -> Result<(), Fault>
+pub fn put_place_json(out: &mut String, front: &str, place: Option<Place>) -> Result<(), AllocError>
     ensures ok { OnOk result (string_bytes out.new ≡ string_bytes out.old ++ (front.now ++ place_json place)) }
-    ensures err { IfErr result (λ fault. fault ≡ Fault.OutOfMemory) }
 {
     out.push_str(front)?;
     match place {
@@ -63,9 +58,8 @@ pub fn put_place_json(out: &mut String, front: &str, place: Option<Place>) -> Re
 }
 
 /// Writes what stands before a member's value, and the value's own text; nothing for none.
-pub fn put_raw(out: &mut String, front: &str, text: Option<&str>) -> Result<(), Fault>
+pub fn put_raw(out: &mut String, front: &str, text: Option<&str>) -> Result<(), AllocError>
     ensures ok { OnOk result (string_bytes out.new ≡ string_bytes out.old ++ raw_text front.now (option_map (λ told. told.now) text.entry)) }
-    ensures err { IfErr result (λ fault. fault ≡ Fault.OutOfMemory) }
 {
     if let Some(text) = text {
         out.push_str(front)?;

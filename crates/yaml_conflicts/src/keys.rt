@@ -1,5 +1,5 @@
 //! The keys of which one side or another has a value.
-ghost use Rattle.std.specs.Prelude.{◌≡◌, ◌<◌, length, IfOk, IfErr, OnOk};
+ghost use Rattle.std.specs.Prelude.{◌≡◌, ◌<◌, length, IfOk, OnOk};
 ghost use Rattle.yaml_graph.specs.GraphView.{nodes_of};
 ghost use Rattle.yaml_rank.specs.RanksView.{RanksAre};
 ghost use Rattle.yaml_diff.specs.Lines.{tree_of};
@@ -9,11 +9,10 @@ ghost use Rattle.yaml_conflicts.specs.Keys.{side_has, has_value, Stands, Covers,
 
 use crate::sides::Sides;
 use crate::values::value_at;
-use std::alloc::Global;
+use std::alloc::{AllocError, Global};
 use yaml_graph::graph::Graph;
 use yaml_graph::node::NodeKind;
 use yaml_rank::ranks::Ranks;
-use yaml_text::fault::Fault;
 use yaml_tree::node::NodeId;
 
 /// Whether this side has a value of the key.
@@ -46,7 +45,7 @@ fn add_key(
     ranks: &Ranks,
     key: NodeId,
     earlier: Sides,
-) -> Result<(), Fault>
+) -> Result<(), AllocError>
     requires within { SidesWithin graph.now earlier }
     requires key { key.0 < length (nodes_of graph.now) }
     requires ranked { RanksAre graph.now ranks.now }
@@ -54,7 +53,6 @@ fn add_key(
     requires keys { AllWithin graph.now keys.old.items }
     ensures adds { OnOk result (Adds graph.now keys.old.items keys.new.items) }
     ensures stands { OnOk result (Stands graph.now keys.new.items (tree_of graph.now key)) }
-    ensures err { IfErr result (λ fault. fault ≡ Fault.OutOfMemory) }
 {
     if is_had(graph, ranks, earlier, key) {
         return Ok(());
@@ -70,7 +68,7 @@ fn add_keys(
     ranks: &Ranks,
     entries: &[(NodeId, NodeId)],
     earlier: Sides,
-) -> Result<(), Fault>
+) -> Result<(), AllocError>
     requires within { SidesWithin graph.now earlier }
     requires ranked { RanksAre graph.now ranks.now }
     requires covers { Covers graph.now earlier keys.old.items }
@@ -78,7 +76,6 @@ fn add_keys(
     requires entries { KeysWithin graph.now entries.now }
     ensures adds { OnOk result (Adds graph.now keys.old.items keys.new.items) }
     ensures keys { OnOk result (HasKeys graph.now entries.now keys.new.items) }
-    ensures err { IfErr result (λ fault. fault ≡ Fault.OutOfMemory) }
 {
     for (key, _) in entries {
         add_key(keys, graph, ranks, *key, earlier)?;
@@ -93,7 +90,7 @@ fn add_side(
     ranks: &Ranks,
     side: Option<NodeId>,
     earlier: Sides,
-) -> Result<(), Fault>
+) -> Result<(), AllocError>
     requires side { Within graph.now side }
     requires within { SidesWithin graph.now earlier }
     requires ranked { RanksAre graph.now ranks.now }
@@ -101,7 +98,6 @@ fn add_side(
     requires keys { AllWithin graph.now keys.old.items }
     ensures adds { OnOk result (Adds graph.now keys.old.items keys.new.items) }
     ensures side { OnOk result (HasSide graph.now side keys.new.items) }
-    ensures err { IfErr result (λ fault. fault ≡ Fault.OutOfMemory) }
 {
     let Some(id) = side else {
         return Ok(());
@@ -122,12 +118,11 @@ pub(crate) fn keys_of(
     graph: &Graph<'_>,
     ranks: &Ranks,
     sides: Sides,
-) -> Result<Vec<NodeId>, Fault>
+) -> Result<Vec<NodeId>, AllocError>
     requires within { SidesWithin graph.now sides }
     requires ranked { RanksAre graph.now ranks.now }
     ensures covers { IfOk result (λ keys. Covers graph.now sides keys.items) }
     ensures within { IfOk result (λ keys. AllWithin graph.now keys.items) }
-    ensures err { IfErr result (λ fault. fault ≡ Fault.OutOfMemory) }
 {
     let mut keys = Vec::new(alloc);
     let mut earlier = Sides {

@@ -1,10 +1,9 @@
 //! Places put together.
-ghost use Rattle.std.specs.Prelude.{◌≡◌, ◌++◌, ◌&&◌, ◌∷◌, [], map, IfOk, IfErr, OnOk, true};
+ghost use Rattle.std.specs.Prelude.{◌≡◌, ◌++◌, ◌&&◌, ◌∷◌, [], map, IfOk, OnOk, true};
 ghost use Rattle.yaml_conflicts.specs.Found.{under, line_of, lines_of};
 
 use crate::sides::{Conflict, Found, Room, Sides, Step};
-use std::alloc::Global;
-use yaml_text::fault::Fault;
+use std::alloc::{AllocError, Global};
 
 /// No places, and whether that is all.
 pub(crate) fn none(alloc: Global, room: Room, whole: bool) -> Found
@@ -20,11 +19,10 @@ pub(crate) fn none(alloc: Global, room: Room, whole: bool) -> Found
 }
 
 /// One place: the roots.
-pub(crate) fn one(alloc: Global, sides: Sides, room: Room) -> Result<Found, Fault>
+pub(crate) fn one(alloc: Global, sides: Sides, room: Room) -> Result<Found, AllocError>
     ensures list { IfOk result (λ found. lines_of found ≡ ([], sides) ∷ []) }
     ensures room { IfOk result (λ found. found.room ≡ room) }
     ensures whole { IfOk result (λ found. found.whole ≡ true) }
-    ensures err { IfErr result (λ fault. fault ≡ Fault.OutOfMemory) }
 {
     let mut list = Vec::new(alloc);
     list.push(Conflict {
@@ -39,9 +37,8 @@ pub(crate) fn one(alloc: Global, sides: Sides, room: Room) -> Result<Found, Faul
 }
 
 /// Adds the places of what stands behind a step.
-fn add_list(list: &mut Vec<Conflict>, step: Step, more: Vec<Conflict>) -> Result<(), Fault>
+fn add_list(list: &mut Vec<Conflict>, step: Step, more: Vec<Conflict>) -> Result<(), AllocError>
     ensures list { OnOk result (map line_of list.new.items ≡ map line_of list.old.items ++ map (under step) (map line_of more.items)) }
-    ensures err { IfErr result (λ fault. fault ≡ Fault.OutOfMemory) }
 {
     for conflict in more {
         let Conflict { mut path, sides } = conflict;
@@ -52,11 +49,10 @@ fn add_list(list: &mut Vec<Conflict>, step: Step, more: Vec<Conflict>) -> Result
 }
 
 /// Adds what was found behind a step, of which the room is left.
-pub(crate) fn add(found: &mut Found, step: Step, more: Found) -> Result<(), Fault>
+pub(crate) fn add(found: &mut Found, step: Step, more: Found) -> Result<(), AllocError>
     ensures list { OnOk result (lines_of found.new ≡ lines_of found.old ++ map (under step) (lines_of more)) }
     ensures room { OnOk result (found.new.room ≡ more.room) }
     ensures whole { OnOk result (found.new.whole ≡ (found.old.whole && more.whole)) }
-    ensures err { IfErr result (λ fault. fault ≡ Fault.OutOfMemory) }
 {
     let Found { list, room, whole } = more;
     add_list(&mut found.list, step, list)?;

@@ -1,5 +1,5 @@
 //! Where changes of a stream conflict, document by document.
-ghost use Rattle.std.specs.Prelude.{◌≡◌, ◌==◌, IfOk, IfErr, true, false};
+ghost use Rattle.std.specs.Prelude.{◌≡◌, ◌==◌, IfOk, true, false};
 ghost use Rattle.std.specs.List.{slice_get};
 ghost use Rattle.yaml_path.specs.Ways.{count_in};
 ghost use Rattle.yaml_rank.specs.RanksView.{RanksAre};
@@ -14,10 +14,9 @@ use crate::rules;
 use crate::rules::is_alike;
 use crate::sides::{Found, Room, Sides, Step};
 use crate::walk::conflicts;
-use std::alloc::Global;
+use std::alloc::{AllocError, Global};
 use yaml_graph::graph::Graph;
 use yaml_rank::ranks::Ranks;
-use yaml_text::fault::Fault;
 use yaml_tree::node::NodeId;
 
 /// The roots of the documents of the base, of ours, of theirs and of the merge. Where no merge is given, those of the base stand in its
@@ -152,12 +151,11 @@ fn of_document(
     given: bool,
     is_alone: bool,
     room: Room,
-) -> Result<Found, Fault>
+) -> Result<Found, AllocError>
     requires within { SidesWithin graph.now sides }
     requires ranked { RanksAre graph.now ranks.now }
     ensures ok { IfOk result (FindsDocument graph.now given is_alone sides) }
     ensures room { IfOk result (Spends room) }
-    ensures err { IfErr result (λ fault. fault ≡ Fault.OutOfMemory) }
 {
     if is_alone {
         return conflicts(alloc, graph, ranks, sides, given, room);
@@ -179,12 +177,11 @@ fn of_documents(
     roots: &Roots<'_>,
     given: bool,
     room: Room,
-) -> Result<Found, Fault>
+) -> Result<Found, AllocError>
     requires within { RootsWithin graph.now roots.now }
     requires ranked { RanksAre graph.now ranks.now }
     requires paired { are_paired (documents graph.now roots.now.base.now) (documents graph.now roots.now.ours.now) (documents graph.now roots.now.theirs.now) (documents graph.now roots.now.merge.now) ≡ true }
     ensures ok { IfOk result (FindsDocuments graph.now given (documents graph.now roots.now.base.now) (documents graph.now roots.now.ours.now) (documents graph.now roots.now.theirs.now) (documents graph.now roots.now.merge.now)) }
-    ensures err { IfErr result (λ fault. fault ≡ Fault.OutOfMemory) }
 {
     let is_alone = roots.base.len() == 1;
     let mut found = none(alloc, room, true);
@@ -205,11 +202,10 @@ pub fn stream_conflicts(
     roots: &Roots<'_>,
     given: bool,
     room: Room,
-) -> Result<Outcome, Fault>
+) -> Result<Outcome, AllocError>
     requires within { RootsWithin graph.now roots.now }
     requires ranked { RanksAre graph.now ranks.now }
     ensures ok { IfOk result (FindsStreams graph.now given roots.now) }
-    ensures err { IfErr result (λ fault. fault ≡ Fault.OutOfMemory) }
 {
     if are_paired(graph, roots) {
         let found = of_documents(alloc, graph, ranks, roots, given, room)?;

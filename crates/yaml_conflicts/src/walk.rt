@@ -1,5 +1,5 @@
 //! The paths at which two changes conflict, or a merge strays.
-ghost use Rattle.std.specs.Prelude.{◌≡◌, IfOk, IfErr, true};
+ghost use Rattle.std.specs.Prelude.{◌≡◌, IfOk, true};
 ghost use Rattle.yaml_rank.specs.RanksView.{RanksAre};
 ghost use Rattle.yaml_conflicts.specs.Found.{SidesWithin, Finds, Spends};
 
@@ -9,10 +9,9 @@ use crate::rules::is_settled;
 use crate::shapes::is_open;
 use crate::sides::{Found, Room, Sides, Step};
 use crate::values::values_at;
-use std::alloc::Global;
+use std::alloc::{AllocError, Global};
 use yaml_graph::graph::Graph;
 use yaml_rank::ranks::Ranks;
-use yaml_text::fault::Fault;
 
 /// The paths at which the merge that is given strays from the rules; or, if none is given, those at which the sides conflict. All of
 /// them, or as many as there is room for. The only error is want of memory (21).
@@ -23,12 +22,11 @@ pub fn conflicts(
     sides: Sides,
     given: bool,
     room: Room,
-) -> Result<Found, Fault>
+) -> Result<Found, AllocError>
     requires within { SidesWithin graph.now sides }
     requires ranked { RanksAre graph.now ranks.now }
     ensures ok { IfOk result (Finds graph.now given sides) }
     ensures room { IfOk result (Spends room) }
-    ensures err { IfErr result (λ fault. fault ≡ Fault.OutOfMemory) }
 {
     if is_settled(graph, ranks, sides, given) {
         return Ok(none(alloc, room, true));

@@ -1,5 +1,5 @@
 //! Which items of two sequences are taken for each other.
-ghost use Rattle.std.specs.Prelude.{◌≡◌, ◌≤◌, ◌-◌, ◌++◌, [], true, IfOk, IfErr, IfSome, OnOk};
+ghost use Rattle.std.specs.Prelude.{◌≡◌, ◌≤◌, ◌-◌, ◌++◌, [], true, IfOk, IfSome, OnOk};
 ghost use Rattle.yaml_path.specs.Ways.{turns};
 ghost use Rattle.yaml_rank.specs.RanksView.{numbers_of, RanksAre};
 ghost use Rattle.yaml_diff.specs.Found.{Aligns};
@@ -8,12 +8,11 @@ ghost use Rattle.yaml_diff.specs.Looks.{places_in, moved_in, IsRight, Checked};
 
 use crate::anchors::anchors;
 use crate::look::{Step, are_right, moved_of, places_of};
-use std::alloc::Global;
+use std::alloc::{AllocError, Global};
 use yaml_graph::graph::Graph;
 use yaml_pair::{Asked, middle};
 use yaml_path::places::Places;
 use yaml_rank::ranks::Ranks;
-use yaml_text::fault::Fault;
 use yaml_tree::node::NodeId;
 
 /// How the items of two sequences are taken for each other: steps with a place of both or of one, and the pairs among them that moved.
@@ -60,11 +59,10 @@ fn equal_back(ranks: &Ranks, lefts: &[NodeId], rights: &[NodeId], front: usize) 
 
 /// Takes the items from these places up to those in turn, and behind them those of the longer side alone.
 #[tactic(auto, using(crate::proofs::AlignLaws::step_both, crate::proofs::AlignLaws::step_left, crate::proofs::AlignLaws::step_right, crate::proofs::AlignLaws::turns_done))]
-fn take_turns(list: &mut Vec<Places>, from: (usize, usize), to: (usize, usize)) -> Result<(), Fault>
+fn take_turns(list: &mut Vec<Places>, from: (usize, usize), to: (usize, usize)) -> Result<(), AllocError>
     requires left { from.0 ≤ to.0 }
     requires right { from.1 ≤ to.1 }
     ensures ok { OnOk result (list.new.items ≡ list.old.items ++ turns from.0 from.1 (to.0 - from.0) (to.1 - from.1)) }
-    ensures err { IfErr result (λ fault. fault ≡ Fault.OutOfMemory) }
 {
     let (mut left, mut right) = from;
     while left < to.0 && right < to.1 {
@@ -90,11 +88,10 @@ fn take_anchors(
     anchors: &[(usize, usize)],
     from: (usize, usize),
     to: (usize, usize),
-) -> Result<(), Fault>
+) -> Result<(), AllocError>
     requires left { from.0 ≤ to.0 }
     requires right { from.1 ≤ to.1 }
     ensures ok { OnOk result (AlignsFrom list.old.items from.0 from.1 to.0 to.1 list.new.items) }
-    ensures err { IfErr result (λ fault. fault ≡ Fault.OutOfMemory) }
 {
     let mut at = from;
     for anchor in anchors {
@@ -116,12 +113,11 @@ fn in_turn(
     ranks: &Ranks,
     lefts: &[NodeId],
     rights: &[NodeId],
-) -> Result<Aligned, Fault>
+) -> Result<Aligned, AllocError>
     requires left { AllRanked ranks.now lefts.now }
     requires right { AllRanked ranks.now rights.now }
     ensures ok { IfOk result (λ it. Aligns ranks.now lefts.now rights.now it.list.items it.moved.items) }
     ensures calm { IfOk result (λ it. it.moved.items ≡ []) }
-    ensures err { IfErr result (λ fault. fault ≡ Fault.OutOfMemory) }
 {
     let front = equal_front(ranks, lefts, rights);
     let back = equal_back(ranks, lefts, rights, front);
@@ -139,12 +135,11 @@ fn in_turn(
 
 /// Takes the items from these places up to those for each other, of which there are equally many on both sides.
 #[tactic(auto, using(crate::proofs::CrossLaws::pair_step, crate::proofs::AlignLaws::turns_done))]
-fn put_pairs(steps: &mut Vec<Step>, from: (usize, usize), to: (usize, usize)) -> Result<(), Fault>
+fn put_pairs(steps: &mut Vec<Step>, from: (usize, usize), to: (usize, usize)) -> Result<(), AllocError>
     requires left { from.0 ≤ to.0 }
     requires right { from.1 ≤ to.1 }
     requires level { to.0 - from.0 ≡ to.1 - from.1 }
     ensures ok { OnOk result (places_in steps.new.items ≡ places_in steps.old.items ++ turns from.0 from.1 (to.0 - from.0) (to.1 - from.1)) }
-    ensures err { IfErr result (λ fault. fault ≡ Fault.OutOfMemory) }
 {
     let (mut left, mut right) = from;
     while left < to.0 && right < to.1 {
@@ -156,9 +151,8 @@ fn put_pairs(steps: &mut Vec<Step>, from: (usize, usize), to: (usize, usize)) ->
 }
 
 /// Adds steps.
-fn put_steps(steps: &mut Vec<Step>, more: &[Step]) -> Result<(), Fault>
+fn put_steps(steps: &mut Vec<Step>, more: &[Step]) -> Result<(), AllocError>
     ensures ok { OnOk result (steps.new.items ≡ steps.old.items ++ more.now) }
-    ensures err { IfErr result (λ fault. fault ≡ Fault.OutOfMemory) }
 {
     for step in more {
         steps.push(*step)?;
@@ -168,9 +162,8 @@ fn put_steps(steps: &mut Vec<Step>, more: &[Step]) -> Result<(), Fault>
 
 /// The steps as places, if they are right.
 #[tactic(auto, using(crate::proofs::LookLaws::checked_is))]
-fn checked(alloc: Global, steps: &[Step], lens: (usize, usize)) -> Result<Option<Aligned>, Fault>
+fn checked(alloc: Global, steps: &[Step], lens: (usize, usize)) -> Result<Option<Aligned>, AllocError>
     ensures ok { IfOk result (λ it. IfSome it (λ a. Checked steps.now a.list.items a.moved.items lens.0 lens.1)) }
-    ensures err { IfErr result (λ fault. fault ≡ Fault.OutOfMemory) }
 {
     let moved = moved_of(alloc, steps)?;
     if !are_right(alloc, steps, &moved, lens)? {
@@ -190,12 +183,11 @@ fn crossing<'g>(
     rights: &[NodeId],
     asked: Asked<'_>,
     documents: bool,
-) -> Result<Option<Aligned>, Fault>
+) -> Result<Option<Aligned>, AllocError>
     requires ranked { RanksAre graph.now ranks.now }
     requires left { AllRanked ranks.now lefts.now }
     requires right { AllRanked ranks.now rights.now }
     ensures ok { IfOk result (λ it. IfSome it (λ a. Aligns ranks.now lefts.now rights.now a.list.items a.moved.items)) }
-    ensures err { IfErr result (λ fault. fault ≡ Fault.OutOfMemory) }
 {
     let front = equal_front(ranks, lefts, rights);
     let back = equal_back(ranks, lefts, rights, front);
@@ -224,13 +216,12 @@ pub(crate) fn align<'g>(
     rights: &[NodeId],
     asked: Asked<'_>,
     documents: bool,
-) -> Result<Aligned, Fault>
+) -> Result<Aligned, AllocError>
     requires ranked { RanksAre graph.now ranks.now }
     requires left { AllRanked ranks.now lefts.now }
     requires right { AllRanked ranks.now rights.now }
     ensures ok { IfOk result (λ it. Aligns ranks.now lefts.now rights.now it.list.items it.moved.items) }
     ensures calm { asked.entry.by_position ≡ true → IfOk result (λ it. it.moved.items ≡ []) }
-    ensures err { IfErr result (λ fault. fault ≡ Fault.OutOfMemory) }
 {
     if asked.by_position || are_lone(documents, lefts, rights) {
         return in_turn(alloc, ranks, lefts, rights);

@@ -1,10 +1,9 @@
 //! Items that stand once in each of two sequences, as far as their places rise on both sides.
-ghost use Rattle.std.specs.Prelude.{◌≡◌, ◌≤◌, length, IfOk, IfErr};
+ghost use Rattle.std.specs.Prelude.{◌≡◌, ◌≤◌, length, IfOk};
 ghost use Rattle.yaml_diff.specs.Aligning.{AllRanked, AllSameRanks};
 
-use std::alloc::Global;
+use std::alloc::{AllocError, Global};
 use yaml_rank::ranks::Ranks;
-use yaml_text::fault::Fault;
 use yaml_tree::node::NodeId;
 
 /// The ranks that items have once, from the front to the back, each with the place of its item.
@@ -14,9 +13,8 @@ fn lone_ranks(
     items: &[NodeId],
     front: usize,
     back: usize,
-) -> Result<Vec<(usize, usize)>, Fault>
+) -> Result<Vec<(usize, usize)>, AllocError>
     requires { AllRanked ranks.now items.now }
-    ensures err { IfErr result (λ fault. fault ≡ Fault.OutOfMemory) }
 {
     let mut all = Vec::new(alloc);
     for (place, item) in items.iter().enumerate() {
@@ -42,8 +40,7 @@ fn shared(
     alloc: Global,
     lefts: &[(usize, usize)],
     rights: &[(usize, usize)],
-) -> Result<Vec<(usize, usize)>, Fault>
-    ensures err { IfErr result (λ fault. fault ≡ Fault.OutOfMemory) }
+) -> Result<Vec<(usize, usize)>, AllocError>
 {
     let mut pairs = Vec::new(alloc);
     let mut next = 0;
@@ -81,8 +78,7 @@ fn piles_before(pairs: &[(usize, usize)], tops: &[usize], right: usize) -> usize
 }
 
 /// As many of the pairs, whose left places rise, as there can be with rising right places.
-fn longest_rising(alloc: Global, pairs: &[(usize, usize)]) -> Result<Vec<(usize, usize)>, Fault>
-    ensures err { IfErr result (λ fault. fault ≡ Fault.OutOfMemory) }
+fn longest_rising(alloc: Global, pairs: &[(usize, usize)]) -> Result<Vec<(usize, usize)>, AllocError>
 {
     let mut tops = Vec::new(alloc);
     let mut before = Vec::new(alloc);
@@ -122,10 +118,9 @@ pub(crate) fn anchors(
     rights: &[NodeId],
     front: usize,
     back: usize,
-) -> Result<Vec<(usize, usize)>, Fault>
+) -> Result<Vec<(usize, usize)>, AllocError>
     requires left { AllRanked ranks.now lefts.now }
     requires right { AllRanked ranks.now rights.now }
-    ensures err { IfErr result (λ fault. fault ≡ Fault.OutOfMemory) }
 {
     let left = lone_ranks(alloc, ranks, lefts, front, back)?;
     let right = lone_ranks(alloc, ranks, rights, front, back)?;

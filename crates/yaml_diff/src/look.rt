@@ -1,12 +1,11 @@
 //! Whether steps that were put together anyhow take the items of two lists for each other: they are looked at.
-ghost use Rattle.std.specs.Prelude.{◌≡◌, ◌⊎◌, true, [], map, IfOk, IfErr};
+ghost use Rattle.std.specs.Prelude.{◌≡◌, ◌⊎◌, true, [], map, IfOk};
 ghost use Rattle.yaml_diff.specs.Looks.{left_of, right_of, stayer_of, pair_of, has_moved, places_in, moved_in, IsRight};
 ghost use Rattle.yaml_pair.specs.Columns.{Falls};
 
-use std::alloc::Global;
+use std::alloc::{AllocError, Global};
 use yaml_pair::column::{is_each, rises};
 use yaml_path::places::Places;
-use yaml_text::fault::Fault;
 
 /// Places, and whether they are told to be a pair that moved.
 pub(crate) type Step = (Places, bool);
@@ -40,9 +39,8 @@ fn pair_of(step: Step) -> Option<usize>
 
 /// The places of the steps.
 #[tactic(auto, using(crate::proofs::LookLaws::map_more, crate::proofs::LookLaws::map_whole))]
-pub(crate) fn places_of(alloc: Global, steps: &[Step]) -> Result<Vec<Places>, Fault>
+pub(crate) fn places_of(alloc: Global, steps: &[Step]) -> Result<Vec<Places>, AllocError>
     ensures ok { IfOk result (λ list. list.items ≡ places_in steps.now) }
-    ensures err { IfErr result (λ fault. fault ≡ Fault.OutOfMemory) }
 {
     let mut list = Vec::new(alloc);
     for step in steps {
@@ -53,9 +51,8 @@ pub(crate) fn places_of(alloc: Global, steps: &[Step]) -> Result<Vec<Places>, Fa
 
 /// The places of the steps that moved.
 #[tactic(auto, using(crate::proofs::LookLaws::moved_more, crate::proofs::LookLaws::moved_skip, crate::proofs::LookLaws::moved_whole))]
-pub(crate) fn moved_of(alloc: Global, steps: &[Step]) -> Result<Vec<Places>, Fault>
+pub(crate) fn moved_of(alloc: Global, steps: &[Step]) -> Result<Vec<Places>, AllocError>
     ensures ok { IfOk result (λ list. list.items ≡ moved_in steps.now) }
-    ensures err { IfErr result (λ fault. fault ≡ Fault.OutOfMemory) }
 {
     let mut list = Vec::new(alloc);
     for step in steps {
@@ -68,9 +65,8 @@ pub(crate) fn moved_of(alloc: Global, steps: &[Step]) -> Result<Vec<Places>, Fau
 
 /// The left places of the steps.
 #[tactic(auto, using(crate::proofs::LookLaws::map_more, crate::proofs::LookLaws::map_whole))]
-fn lefts_of(alloc: Global, steps: &[Step]) -> Result<Vec<Option<usize>>, Fault>
+fn lefts_of(alloc: Global, steps: &[Step]) -> Result<Vec<Option<usize>>, AllocError>
     ensures ok { IfOk result (λ list. list.items ≡ map left_of steps.now) }
-    ensures err { IfErr result (λ fault. fault ≡ Fault.OutOfMemory) }
 {
     let mut list = Vec::new(alloc);
     for step in steps {
@@ -81,9 +77,8 @@ fn lefts_of(alloc: Global, steps: &[Step]) -> Result<Vec<Option<usize>>, Fault>
 
 /// The right places of the steps.
 #[tactic(auto, using(crate::proofs::LookLaws::map_more, crate::proofs::LookLaws::map_whole))]
-fn rights_of(alloc: Global, steps: &[Step]) -> Result<Vec<Option<usize>>, Fault>
+fn rights_of(alloc: Global, steps: &[Step]) -> Result<Vec<Option<usize>>, AllocError>
     ensures ok { IfOk result (λ list. list.items ≡ map right_of steps.now) }
-    ensures err { IfErr result (λ fault. fault ≡ Fault.OutOfMemory) }
 {
     let mut list = Vec::new(alloc);
     for step in steps {
@@ -94,9 +89,8 @@ fn rights_of(alloc: Global, steps: &[Step]) -> Result<Vec<Option<usize>>, Fault>
 
 /// The left places of the steps that did not move.
 #[tactic(auto, using(crate::proofs::LookLaws::map_more, crate::proofs::LookLaws::map_whole))]
-fn stayers_of(alloc: Global, steps: &[Step]) -> Result<Vec<Option<usize>>, Fault>
+fn stayers_of(alloc: Global, steps: &[Step]) -> Result<Vec<Option<usize>>, AllocError>
     ensures ok { IfOk result (λ list. list.items ≡ map stayer_of steps.now) }
-    ensures err { IfErr result (λ fault. fault ≡ Fault.OutOfMemory) }
 {
     let mut list = Vec::new(alloc);
     for step in steps {
@@ -107,9 +101,8 @@ fn stayers_of(alloc: Global, steps: &[Step]) -> Result<Vec<Option<usize>>, Fault
 
 /// The left places of the pairs.
 #[tactic(auto, using(crate::proofs::LookLaws::map_more, crate::proofs::LookLaws::map_whole))]
-fn pairs_of(alloc: Global, steps: &[Step]) -> Result<Vec<Option<usize>>, Fault>
+fn pairs_of(alloc: Global, steps: &[Step]) -> Result<Vec<Option<usize>>, AllocError>
     ensures ok { IfOk result (λ list. list.items ≡ map pair_of steps.now) }
-    ensures err { IfErr result (λ fault. fault ≡ Fault.OutOfMemory) }
 {
     let mut list = Vec::new(alloc);
     for step in steps {
@@ -120,9 +113,8 @@ fn pairs_of(alloc: Global, steps: &[Step]) -> Result<Vec<Option<usize>>, Fault>
 
 /// Whether none moved, or the left places of the pairs do not rise.
 #[tactic(auto, using(crate::proofs::LookLaws::none_moved, crate::proofs::LookLaws::pairs_cross))]
-fn may_move(alloc: Global, steps: &[Step], moved: &[Places]) -> Result<bool, Fault>
+fn may_move(alloc: Global, steps: &[Step], moved: &[Places]) -> Result<bool, AllocError>
     ensures ok { IfOk result (λ yes. yes ≡ true → (moved.now ≡ []) ⊎ Falls (map pair_of steps.now)) }
-    ensures err { IfErr result (λ fault. fault ≡ Fault.OutOfMemory) }
 {
     if moved.len() == 0 {
         return Ok(true);
@@ -138,9 +130,8 @@ pub(crate) fn are_right(
     steps: &[Step],
     moved: &[Places],
     lens: (usize, usize),
-) -> Result<bool, Fault>
+) -> Result<bool, AllocError>
     ensures ok { IfOk result (λ yes. yes ≡ true → IsRight steps.now moved.now lens.0 lens.1) }
-    ensures err { IfErr result (λ fault. fault ≡ Fault.OutOfMemory) }
 {
     let lefts = lefts_of(alloc, steps)?;
     let rights = rights_of(alloc, steps)?;

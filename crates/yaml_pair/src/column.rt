@@ -1,14 +1,12 @@
 //! Whether columns of places take each place once: so a pairing may come from anywhere, and is only looked at.
-ghost use Rattle.std.specs.Prelude.{◌≡◌, ◌↔◌, true, false, IfOk, IfErr};
+ghost use Rattle.std.specs.Prelude.{◌≡◌, ◌↔◌, true, false, IfOk};
 ghost use Rattle.yaml_pair.specs.Columns.{EachOf, Rising, Falls, Behind};
 
-use std::alloc::Global;
-use yaml_text::fault::Fault;
+use std::alloc::{AllocError, Global};
 
 /// Whether each place below the bound stands once in the column, and no other does.
-pub fn is_each(alloc: Global, column: &[Option<usize>], n: usize) -> Result<bool, Fault>
+pub fn is_each(alloc: Global, column: &[Option<usize>], n: usize) -> Result<bool, AllocError>
     ensures ok { IfOk result (λ yes. yes ≡ true → EachOf column.now n) }
-    ensures err { IfErr result (λ fault. fault ≡ Fault.OutOfMemory) }
 {
     let mut seen = Vec::new(alloc);
     for _ in 0..n {

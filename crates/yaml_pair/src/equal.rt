@@ -1,5 +1,5 @@
 //! Equal items.
-ghost use Rattle.std.specs.Prelude.{◌≡◌, ℕ, ◌==◌, length, count_by, unwrap_or, IfOk, IfErr, OnOk};
+ghost use Rattle.std.specs.Prelude.{◌≡◌, ℕ, ◌==◌, length, count_by, unwrap_or, IfOk, OnOk};
 ghost use Rattle.std.specs.BTreeMap.{get};
 ghost use Rattle.std.specs.Ordering.{nat_cmp};
 ghost use Rattle.yaml_rank.specs.RanksView.{RanksAre};
@@ -7,15 +7,13 @@ ghost use Rattle.yaml_pair.specs.Named.{Within, AreRanks, AreCounts, IsNone, Has
 
 use crate::partners::{Name, Partners, join};
 use crate::view::View;
-use std::alloc::Global;
+use std::alloc::{AllocError, Global};
 use std::collections::BTreeMap;
-use yaml_text::fault::Fault;
 use yaml_tree::node::NodeId;
 
 /// The ranks of items.
-fn ranks_of(alloc: Global, view: View<'_>, items: &[NodeId]) -> Result<Vec<usize>, Fault>
+fn ranks_of(alloc: Global, view: View<'_>, items: &[NodeId]) -> Result<Vec<usize>, AllocError>
     ensures ok { IfOk result (λ ranks. AreRanks view.entry.graph.now view.entry.ranks.now items.now ranks.items) }
-    ensures err { IfErr result (λ fault. fault ≡ Fault.OutOfMemory) }
 {
     let mut ranks = Vec::new(alloc);
     for item in items {
@@ -25,9 +23,8 @@ fn ranks_of(alloc: Global, view: View<'_>, items: &[NodeId]) -> Result<Vec<usize
 }
 
 /// How often each rank stands there.
-fn counts(alloc: Global, ranks: &[usize]) -> Result<BTreeMap<usize, usize>, Fault>
+fn counts(alloc: Global, ranks: &[usize]) -> Result<BTreeMap<usize, usize>, AllocError>
     ensures ok { IfOk result (λ counts. (q : ℕ) → unwrap_or (get nat_cmp counts q) 0 ≡ count_by (λ x. x == q) ranks.now) }
-    ensures err { IfErr result (λ fault. fault ≡ Fault.OutOfMemory) }
 {
     let mut counts = BTreeMap::new(alloc);
     for rank in ranks {
@@ -38,9 +35,8 @@ fn counts(alloc: Global, ranks: &[usize]) -> Result<BTreeMap<usize, usize>, Faul
 }
 
 /// Each rank with how many items have it, and how many of these stand before this one.
-fn counted<'g>(alloc: Global, ranks: &[usize]) -> Result<Vec<Option<Name<'g>>>, Fault>
+fn counted<'g>(alloc: Global, ranks: &[usize]) -> Result<Vec<Option<Name<'g>>>, AllocError>
     ensures ok { IfOk result (λ names. AreCounts ranks.now names.items (length ranks.now)) }
-    ensures err { IfErr result (λ fault. fault ≡ Fault.OutOfMemory) }
 {
     let all = counts(alloc, ranks)?;
     let mut before = BTreeMap::new(alloc);
@@ -61,11 +57,10 @@ pub(crate) fn pair_equal(
     lefts: &[NodeId],
     rights: &[NodeId],
     partners: &mut Partners,
-) -> Result<(), Fault>
+) -> Result<(), AllocError>
     requires ranked { RanksAre view.graph.now view.ranks.now }
     requires none { IsNone partners.old (length lefts.now) (length rights.now) }
     ensures ok { OnOk result (Within view.entry.graph.now lefts.now rights.now → HasPairs partners.new (length lefts.now) (length rights.now) (EqualPairs view.entry.graph.now lefts.now rights.now)) }
-    ensures err { IfErr result (λ fault. fault ≡ Fault.OutOfMemory) }
 {
     let left = counted(alloc, &ranks_of(alloc, view, lefts)?)?;
     let right = counted(alloc, &ranks_of(alloc, view, rights)?)?;

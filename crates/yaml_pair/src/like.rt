@@ -1,11 +1,10 @@
 //! Items that have much in common.
-ghost use Rattle.std.specs.Prelude.{◌≡◌, IfErr, OnOk};
+ghost use Rattle.std.specs.Prelude.{◌≡◌, OnOk};
 ghost use Rattle.yaml_pair.specs.Named.{Keeps};
 
 use crate::partners::{Partners, is_free};
 use crate::view::View;
-use std::alloc::Global;
-use yaml_text::fault::Fault;
+use std::alloc::{AllocError, Global};
 use yaml_tree::node::NodeId;
 
 /// An entry that more items of a side have says nothing.
@@ -21,8 +20,7 @@ fn put_items(
     item: NodeId,
     place: usize,
     all: &mut Vec<(Entry, usize)>,
-) -> Result<(), Fault>
-    ensures err { IfErr result (λ fault. fault ≡ Fault.OutOfMemory) }
+) -> Result<(), AllocError>
 {
     let mut ranks = Vec::new(alloc);
     for part in view.items(item) {
@@ -42,8 +40,7 @@ fn entries(
     view: View<'_>,
     items: &[NodeId],
     places: &[Option<usize>],
-) -> Result<Vec<(Entry, usize)>, Fault>
-    ensures err { IfErr result (λ fault. fault ≡ Fault.OutOfMemory) }
+) -> Result<Vec<(Entry, usize)>, AllocError>
 {
     let mut all = Vec::new(alloc);
     for (place, item) in items.iter().enumerate() {
@@ -70,8 +67,7 @@ fn links(
     alloc: Global,
     lefts: &[(Entry, usize)],
     rights: &[(Entry, usize)],
-) -> Result<Vec<(usize, usize, usize)>, Fault>
-    ensures err { IfErr result (λ fault. fault ≡ Fault.OutOfMemory) }
+) -> Result<Vec<(usize, usize, usize)>, AllocError>
 {
     let mut links = Vec::new(alloc);
     for (entry, left) in lefts {
@@ -99,8 +95,7 @@ fn put_alike(
     left: usize,
     near: &[usize],
     alike: &mut Vec<Likeness>,
-) -> Result<(), Fault>
-    ensures err { IfErr result (λ fault. fault ≡ Fault.OutOfMemory) }
+) -> Result<(), AllocError>
 {
     for (index, right) in near.iter().enumerate() {
         let start = near.partition_point(|it| *it < *right);
@@ -130,8 +125,7 @@ fn all_alike(
     rights: &[NodeId],
     links: &[(usize, usize, usize)],
     entries: &[(Entry, usize)],
-) -> Result<Vec<Likeness>, Fault>
-    ensures err { IfErr result (λ fault. fault ≡ Fault.OutOfMemory) }
+) -> Result<Vec<Likeness>, AllocError>
 {
     let mut alike = Vec::new(alloc);
     let mut near = Vec::new(alloc);
@@ -161,9 +155,8 @@ pub(crate) fn pair_alike(
     lefts: &[NodeId],
     rights: &[NodeId],
     partners: &mut Partners,
-) -> Result<(), Fault>
+) -> Result<(), AllocError>
     ensures ok { OnOk result (Keeps partners.old partners.new) }
-    ensures err { IfErr result (λ fault. fault ≡ Fault.OutOfMemory) }
 {
     let left = entries(alloc, view, lefts, &partners.lefts)?;
     let right = entries(alloc, view, rights, &partners.rights)?;

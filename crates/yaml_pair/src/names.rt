@@ -1,5 +1,5 @@
 //! Names of items.
-ghost use Rattle.std.specs.Prelude.{◌≡◌, ◌<◌, length, map, IfOk, IfErr, OnOk};
+ghost use Rattle.std.specs.Prelude.{◌≡◌, ◌<◌, length, map, IfOk, OnOk};
 ghost use Rattle.std.specs.Option.{option_map};
 ghost use Rattle.yaml_graph.specs.GraphView.{nodes_of, tree};
 ghost use Rattle.yaml_rank.specs.RanksView.{RanksAre};
@@ -9,8 +9,7 @@ ghost use Rattle.yaml_pair.specs.Named.{IsFound, IsScalarRank, IsObjectName, IsN
 use crate::asked::{Asked, TABLE};
 use crate::partners::{Name, Partners, is_free, join};
 use crate::view::View;
-use std::alloc::Global;
-use yaml_text::fault::Fault;
+use std::alloc::{AllocError, Global};
 use yaml_tree::node::NodeId;
 
 /// Where a name is looked for.
@@ -27,9 +26,8 @@ pub(crate) fn columns<'a>(
     alloc: Global,
     asked: Asked<'a>,
     documents: bool,
-) -> Result<Vec<Column<'a>>, Fault>
+) -> Result<Vec<Column<'a>>, AllocError>
     ensures ok { IfOk result (λ columns. map naming_of columns.items ≡ namings (texts_of asked.entry.by.now) documents) }
-    ensures err { IfErr result (λ fault. fault ≡ Fault.OutOfMemory) }
 {
     let mut columns = Vec::new(alloc);
     for path in asked.by {
@@ -125,9 +123,8 @@ fn names_in<'g>(
     items: &[NodeId],
     places: &[Option<usize>],
     column: Column<'_>,
-) -> Result<Vec<Option<Name<'g>>>, Fault>
+) -> Result<Vec<Option<Name<'g>>>, AllocError>
     ensures ok { IfOk result (λ names. AreNames view.entry.graph.now view.entry.ranks.now (naming_of column.entry) items.now places.now names.items) }
-    ensures err { IfErr result (λ fault. fault ≡ Fault.OutOfMemory) }
 {
     let mut names = Vec::new(alloc);
     for (place, item) in items.iter().enumerate() {
@@ -148,12 +145,11 @@ pub(crate) fn pair_named(
     rights: &[NodeId],
     columns: &[Column<'_>],
     partners: &mut Partners,
-) -> Result<(), Fault>
+) -> Result<(), AllocError>
     requires ranked { RanksAre view.graph.now view.ranks.now }
     ensures ok { OnOk result (Within view.entry.graph.now lefts.now rights.now
         → HasPairs partners.old (length lefts.now) (length rights.now) (EqualPairs view.entry.graph.now lefts.now rights.now)
         → HasPairs partners.new (length lefts.now) (length rights.now) (PairsBy view.entry.graph.now lefts.now rights.now (map naming_of columns.now))) }
-    ensures err { IfErr result (λ fault. fault ≡ Fault.OutOfMemory) }
 {
     for column in columns {
         let left = names_in(alloc, view, lefts, &partners.lefts, *column)?;

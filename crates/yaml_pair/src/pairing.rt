@@ -1,5 +1,5 @@
 //! The items of two lists between their equal ends.
-ghost use Rattle.std.specs.Prelude.{◌≡◌, ◌≤◌, IfOk, IfErr};
+ghost use Rattle.std.specs.Prelude.{◌≡◌, ◌≤◌, IfOk};
 ghost use Rattle.yaml_rank.specs.RanksView.{RanksAre};
 ghost use Rattle.yaml_pair.specs.Names.{namings};
 ghost use Rattle.yaml_pair.specs.Named.{Within, weight_of, texts_of, PairsNamed};
@@ -13,11 +13,10 @@ use crate::stay::stayers;
 use crate::steps::steps_of;
 use crate::turn::pair_in_turn;
 use crate::view::View;
-use std::alloc::Global;
+use std::alloc::{AllocError, Global};
 use yaml_graph::graph::Graph;
 use yaml_path::places::Places;
 use yaml_rank::ranks::Ranks;
-use yaml_text::fault::Fault;
 use yaml_tree::node::NodeId;
 
 /// So many entries are looked at, however few nodes there are.
@@ -50,10 +49,9 @@ pub fn middle<'g>(
     first: usize,
     asked: Asked<'_>,
     documents: bool,
-) -> Result<Vec<(Places, bool)>, Fault>
+) -> Result<Vec<(Places, bool)>, AllocError>
     requires ranked { RanksAre graph.now ranks.now }
     ensures named { IfOk result (λ steps. PairsNamed graph.now sides.entry.0.now sides.entry.1.now first (namings (texts_of asked.entry.by.now) documents) steps.items) }
-    ensures err { IfErr result (λ fault. fault ≡ Fault.OutOfMemory) }
 {
     let view = View::new(graph, ranks);
     let (lefts, rights) = sides;

@@ -1,12 +1,11 @@
 //! Pairs of places of two lists, each place in one pair at most.
-ghost use Rattle.std.specs.Prelude.{◌≡◌, ◌↔◌, true, cond, length, is_some, Some, None, IfOk, IfErr, OnOk};
+ghost use Rattle.std.specs.Prelude.{◌≡◌, ◌↔◌, true, cond, length, is_some, Some, None, IfOk, OnOk};
 ghost use Rattle.std.specs.List.{slice_get};
 ghost use Rattle.std.specs.BTreeMap.{get};
 ghost use Rattle.yaml_pair.specs.Named.{Name, name_cmp, is_one, Stands, OnlyFree, JoinsTo, flat, partner_in};
 
-use std::alloc::Global;
+use std::alloc::{AllocError, Global};
 use std::collections::BTreeMap;
-use yaml_text::fault::Fault;
 
 /// For each place of either list the other place of its pair, if it has one.
 #[derive(Drop)]
@@ -26,14 +25,13 @@ pub(crate) fn is_free(places: &[Option<usize>], place: usize) -> bool
 }
 
 impl Partners {
-    ghost use Rattle.std.specs.Prelude.{◌≡◌, Some, None, IfOk, IfErr};
+    ghost use Rattle.std.specs.Prelude.{◌≡◌, Some, None, IfOk};
     ghost use Rattle.std.specs.List.{slice_get};
     ghost use Rattle.yaml_pair.specs.Named.{IsNone, Takes, Keeps};
 
     /// No pairs of lists of so many items.
-    pub(crate) fn none(alloc: Global, lefts: usize, rights: usize) -> Result<Partners, Fault>
+    pub(crate) fn none(alloc: Global, lefts: usize, rights: usize) -> Result<Partners, AllocError>
         ensures ok { IfOk result (λ it. IsNone it lefts rights) }
-        ensures err { IfErr result (λ fault. fault ≡ Fault.OutOfMemory) }
     {
         Ok(Partners {
             lefts: vec![in alloc; None; lefts]?,
@@ -53,8 +51,7 @@ impl Partners {
     }
 
     /// The pairs in the order of their left places.
-    pub(crate) fn pairs(&self, alloc: Global) -> Result<Vec<(usize, usize)>, Fault>
-        ensures err { IfErr result (λ fault. fault ≡ Fault.OutOfMemory) }
+    pub(crate) fn pairs(&self, alloc: Global) -> Result<Vec<(usize, usize)>, AllocError>
     {
         let mut pairs = Vec::new(alloc);
         for (left, partner) in self.lefts.iter().enumerate() {
@@ -80,18 +77,16 @@ fn is_known<'g>(places: &Places<'g>, name: &Name<'g>) -> bool
 }
 
 /// Notes the place of a name, or that several have it.
-fn note<'g>(places: &mut Places<'g>, name: &Name<'g>, alone: Option<usize>) -> Result<(), Fault>
+fn note<'g>(places: &mut Places<'g>, name: &Name<'g>, alone: Option<usize>) -> Result<(), AllocError>
     ensures ok { OnOk result ((q : Name) → get name_cmp places.new q ≡ cond (is_one name.now q) (Some alone) (get name_cmp places.old q)) }
-    ensures err { IfErr result (λ fault. fault ≡ Fault.OutOfMemory) }
 {
     places.insert(*name, alone)?;
     Ok(())
 }
 
 /// The places of names.
-fn places_of<'g>(alloc: Global, names: &[Option<Name<'g>>]) -> Result<Places<'g>, Fault>
+fn places_of<'g>(alloc: Global, names: &[Option<Name<'g>>]) -> Result<Places<'g>, AllocError>
     ensures ok { IfOk result (λ places. (q : Name) → Stands is_one names.now (length names.now) q (get name_cmp places q)) }
-    ensures err { IfErr result (λ fault. fault ≡ Fault.OutOfMemory) }
 {
     let mut places = BTreeMap::new(alloc);
     for (place, name) in names.iter().enumerate() {
@@ -136,11 +131,10 @@ pub(crate) fn join<'g>(
     partners: &mut Partners,
     lefts: &[Option<Name<'g>>],
     rights: &[Option<Name<'g>>],
-) -> Result<(), Fault>
+) -> Result<(), AllocError>
     requires lefts { OnlyFree lefts.now partners.old.lefts.items }
     requires rights { OnlyFree rights.now partners.old.rights.items }
     ensures ok { OnOk result (JoinsTo lefts.now rights.now (length lefts.now) partners.old partners.new) }
-    ensures err { IfErr result (λ fault. fault ≡ Fault.OutOfMemory) }
 {
     let left_places = places_of(alloc, lefts)?;
     let right_places = places_of(alloc, rights)?;

@@ -1,9 +1,8 @@
 //! Which pairs stay where they are: a longest list of pairs of which no two cross, and of such lists one with most pairs that have
 //! the same place on both sides.
-ghost use Rattle.std.specs.Prelude.{◌≡◌, IfErr};
+ghost use Rattle.std.specs.Prelude.{◌≡◌};
 
-use std::alloc::Global;
-use yaml_text::fault::Fault;
+use std::alloc::{AllocError, Global};
 
 /// The worth of the best list that ends at a pair, and one more than the number of that pair; 0 and 0 for none.
 type Best = (usize, usize);
@@ -46,8 +45,7 @@ pub(crate) fn stayers(
     alloc: Global,
     pairs: &[(usize, usize)],
     bound: usize,
-) -> Result<Vec<(usize, usize)>, Fault>
-    ensures err { IfErr result (λ fault. fault ≡ Fault.OutOfMemory) }
+) -> Result<Vec<(usize, usize)>, AllocError>
 {
     let step = pairs.len().saturating_add(1);
     let mut best = vec![in alloc; (0, 0); bound.saturating_add(1)]?;

@@ -1,11 +1,10 @@
 //! Pairs and single items as steps, in the order of the right list.
-ghost use Rattle.std.specs.Prelude.{◌≡◌, IfOk, IfErr, OnOk};
+ghost use Rattle.std.specs.Prelude.{◌≡◌, IfOk, OnOk};
 ghost use Rattle.yaml_pair.specs.Named.{StepsOf, GoesOn};
 
 use crate::partners::{Partners, is_free};
-use std::alloc::Global;
+use std::alloc::{AllocError, Global};
 use yaml_path::places::Places;
-use yaml_text::fault::Fault;
 
 /// Puts the single items of the left from a place on and before another.
 fn put_lefts(
@@ -14,9 +13,8 @@ fn put_lefts(
     from: usize,
     to: usize,
     first: usize,
-) -> Result<(), Fault>
+) -> Result<(), AllocError>
     ensures ok { OnOk result (GoesOn steps.old.items steps.new.items) }
-    ensures err { IfErr result (λ fault. fault ≡ Fault.OutOfMemory) }
 {
     for left in from..to {
         if is_free(&partners.lefts, left) {
@@ -33,9 +31,8 @@ pub(crate) fn steps_of(
     partners: &Partners,
     stay: &[(usize, usize)],
     first: usize,
-) -> Result<Vec<(Places, bool)>, Fault>
+) -> Result<Vec<(Places, bool)>, AllocError>
     ensures ok { IfOk result (λ steps. StepsOf first partners.now steps.items) }
-    ensures err { IfErr result (λ fault. fault ≡ Fault.OutOfMemory) }
 {
     let mut steps = Vec::new(alloc);
     let mut from = 0;

@@ -1,12 +1,11 @@
 //! Items in turn, between pairs that stay.
-ghost use Rattle.std.specs.Prelude.{◌≡◌, IfErr, OnOk};
+ghost use Rattle.std.specs.Prelude.{◌≡◌, OnOk};
 ghost use Rattle.yaml_pair.specs.Named.{Keeps};
 
 use crate::names::{Column, own_name};
 use crate::partners::{Name, Partners, is_free};
 use crate::view::View;
-use std::alloc::Global;
-use yaml_text::fault::Fault;
+use std::alloc::{AllocError, Global};
 use yaml_tree::node::NodeId;
 
 /// How many items of the right an item of the left looks at.
@@ -25,8 +24,7 @@ fn singles<'g>(
     columns: &[Column<'_>],
     items: &[NodeId],
     places: &[Option<usize>],
-) -> Result<Vec<Single<'g>>, Fault>
-    ensures err { IfErr result (λ fault. fault ≡ Fault.OutOfMemory) }
+) -> Result<Vec<Single<'g>>, AllocError>
 {
     let mut list = Vec::new(alloc);
     for (place, item) in items.iter().enumerate() {
@@ -115,9 +113,8 @@ pub(crate) fn pair_in_turn(
     sides: (&[NodeId], &[NodeId]),
     stay: &[(usize, usize)],
     partners: &mut Partners,
-) -> Result<(), Fault>
+) -> Result<(), AllocError>
     ensures ok { OnOk result (Keeps partners.old partners.new) }
-    ensures err { IfErr result (λ fault. fault ≡ Fault.OutOfMemory) }
 {
     let lefts = singles(alloc, view, columns, sides.0, &partners.lefts)?;
     let rights = singles(alloc, view, columns, sides.1, &partners.rights)?;

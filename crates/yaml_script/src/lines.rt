@@ -1,11 +1,10 @@
 //! The lines of a text.
-ghost use Rattle.std.specs.Prelude.{◌≡◌, ◌++◌, ◌∷◌, [], cond, true, IfOk, IfErr};
+ghost use Rattle.std.specs.Prelude.{◌≡◌, ◌++◌, ◌∷◌, [], cond, true, IfOk};
 ghost use Rattle.std.specs.List.{flat_map};
 ghost use Rattle.yaml_definitions.specs.grammar.Characters.{b-line-feed};
 ghost use Rattle.yaml_script.specs.Script.{content};
 
-use std::alloc::Global;
-use yaml_text::fault::Fault;
+use std::alloc::{AllocError, Global};
 
 /// One line of a text.
 #[derive(Clone, Copy)]
@@ -65,9 +64,8 @@ fn piece_of(text: &str) -> Piece<'_>
 }
 
 /// The lines of a text, which are the text again one behind another.
-pub fn pieces_of<'t>(alloc: Global, text: &'t str) -> Result<Vec<Piece<'t>>, Fault>
+pub fn pieces_of<'t>(alloc: Global, text: &'t str) -> Result<Vec<Piece<'t>>, AllocError>
     ensures ok { IfOk result (λ pieces. flat_map content pieces.items ≡ text.now) }
-    ensures err { IfErr result (λ fault. fault ≡ Fault.OutOfMemory) }
 {
     let mut pieces = Vec::new(alloc);
     'lines: for line in text.split_inclusive('\n') {

@@ -1,10 +1,9 @@
 //! Equal lines of two texts.
-ghost use Rattle.std.specs.Prelude.{◌≡◌, IfErr};
+ghost use Rattle.std.specs.Prelude.{◌≡◌};
 
 use crate::lines::Piece;
-use std::alloc::Global;
+use std::alloc::{AllocError, Global};
 use std::collections::BTreeMap;
-use yaml_text::fault::Fault;
 
 /// How many lines of each side are compared each with each.
 const FEW: usize = 64;
@@ -50,7 +49,7 @@ struct Both<'s, 't> {
 }
 
 impl<'t> Both<'_, 't> {
-    ghost use Rattle.std.specs.Prelude.{◌≡◌, IfErr};
+    ghost use Rattle.std.specs.Prelude.{◌≡◌};
 
     /// Whether two places hold equal lines.
     fn are_same(self, left: usize, right: usize) -> bool {
@@ -98,8 +97,7 @@ impl<'t> Both<'_, 't> {
     }
 
     /// The lines that a range has once on either side, by their places, of which the left ones rise.
-    fn lone(self, alloc: Global, range: Range) -> Result<Vec<(usize, usize)>, Fault>
-        ensures err { IfErr result (λ fault. fault ≡ Fault.OutOfMemory) }
+    fn lone(self, alloc: Global, range: Range) -> Result<Vec<(usize, usize)>, AllocError>
     {
         let mut seen: BTreeMap<&'t str, Seen> = BTreeMap::new(alloc);
         for place in range.left..range.left_end {
@@ -129,8 +127,7 @@ impl<'t> Both<'_, 't> {
     }
 
     /// For each two places of a small range, by rows: how many equal lines there are from them on in one order.
-    fn table(self, alloc: Global, range: Range, width: usize) -> Result<Vec<usize>, Fault>
-        ensures err { IfErr result (λ fault. fault ≡ Fault.OutOfMemory) }
+    fn table(self, alloc: Global, range: Range, width: usize) -> Result<Vec<usize>, AllocError>
     {
         let height = range.left_end.saturating_sub(range.left).saturating_add(1);
         let mut table = vec![in alloc; 0usize; height.saturating_mul(width)]?;
@@ -160,8 +157,7 @@ impl<'t> Both<'_, 't> {
         alloc: Global,
         range: Range,
         pairs: &mut Vec<(usize, usize)>,
-    ) -> Result<(), Fault>
-        ensures err { IfErr result (λ fault. fault ≡ Fault.OutOfMemory) }
+    ) -> Result<(), AllocError>
     {
         let width = range
             .right_end
@@ -219,8 +215,7 @@ impl<'t> Both<'_, 't> {
         alloc: Global,
         range: Range,
         pairs: &mut Vec<(usize, usize)>,
-    ) -> Result<(), Fault>
-        ensures err { IfErr result (λ fault. fault ≡ Fault.OutOfMemory) }
+    ) -> Result<(), AllocError>
     {
         let Inner {
             front,
@@ -248,8 +243,7 @@ fn put_run(
     left: usize,
     right: usize,
     count: usize,
-) -> Result<(), Fault>
-    ensures err { IfErr result (λ fault. fault ≡ Fault.OutOfMemory) }
+) -> Result<(), AllocError>
 {
     for place in 0..count {
         pairs.push((left.saturating_add(place), right.saturating_add(place)))?;
@@ -287,8 +281,7 @@ fn piles_before(pairs: &[(usize, usize)], tops: &[usize], right: usize) -> usize
 }
 
 /// As many of the pairs, whose left places rise, as there can be with rising right places.
-fn longest_rising(alloc: Global, pairs: &[(usize, usize)]) -> Result<Vec<(usize, usize)>, Fault>
-    ensures err { IfErr result (λ fault. fault ≡ Fault.OutOfMemory) }
+fn longest_rising(alloc: Global, pairs: &[(usize, usize)]) -> Result<Vec<(usize, usize)>, AllocError>
 {
     let mut tops: Vec<usize> = Vec::new(alloc);
     let mut before: Vec<Option<usize>> = Vec::new(alloc);
@@ -323,8 +316,7 @@ pub(crate) fn pairs_of(
     alloc: Global,
     left: &[Piece<'_>],
     right: &[Piece<'_>],
-) -> Result<Vec<(usize, usize)>, Fault>
-    ensures err { IfErr result (λ fault. fault ≡ Fault.OutOfMemory) }
+) -> Result<Vec<(usize, usize)>, AllocError>
 {
     let both = Both { left, right };
     let whole = Range {

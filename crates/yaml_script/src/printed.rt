@@ -1,5 +1,5 @@
 //! Edit scripts as they are printed.
-ghost use Rattle.std.specs.Prelude.{◌≡◌, ◌<◌, ◌++◌, ◌||◌, [], cond, take, codes, string_bytes, OnOk, IfErr};
+ghost use Rattle.std.specs.Prelude.{◌≡◌, ◌<◌, ◌++◌, ◌||◌, [], cond, take, codes, string_bytes, OnOk};
 ghost use Rattle.std.specs.List.{list_any};
 ghost use Rattle.std.specs.Str.{encode_utf8_all};
 ghost use Rattle.yaml_script.specs.Script.{is_change};
@@ -7,8 +7,8 @@ ghost use Rattle.yaml_script.specs.Printed.{is_control, byte_escape, line_char, 
 
 use crate::lines::Piece;
 use crate::script::Edit;
+use std::alloc::AllocError;
 use yaml_text::digit::hex_digit;
-use yaml_text::fault::Fault;
 
 /// What stands for lines that are left out.
 const LEFT_OUT: &str = "\t...\n";
@@ -17,10 +17,9 @@ const LEFT_OUT: &str = "\t...\n";
 const NO_END: &str = "\n\t\\ no line feed at the end\n";
 
 /// Writes the escape of a byte (YAML 1.2.2, 5.7).
-fn put_byte(out: &mut String, byte: u32) -> Result<(), Fault>
+fn put_byte(out: &mut String, byte: u32) -> Result<(), AllocError>
     requires { byte < 256 }
     ensures ok { OnOk result (string_bytes out.new ≡ string_bytes out.old ++ encode_utf8_all (byte_escape byte)) }
-    ensures err { IfErr result (λ fault. fault ≡ Fault.OutOfMemory) }
 {
     out.push_str("\\x")?;
     out.push(char::from(hex_digit(byte / 16)))?;
@@ -36,9 +35,8 @@ fn is_control(c: char) -> bool
 }
 
 /// Writes a character of a line.
-fn put_char(out: &mut String, c: char, at_end: bool) -> Result<(), Fault>
+fn put_char(out: &mut String, c: char, at_end: bool) -> Result<(), AllocError>
     ensures ok { OnOk result (string_bytes out.new ≡ string_bytes out.old ++ encode_utf8_all (line_char at_end c)) }
-    ensures err { IfErr result (λ fault. fault ≡ Fault.OutOfMemory) }
 {
     if c == '\\' {
         out.push_str("\\\\")?;
@@ -56,9 +54,8 @@ fn put_char(out: &mut String, c: char, at_end: bool) -> Result<(), Fault>
 }
 
 /// Writes a part of a line.
-fn put_chars(out: &mut String, text: &str, at_end: bool) -> Result<(), Fault>
+fn put_chars(out: &mut String, text: &str, at_end: bool) -> Result<(), AllocError>
     ensures ok { OnOk result (string_bytes out.new ≡ string_bytes out.old ++ line_text at_end text.now) }
-    ensures err { IfErr result (λ fault. fault ≡ Fault.OutOfMemory) }
 {
     'chars: for c in text.chars() {
         put_char(out, c, at_end)?;
@@ -67,9 +64,8 @@ fn put_chars(out: &mut String, text: &str, at_end: bool) -> Result<(), Fault>
 }
 
 /// Writes what turns a colour of a terminal off, if there is one.
-fn put_plain(out: &mut String, color: bool) -> Result<(), Fault>
+fn put_plain(out: &mut String, color: bool) -> Result<(), AllocError>
     ensures ok { OnOk result (string_bytes out.new ≡ string_bytes out.old ++ plain color) }
-    ensures err { IfErr result (λ fault. fault ≡ Fault.OutOfMemory) }
 {
     if color {
         out.push_str("\u{1b}[0m")?;
@@ -78,9 +74,8 @@ fn put_plain(out: &mut String, color: bool) -> Result<(), Fault>
 }
 
 /// Writes a line, and that no line feed ends it, where none does.
-fn put_piece(out: &mut String, piece: &Piece<'_>, color: bool) -> Result<(), Fault>
+fn put_piece(out: &mut String, piece: &Piece<'_>, color: bool) -> Result<(), AllocError>
     ensures ok { OnOk result (string_bytes out.new ≡ string_bytes out.old ++ piece_text color piece.now) }
-    ensures err { IfErr result (λ fault. fault ≡ Fault.OutOfMemory) }
 {
     put_chars(out, piece.line, false)?;
     put_chars(out, piece.spaces, true)?;
@@ -119,9 +114,8 @@ fn piece_of<'e, 't>(edit: &'e Edit<'t>) -> &'e Piece<'t>
 }
 
 /// Writes an edit behind a tab and its sign.
-fn put_edit(out: &mut String, edit: &Edit<'_>, color: bool) -> Result<(), Fault>
+fn put_edit(out: &mut String, edit: &Edit<'_>, color: bool) -> Result<(), AllocError>
     ensures ok { OnOk result (string_bytes out.new ≡ string_bytes out.old ++ edit_text color edit.now) }
-    ensures err { IfErr result (λ fault. fault ≡ Fault.OutOfMemory) }
 {
     out.push_str(sign_of(edit, color))?;
     put_piece(out, piece_of(edit), color)
@@ -180,11 +174,10 @@ fn put_place(
     place: usize,
     edit: &Edit<'_>,
     is_behind: bool,
-) -> Result<(), Fault>
+) -> Result<(), AllocError>
     requires few { look.context < 65536 }
     requires behind { is_behind ≡ list_any is_change (take place edits.now) }
     ensures ok { OnOk result (string_bytes out.new ≡ string_bytes out.old ++ place_text look.context look.color edits.now place edit.now) }
-    ensures err { IfErr result (λ fault. fault ≡ Fault.OutOfMemory) }
 {
     if !is_near(edits, look.context, place) {
         return Ok(());
@@ -208,10 +201,9 @@ pub fn put_script(
     edits: &[Edit<'_>],
     context: usize,
     color: bool,
-) -> Result<(), Fault>
+) -> Result<(), AllocError>
     requires { context < 65536 }
     ensures ok { OnOk result (string_bytes out.new ≡ string_bytes out.old ++ script_text context color edits.now) }
-    ensures err { IfErr result (λ fault. fault ≡ Fault.OutOfMemory) }
 {
     let look = Look { context, color };
     let mut is_behind = false;

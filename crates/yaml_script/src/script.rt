@@ -1,12 +1,11 @@
 //! An edit script: what of two texts is kept, removed and added.
-ghost use Rattle.std.specs.Prelude.{◌≡◌, ◌≤◌, ◌++◌, length, take, drop, IfOk, IfErr, OnOk};
+ghost use Rattle.std.specs.Prelude.{◌≡◌, ◌≤◌, ◌++◌, length, take, drop, IfOk, OnOk};
 ghost use Rattle.std.specs.List.{flat_map};
 ghost use Rattle.yaml_script.specs.Script.{content, left_part, right_part, IsScript};
 
 use crate::lines::{Piece, pieces_of};
 use crate::matching::pairs_of;
-use std::alloc::Global;
-use yaml_text::fault::Fault;
+use std::alloc::{AllocError, Global};
 
 /// What becomes of a line.
 #[derive(Clone, Copy)]
@@ -32,10 +31,9 @@ impl Edit<'_> {
 }
 
 /// Removes lines of the left text.
-fn remove<'t>(edits: &mut Vec<Edit<'t>>, lines: &[Piece<'t>]) -> Result<(), Fault>
+fn remove<'t>(edits: &mut Vec<Edit<'t>>, lines: &[Piece<'t>]) -> Result<(), AllocError>
     ensures left { OnOk result (flat_map left_part edits.new.items ≡ flat_map left_part edits.old.items ++ flat_map content lines.now) }
     ensures right { OnOk result (flat_map right_part edits.new.items ≡ flat_map right_part edits.old.items) }
-    ensures err { IfErr result (λ fault. fault ≡ Fault.OutOfMemory) }
 {
     for line in lines {
         edits.push(Edit::Removed(*line))?;
@@ -44,10 +42,9 @@ fn remove<'t>(edits: &mut Vec<Edit<'t>>, lines: &[Piece<'t>]) -> Result<(), Faul
 }
 
 /// Adds lines of the right text.
-fn add<'t>(edits: &mut Vec<Edit<'t>>, lines: &[Piece<'t>]) -> Result<(), Fault>
+fn add<'t>(edits: &mut Vec<Edit<'t>>, lines: &[Piece<'t>]) -> Result<(), AllocError>
     ensures left { OnOk result (flat_map left_part edits.new.items ≡ flat_map left_part edits.old.items) }
     ensures right { OnOk result (flat_map right_part edits.new.items ≡ flat_map right_part edits.old.items ++ flat_map content lines.now) }
-    ensures err { IfErr result (λ fault. fault ≡ Fault.OutOfMemory) }
 {
     for line in lines {
         edits.push(Edit::Added(*line))?;
@@ -75,12 +72,11 @@ fn put_before<'s, 't>(
     rest: Rest<'s, 't>,
     left: usize,
     right: usize,
-) -> Result<Rest<'s, 't>, Fault>
+) -> Result<Rest<'s, 't>, AllocError>
     requires lefts { left ≤ length rest.left.now }
     requires rights { right ≤ length rest.right.now }
     ensures left { IfOk result (λ more. flat_map left_part edits.new.items ++ flat_map content more.left.now ≡ flat_map left_part edits.old.items ++ flat_map content rest.entry.left.now) }
     ensures right { IfOk result (λ more. flat_map right_part edits.new.items ++ flat_map content more.right.now ≡ flat_map right_part edits.old.items ++ flat_map content rest.entry.right.now) }
-    ensures err { IfErr result (λ fault. fault ≡ Fault.OutOfMemory) }
 {
     let (removed, lefts) = rest.left.split_at(left);
     let (added, rights) = rest.right.split_at(right);
@@ -96,10 +92,9 @@ fn put_before<'s, 't>(
 }
 
 /// Keeps the first line of both texts, if they are equal.
-fn keep<'s, 't>(edits: &mut Vec<Edit<'t>>, rest: Rest<'s, 't>) -> Result<Rest<'s, 't>, Fault>
+fn keep<'s, 't>(edits: &mut Vec<Edit<'t>>, rest: Rest<'s, 't>) -> Result<Rest<'s, 't>, AllocError>
     ensures left { IfOk result (λ more. flat_map left_part edits.new.items ++ flat_map content more.left.now ≡ flat_map left_part edits.old.items ++ flat_map content rest.entry.left.now) }
     ensures right { IfOk result (λ more. flat_map right_part edits.new.items ++ flat_map content more.right.now ≡ flat_map right_part edits.old.items ++ flat_map content rest.entry.right.now) }
-    ensures err { IfErr result (λ fault. fault ≡ Fault.OutOfMemory) }
 {
     if let Some((left, lefts)) = rest.left.split_first()
         && let Some((right, rights)) = rest.right.split_first()
@@ -120,9 +115,8 @@ fn script_by<'t>(
     left: &[Piece<'t>],
     right: &[Piece<'t>],
     pairs: &[(usize, usize)],
-) -> Result<Vec<Edit<'t>>, Fault>
+) -> Result<Vec<Edit<'t>>, AllocError>
     ensures ok { IfOk result (λ edits. IsScript (flat_map content left.now) (flat_map content right.now) edits.items) }
-    ensures err { IfErr result (λ fault. fault ≡ Fault.OutOfMemory) }
 {
     let mut edits = Vec::new(alloc);
     let mut rest = Rest { left, right };
@@ -141,9 +135,8 @@ fn script_by<'t>(
 }
 
 /// A script from a text to another, in n log n steps.
-pub fn script_of<'t>(alloc: Global, left: &'t str, right: &'t str) -> Result<Vec<Edit<'t>>, Fault>
+pub fn script_of<'t>(alloc: Global, left: &'t str, right: &'t str) -> Result<Vec<Edit<'t>>, AllocError>
     ensures ok { IfOk result (λ edits. IsScript left.now right.now edits.items) }
-    ensures err { IfErr result (λ fault. fault ≡ Fault.OutOfMemory) }
 {
     let lefts = pieces_of(alloc, left)?;
     let rights = pieces_of(alloc, right)?;

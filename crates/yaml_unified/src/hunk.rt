@@ -1,11 +1,11 @@
 //! One hunk.
-ghost use Rattle.std.specs.Prelude.{◌≡◌, ◌≤◌, ◌++◌, length, codes, cond, decimal, string_bytes, OnOk, IfErr};
+ghost use Rattle.std.specs.Prelude.{◌≡◌, ◌≤◌, ◌++◌, length, codes, cond, decimal, string_bytes, OnOk};
 ghost use Rattle.std.specs.List.{filter, flat_map};
 ghost use Rattle.yaml_unified.specs.Unified.{is_left, is_right, start, range_text, head_text, end_text, line_text, hunk_text};
 
 use itoa::Buffer;
+use std::alloc::AllocError;
 use yaml_script::{Edit, Piece};
-use yaml_text::fault::Fault;
 
 /// What follows a line that no line feed ends.
 const NO_END: &str = "\n\\ No newline at end of file\n";
@@ -52,9 +52,8 @@ fn start(line: usize, count: usize) -> usize
 }
 
 /// Writes a range: its first line and how many lines it has.
-fn put_range(out: &mut String, line: usize, count: usize) -> Result<(), Fault>
+fn put_range(out: &mut String, line: usize, count: usize) -> Result<(), AllocError>
     ensures ok { OnOk result (string_bytes out.new ≡ string_bytes out.old ++ range_text line count) }
-    ensures only { IfErr result (λ fault. fault ≡ Fault.OutOfMemory) }
 {
     let mut number = Buffer::new();
     out.push_str(number.format(start(line, count)))?;
@@ -64,9 +63,8 @@ fn put_range(out: &mut String, line: usize, count: usize) -> Result<(), Fault>
 }
 
 /// Writes the first line of a hunk.
-fn put_head(out: &mut String, left: usize, right: usize, shown: &[Edit<'_>]) -> Result<(), Fault>
+fn put_head(out: &mut String, left: usize, right: usize, shown: &[Edit<'_>]) -> Result<(), AllocError>
     ensures ok { OnOk result (string_bytes out.new ≡ string_bytes out.old ++ head_text left right shown.now) }
-    ensures only { IfErr result (λ fault. fault ≡ Fault.OutOfMemory) }
 {
     out.push_str("@@ -")?;
     put_range(out, left, lefts(shown))?;
@@ -95,9 +93,8 @@ fn end_of(piece: &Piece<'_>) -> &'static str
 }
 
 /// Writes a line of a hunk.
-fn put_line(out: &mut String, edit: &Edit<'_>) -> Result<(), Fault>
+fn put_line(out: &mut String, edit: &Edit<'_>) -> Result<(), AllocError>
     ensures ok { OnOk result (string_bytes out.new ≡ string_bytes out.old ++ line_text edit.now) }
-    ensures only { IfErr result (λ fault. fault ≡ Fault.OutOfMemory) }
 {
     let (sign, piece) = parts_of(edit);
     out.push_str(sign)?;
@@ -113,9 +110,8 @@ pub fn put_hunk(
     left: usize,
     right: usize,
     shown: &[Edit<'_>],
-) -> Result<(), Fault>
+) -> Result<(), AllocError>
     ensures ok { OnOk result (string_bytes out.new ≡ string_bytes out.old ++ hunk_text left right shown.now) }
-    ensures only { IfErr result (λ fault. fault ≡ Fault.OutOfMemory) }
 {
     put_head(out, left, right, shown)?;
     for edit in shown {

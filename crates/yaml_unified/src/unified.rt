@@ -1,11 +1,11 @@
 //! The hunks of an edit script.
-ghost use Rattle.std.specs.Prelude.{◌≡◌, ◌<◌, ◌≤◌, ◌+◌, ◌^◌, length, string_bytes, OnOk, IfOk, IfErr};
+ghost use Rattle.std.specs.Prelude.{◌≡◌, ◌<◌, ◌≤◌, ◌+◌, ◌^◌, length, string_bytes, OnOk, IfOk};
 ghost use Rattle.yaml_unified.specs.Unified.{IsFirstChange, PutsHunk, PutsHunks};
 
 use crate::hunk::{lefts, put_hunk, rights};
 use crate::places::{first_change, hunk_len};
+use std::alloc::AllocError;
 use yaml_script::Edit;
-use yaml_text::fault::Fault;
 
 /// The edits that are not written yet, and the lines of both texts at which they begin.
 #[derive(Clone, Copy)]
@@ -21,7 +21,7 @@ fn put_next<'s, 't>(
     rest: Rest<'s, 't>,
     change: usize,
     context: usize,
-) -> Result<Rest<'s, 't>, Fault>
+) -> Result<Rest<'s, 't>, AllocError>
     requires change { IsFirstChange rest.edits.now change }
     requires few { context < 65536 }
     requires lefts { rest.left + length rest.edits.now < 2 ^ 64 }
@@ -29,7 +29,6 @@ fn put_next<'s, 't>(
     ensures lefts { IfOk result (λ next. next.left + length next.edits.now ≤ rest.entry.left + length rest.entry.edits.now) }
     ensures rights { IfOk result (λ next. next.right + length next.edits.now ≤ rest.entry.right + length rest.entry.edits.now) }
     ensures hunk { IfOk result (λ next. PutsHunk context rest.entry.edits.now rest.entry.left rest.entry.right next.edits.now next.left next.right (string_bytes out.old) (string_bytes out.new)) }
-    ensures only { IfErr result (λ fault. fault ≡ Fault.OutOfMemory) }
 {
     let (skipped, more) = rest.edits.split_at(change.saturating_sub(context));
     let (shown, after) = more.split_at(hunk_len(more, change - skipped.len(), context));
@@ -44,10 +43,9 @@ fn put_next<'s, 't>(
 }
 
 /// Writes the changes of a script as hunks of a unified diff, each with so many kept lines before and behind its changes.
-pub fn put_unified(out: &mut String, edits: &[Edit<'_>], context: usize) -> Result<(), Fault>
+pub fn put_unified(out: &mut String, edits: &[Edit<'_>], context: usize) -> Result<(), AllocError>
     requires few { context < 65536 }
     ensures hunks { OnOk result (PutsHunks context edits.now (string_bytes out.old) (string_bytes out.new)) }
-    ensures only { IfErr result (λ fault. fault ≡ Fault.OutOfMemory) }
 {
     let mut rest = Rest {
         edits,

@@ -6,4 +6,4 @@ use Rattle.review_text.proofs.text.put_scalar.Goals as goal
 
 pub returns-clause-ok : goal.returns-clause-ok
 unfolding core_tag
-returns-clause-ok c = on_ok c.spell_into.result c.spell_into.ensures.ok (λ h. scalar_filled c.args.room c.args.tag.now _ c.args.content.now _ _ _ _ refl c.long_front.ensures c.in_ok-put_tag.ensures.ok h)
+returns-clause-ok c = on_ok c.put_spelled.result c.put_spelled.ensures.ok (λ h. scalar_filled c.args.room c.args.tag.now _ c.args.content.now _ _ _ _ refl c.long_front.ensures c.in_ok-put_tag.ensures.ok h)
