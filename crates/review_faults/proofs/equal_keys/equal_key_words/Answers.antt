@@ -4,8 +4,8 @@ use Rattle.review_faults.specs.EventSpots.{advice, at_line, key_name}
 use Rattle.review_faults.specs.Labels.{node_of}
 use Rattle.review_faults.proofs.equal_keys.equal_key_words.Goals as goal
 
-pub returns-clause-ok : goal.returns-clause-ok
-returns-clause-ok c =
+pub returns : goal.returns
+returns c = record { ok = (
     let label = node_of (event_of c.args.event.now) in
     let name = key_name label in
     let middle = codes " is in this mapping already" in
@@ -14,4 +14,4 @@ returns-clause-ok c =
     let named = c.in_ok-put_name.ensures.ok ∙ ap (λ z. z ++ name) c.new-out.ensures.bytes in
     let placed = c.in_ok-put_line.ensures.ok ∙ ap (λ z. z ++ line) (c.in_ok-push_str.ensures.bytes ∙ ap (λ z. z ++ middle) named) in
     c.in_ok-push_str-2.ensures.bytes ∙ ap (λ z. string_bytes c.put_line.new.out ++ z) c.advice.ensures ∙ ap (λ z. z ++ end) placed
-    ∙ append_assoc (name ++ middle) line end ∙ append_assoc name middle (line ++ end)
+    ∙ append_assoc (name ++ middle) line end ∙ append_assoc name middle (line ++ end)); }

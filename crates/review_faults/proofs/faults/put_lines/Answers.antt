@@ -16,8 +16,8 @@ joined : (a h c b s m : List ℕ) → ((((a ++ h) ++ c) ++ b) ++ s) ++ m ≡ a +
 joined a h c b s m =
     append_assoc (((a ++ h) ++ c) ++ b) s m ∙ append_assoc ((a ++ h) ++ c) b (s ++ m) ∙ append_assoc (a ++ h) c (b ++ (s ++ m)) ∙ append_assoc a h (c ++ (b ++ (s ++ m)))
 
-pub returns-clause-ok : goal.returns-clause-ok
-returns-clause-ok c =
+pub returns : goal.returns
+returns c = record { ok = (
     let name = c.args.name.now in
     let place = c.args.told.now.place in
     let byte = mark_len c.args.bytes.now + c.args.told.now.at in
@@ -34,4 +34,4 @@ returns-clause-ok c =
       front ++ (called ++ (part ++ (mark ++ more))),
       told ∙ joined (string_bytes c.args.out.now) front called part mark more,
       (more, subst (λ z. IsExplained name z c.args.told.now more) c.unmarked.ensures c.in_ok-more.ensures.ok, refl),
-    )
+    )); }

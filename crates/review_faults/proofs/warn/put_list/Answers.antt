@@ -9,5 +9,5 @@ loop-warning-preserved c =
     let put = c.in_ok-put_warning.ensures.ok ∙ ap (λ z. string_bytes c.loop-warning.out ++ warning_text c.args.form c.args.name.now z) c.warning-item.is in
     flat_next (warning_text c.args.form c.args.name.now) c.args.list.now c.loop-warning.warning-index c.warning-item.result _ _ _ (omega arith) c.loop-warning.invariant put
 
-pub returns-clause-ok : goal.returns-clause-ok
-returns-clause-ok c = flat_all (warning_text c.args.form c.args.name.now) c.args.list.now c.loop-warning.warning-index _ _ (omega arith) c.loop-warning.invariant
+pub returns : goal.returns
+returns c = record { ok = (flat_all (warning_text c.args.form c.args.name.now) c.args.list.now c.loop-warning.warning-index _ _ (omega arith) c.loop-warning.invariant); }

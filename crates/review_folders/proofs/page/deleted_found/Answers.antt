@@ -2,8 +2,8 @@ use Rattle.std.proofs.Common.{[], ◌∷◌, ◌++◌, refl, ◌∙◌, ap, subs
 use Rattle.review_folders.specs.Pages.{IsList}
 use Rattle.review_folders.proofs.page.deleted_found.Goals as goal
 
-pub returns-clause-ok : goal.returns-clause-ok
-returns-clause-ok g c =
+pub returns : goal.returns
+returns g c = record { ok = (
     let one = c.in_ok-alone.field-0 in
     let listed = c.in_ok-push.ensures.items ∙ ap (λ z. z ++ (one ∷ [])) c.new-list.ensures.items in
     record {
@@ -14,4 +14,4 @@ returns-clause-ok g c =
       list = subst (λ z. IsList z c.part_with.result) listed c.part_with.ensures;
       untold = c.new.ensures.bytes;
       differs = refl;
-    }
+    }); }

@@ -11,5 +11,5 @@ loop-at-preserved c =
       groups = groups_more true c.args.ranges c.args.found.now 0 c.loop-at.at c.loop-at.groups.items _ g c.loop-at.invariant.groups c.group_at-group.ensures.first c.group_at-group.ensures.some c.group_at-group.ensures.tells c.in_ok-push.ensures.items;
     }
 
-pub returns-clause-ok : goal.returns-clause-ok
-returns-clause-ok c = subst (λ z. Groups true c.args.ranges c.args.found.now 0 z c.loop-at.groups.items) (omega (arith, c.loop-at.invariant.within, c.loop-at-test.false)) c.loop-at.invariant.groups
+pub returns : goal.returns
+returns c = record { ok = (subst (λ z. Groups true c.args.ranges c.args.found.now 0 z c.loop-at.groups.items) (omega (arith, c.loop-at.invariant.within, c.loop-at-test.false)) c.loop-at.invariant.groups); }

@@ -9,5 +9,5 @@ findings-preserved c =
     let is = rw c.deref-finding-items.ensures.value at c.finding-item.is in
     flat_next finding_line c.args.part.now.list.items c.findings.finding-index _ _ _ _ (omega (arith, c.findings-test.true)) c.findings.invariant (c.in_ok-put_finding.ensures.ok ∙ ap (λ z. string_bytes c.findings.out ++ finding_line z) is)
 
-pub returns-clause-ok : goal.returns-clause-ok
-returns-clause-ok c = flat_all finding_line c.args.part.now.list.items c.findings.finding-index _ _ (omega (arith, c.findings-test.false)) c.findings.invariant
+pub returns : goal.returns
+returns c = record { ok = (flat_all finding_line c.args.part.now.list.items c.findings.finding-index _ _ (omega (arith, c.findings-test.false)) c.findings.invariant); }

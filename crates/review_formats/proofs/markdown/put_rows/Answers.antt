@@ -7,5 +7,5 @@ use Rattle.review_formats.proofs.markdown.put_rows.Goals as goal
 pub rows-preserved : goal.rows-preserved
 rows-preserved c = flat_next (row_text c.args.sides) c.args.list.now c.rows.finding-index _ _ _ _ (omega (arith, c.rows-test.true)) c.rows.invariant (c.in_ok-put_row.ensures.ok ∙ ap (λ z. string_bytes c.rows.out ++ row_text c.args.sides z) c.finding-item.is)
 
-pub returns-clause-ok : goal.returns-clause-ok
-returns-clause-ok c = flat_all (row_text c.args.sides) c.args.list.now c.rows.finding-index _ _ (omega (arith, c.rows-test.false)) c.rows.invariant
+pub returns : goal.returns
+returns c = record { ok = (flat_all (row_text c.args.sides) c.args.list.now c.rows.finding-index _ _ (omega (arith, c.rows-test.false)) c.rows.invariant); }

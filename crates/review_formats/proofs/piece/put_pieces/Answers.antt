@@ -5,5 +5,5 @@ use Rattle.review_formats.proofs.piece.put_pieces.Goals as goal
 pub loop-piece-preserved : goal.loop-piece-preserved
 loop-piece-preserved c = pieces_next c.args.pieces.now c.loop-piece.piece-index _ _ _ _ (omega (arith, c.loop-piece-test.true)) c.loop-piece.invariant c.in_ok-put_piece.ensures.ok
 
-pub returns-clause-ok : goal.returns-clause-ok
-returns-clause-ok c = pieces_all c.args.pieces.now c.loop-piece.piece-index _ _ (omega (arith, c.loop-piece-test.false)) c.loop-piece.invariant
+pub returns : goal.returns
+returns c = record { ok = (pieces_all c.args.pieces.now c.loop-piece.piece-index _ _ (omega (arith, c.loop-piece-test.false)) c.loop-piece.invariant); }

@@ -3,5 +3,5 @@ use Rattle.review_formats.specs.Escaped.{escaped}
 use Rattle.review_formats.specs.declared.escape.Escape.TheVariants.{Html}
 use Rattle.review_html.proofs.heading.put_file_front.Goals as goal
 
-pub returns-in-Some-clause-ok : goal.returns-in-Some-clause-ok
-returns-in-Some-clause-ok c = rw c.in-Some.is (rw (c.text.ensures ∙ ap (escaped Html) c.deref.ensures) at c.put_pieces.ensures.ok)
+pub returns-in-Some : goal.returns-in-Some
+returns-in-Some c = record { ok = (rw c.in-Some.is (rw (c.text.ensures ∙ ap (escaped Html) c.deref.ensures) at c.put_pieces.ensures.ok)); }

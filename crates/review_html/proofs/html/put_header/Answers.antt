@@ -6,8 +6,8 @@ use Rattle.review_formats.proofs.PieceLaws.{two_put}
 use Rattle.review_html.specs.Html.{header_names, count_text, more_text}
 use Rattle.review_html.proofs.html.put_header.Goals as goal
 
-pub returns-clause-ok : goal.returns-clause-ok
-returns-clause-ok c =
+pub returns : goal.returns
+returns c = record { ok = (
     let found = c.args.found.now in
     let parts = found.parts.items in
     let a = string_bytes c.push_str.new.self in
@@ -27,4 +27,4 @@ returns-clause-ok c =
     (two_put b d end (codes "</h1>\n") r3 c.in_ok-push_str-3.ensures.bytes
     (two_put d e end (header_names found.names) r4 c.in_ok-put_header_names.ensures.ok
     (two_put e f end (count_text (count_of parts) (length parts)) r5 (c.in_ok-put_count.ensures.ok ∙ ap (λ z. e ++ count_text z c.part_count.result) c.count.ensures ∙ ap (λ z. e ++ count_text (count_of parts) z) c.part_count.ensures)
-    (two_put f g end (more_text parts) r6 c.in_ok-put_more.ensures.ok c.in_ok-push_str-4.ensures.bytes)))))
+    (two_put f g end (more_text parts) r6 c.in_ok-put_more.ensures.ok c.in_ok-push_str-4.ensures.bytes)))))); }

@@ -18,5 +18,5 @@ links-preserved c =
     flat_step link_item (enumerate_from n (drop at list)) (enumerate_from m (drop (at + 1) list)) (n, get_or list at one) out _ _ (enum_next list n m at one (omega arith) (omega (arith, c.links-test.true))) c.links.invariant
     (c.in_ok-put_link.ensures.ok ∙ ap (λ z. out ++ link_text z one) c.number_after.ensures ∙ ap (λ z. out ++ link_text (number_after n) z) c.index-list-at.is)
 
-pub returns-clause-ok : goal.returns-clause-ok
-returns-clause-ok c = flat_done link_item _ _ _ (enum_done c.args.list.now (c.args.before + c.links.at) c.links.at (omega (arith, c.links-test.false))) c.links.invariant
+pub returns : goal.returns
+returns c = record { ok = (flat_done link_item _ _ _ (enum_done c.args.list.now (c.args.before + c.links.at) c.links.at (omega (arith, c.links-test.false))) c.links.invariant); }

@@ -19,5 +19,5 @@ parts-preserved c =
     (parts_next parts (at + 1) (at + 1 + 1) before c.saturating_add-before.result at one refl (c.saturating_add-before.ensures ∙ ap (λ z. min (before + z) (2 ^ 64 - 1)) c.count_in.ensures ∙ ap (λ z. min (before + length z.list.items) (2 ^ 64 - 1)) c.index-parts-at.is) (omega (arith, c.parts-test.true)))
     c.parts.invariant (subst (λ z. IsPartText (at + 1, before, z) w.0) c.index-parts-at.is w.1) w.2
 
-pub returns-clause-ok : goal.returns-clause-ok
-returns-clause-ok c = on_done IsPartText (numbered 1 0 c.args.parts.now) (string_bytes c.args.out.now) _ _ (parts_done c.args.parts.now (c.parts.at + 1) c.parts.before c.parts.at (omega (arith, c.parts-test.false))) c.parts.invariant
+pub returns : goal.returns
+returns c = record { ok = (on_done IsPartText (numbered 1 0 c.args.parts.now) (string_bytes c.args.out.now) _ _ (parts_done c.args.parts.now (c.parts.at + 1) c.parts.before c.parts.at (omega (arith, c.parts-test.false))) c.parts.invariant); }

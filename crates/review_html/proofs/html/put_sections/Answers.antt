@@ -19,5 +19,5 @@ sections-preserved c =
     flat_step (section_text c.args.number) (enumerate_from n (drop at list)) (enumerate_from m (drop (at + 1) list)) (n, get_or list at one) out _ _ (enum_next list n m at one (omega arith) (omega (arith, c.sections-test.true))) c.sections.invariant
     (c.in_ok-put_section.ensures.ok ∙ ap (λ z. out ++ (front_text z one ++ (body_text c.args.number one ++ codes "</section>\n"))) c.number_after.ensures ∙ ap (λ z. out ++ section_text c.args.number (n, z)) c.index-list-at.is)
 
-pub returns-clause-ok : goal.returns-clause-ok
-returns-clause-ok c = flat_done (section_text c.args.number) _ _ _ (enum_done c.args.list.now (c.args.before + c.sections.at) c.sections.at (omega (arith, c.sections-test.false))) c.sections.invariant
+pub returns : goal.returns
+returns c = record { ok = (flat_done (section_text c.args.number) _ _ _ (enum_done c.args.list.now (c.args.before + c.sections.at) c.sections.at (omega (arith, c.sections-test.false))) c.sections.invariant); }

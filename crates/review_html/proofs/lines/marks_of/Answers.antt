@@ -17,5 +17,5 @@ findings-preserved c =
     (marks-step c.args.side c.args.before c.args.list.now c.args.lines c.findings.at number marks.items new c.index-list-at.result (omega (arith, c.findings-test.true)) c.index-list-at.is c.findings.invariant
     (omega (arith, c.saturating_add-number.ensures, c.saturating_add.ensures)) set)
 
-pub returns-clause-ok : goal.returns-clause-ok
-returns-clause-ok c = marks-done c.args.side c.args.before c.args.list.now c.args.lines c.findings.at c.findings.marks.items c.findings-test.false c.findings.invariant
+pub returns : goal.returns
+returns c = record { ok = (marks-done c.args.side c.args.before c.args.list.now c.args.lines c.findings.at c.findings.marks.items c.findings-test.false c.findings.invariant); }

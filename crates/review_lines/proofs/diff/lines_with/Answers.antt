@@ -23,5 +23,5 @@ loop-number-preserved c =
       ])
     ]
 
-pub returns-clause-ok : goal.returns-clause-ok
-returns-clause-ok c = all_told c.args.both.now c.args.asked.now c.args.list.now c.args.counts.now c.loop-number.lines.items c.loop-number.number (omega arith) c.requires.level c.loop-number.invariant
+pub returns : goal.returns
+returns c = record { ok = (all_told c.args.both.now c.args.asked.now c.args.list.now c.args.counts.now c.loop-number.lines.items c.loop-number.number (omega arith) c.requires.level c.loop-number.invariant); }

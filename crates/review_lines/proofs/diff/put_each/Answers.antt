@@ -9,5 +9,5 @@ loop-line-preserved c =
     let f = c.args.asked.now in
     lines_next f c.args.lines.now c.loop-line.line-index c.line-item.result _ _ _ (omega arith) c.loop-line.invariant (c.in_ok-put.ensures.ok ∙ ap (λ z. string_bytes c.loop-line.text ++ line_text f z) c.line-item.is)
 
-pub returns-clause-ok : goal.returns-clause-ok
-returns-clause-ok c = lines_all c.args.asked.now c.args.lines.now c.loop-line.line-index _ _ (omega arith) c.loop-line.invariant
+pub returns : goal.returns
+returns c = record { ok = (lines_all c.args.asked.now c.args.lines.now c.loop-line.line-index _ _ (omega arith) c.loop-line.invariant); }

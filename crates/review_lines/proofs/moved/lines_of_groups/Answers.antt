@@ -6,5 +6,5 @@ pub loop-number-preserved : goal.loop-number-preserved
 loop-number-preserved c =
     groups_next (is_some c.args.keys.now) c.args.both.now c.args.asked.now c.args.moves.now c.args.groups.now c.loop-number.lines.items _ c.loop-number.number _ _ _ (omega arith) refl c.loop-number.invariant c.in_ok-line_of_group.ensures.ok c.in_ok-push.ensures.items
 
-pub returns-clause-ok : goal.returns-clause-ok
-returns-clause-ok c = groups_all (is_some c.args.keys.now) c.args.both.now c.args.asked.now c.args.moves.now c.args.groups.now c.loop-number.lines.items c.loop-number.number (omega arith) c.loop-number.invariant
+pub returns : goal.returns
+returns c = record { ok = (groups_all (is_some c.args.keys.now) c.args.both.now c.args.asked.now c.args.moves.now c.args.groups.now c.loop-number.lines.items c.loop-number.number (omega arith) c.loop-number.invariant); }

@@ -26,5 +26,5 @@ seats-preserved c =
     on_step (Of c.args.number) text all (string_bytes c.args.out.now) (drop at all) (drop (at + 1) all) (get_or all at one) c.place.result (string_bytes c.seats.out) (string_bytes c.put_place.new.out) (drop_next all at one (omega (arith, c.seats-test.true))) c.seats.invariant
     (subst (λ z. Of c.args.number z c.place.result) c.side-item.is c.place.ensures) c.in_ok-put_place.ensures.ok
 
-pub returns-clause-ok : goal.returns-clause-ok
-returns-clause-ok c = on_done (Of c.args.number) text c.args.seats.now (string_bytes c.args.out.now) (drop c.seats.side-index c.args.seats.now) (string_bytes c.seats.out) (drop_of_length-le c.args.seats.now c.seats-test.false) c.seats.invariant
+pub returns : goal.returns
+returns c = record { ok = (on_done (Of c.args.number) text c.args.seats.now (string_bytes c.args.out.now) (drop c.seats.side-index c.args.seats.now) (string_bytes c.seats.out) (drop_of_length-le c.args.seats.now c.seats-test.false) c.seats.invariant); }

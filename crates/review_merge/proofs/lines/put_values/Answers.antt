@@ -15,5 +15,5 @@ texts-preserved c =
     flat_step value_column (enumerate_from at (values_in (drop at texts))) (enumerate_from (at + 1) (values_in (drop (at + 1) texts))) (at, option_map string_bytes (get_or texts at one)) (string_bytes c.texts.out) _ _ (values_next texts at one (omega (arith, c.texts-test.true))) c.texts.invariant
     (c.in_ok-put_column.ensures.ok ∙ ap (λ z. string_bytes c.texts.out ++ value_column (at, option_map string_bytes z)) c.index-texts-number.is)
 
-pub returns-clause-ok : goal.returns-clause-ok
-returns-clause-ok c = flat_done value_column _ _ _ (values_end c.args.texts.now c.texts.number (omega (arith, c.texts-test.false))) c.texts.invariant
+pub returns : goal.returns
+returns c = record { ok = (flat_done value_column _ _ _ (values_end c.args.texts.now c.texts.number (omega (arith, c.texts-test.false))) c.texts.invariant); }

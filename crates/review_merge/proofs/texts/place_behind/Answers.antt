@@ -4,11 +4,11 @@ use Rattle.review_merge.proofs.PartLaws.{some_from, none_from, behind_like, behi
 use Rattle.review_merge.proofs.texts.place_behind.Goals.{in-Some+in_ok-looks_like+else-branch, in_default}
 use Rattle.review_merge.proofs.texts.place_behind.Goals as goal
 
-pub returns-then-branch-clause-ok : goal.returns-then-branch-clause-ok
-returns-then-branch-clause-ok c =
+pub returns-then-branch : goal.returns-then-branch
+returns-then-branch c = record { ok = (
     let xs = c.args.before.now in
     let i = c.others.other-index in
-    behind_like (values_in c.args.wholes.now) (values_in (drop i xs)) (values_in (drop (i + 1) xs)) (values_in xs) c.args.text.now _ c.difference_of.result (some_from xs i _ c.other-item.result c.in-Some.other (omega (arith, c.others-test.true)) c.other-item.is c.in-Some.is) (sym (ap (looks_like (values_in c.args.wholes.now) c.args.text.now) c.deref.ensures) ∙ sym c.in_ok-looks_like.ensures.ok ∙ c.if-branch.true) (c.difference_of.ensures ∙ ap₂ common c.as_bytes.ensures.value c.as_bytes-then-branch.ensures.value) c.others.invariant
+    behind_like (values_in c.args.wholes.now) (values_in (drop i xs)) (values_in (drop (i + 1) xs)) (values_in xs) c.args.text.now _ c.difference_of.result (some_from xs i _ c.other-item.result c.in-Some.other (omega (arith, c.others-test.true)) c.other-item.is c.in-Some.is) (sym (ap (looks_like (values_in c.args.wholes.now) c.args.text.now) c.deref.ensures) ∙ sym c.in_ok-looks_like.ensures.ok ∙ c.if-branch.true) (c.difference_of.ensures ∙ ap₂ common c.as_bytes.ensures.value c.as_bytes-then-branch.ensures.value) c.others.invariant); }
 
 pub others-preserved : goal.others-preserved
 others-preserved c =
@@ -20,5 +20,5 @@ others-preserved c =
       | in_default w ↦ behind_none wholes (values_in (drop i xs)) (values_in (drop (i + 1) xs)) (values_in xs) c.args.text.now (none_from xs i _ c.other-item.result (omega (arith, c.others-test.true)) c.other-item.is w.in_default.not-Some) c.others.invariant
     ]
 
-pub returns-clause-ok : goal.returns-clause-ok
-returns-clause-ok c = behind_end (values_in c.args.wholes.now) c.args.before.now c.others.other-index c.args.text.now c.own_place.result (omega (arith, c.others-test.false)) c.own_place.ensures c.others.invariant
+pub returns : goal.returns
+returns c = record { ok = (behind_end (values_in c.args.wholes.now) c.args.before.now c.others.other-index c.args.text.now c.own_place.result (omega (arith, c.others-test.false)) c.own_place.ensures c.others.invariant); }

@@ -2,8 +2,8 @@ use Rattle.std.proofs.Common.{None, [], ◌∷◌, ◌++◌, refl, ◌∙◌, ap
 use Rattle.review_formats.specs.declared.finding.Part.{Part}
 use Rattle.review_reports.proofs.pages.as_found.Goals as goal
 
-pub returns-clause-ok : goal.returns-clause-ok
-returns-clause-ok c =
+pub returns : goal.returns
+returns c = record { ok = (
     let part : Part = record { name = None; list = c.args.list; shown = None; left_out = c.none.result } in
     record {
       command = c.word_of.ensures;
@@ -14,4 +14,4 @@ returns-clause-ok c =
       listed = refl;
       unshown = refl;
       whole = c.none.ensures;
-    }
+    }); }

@@ -13,5 +13,5 @@ chars-preserved c =
       put = spelled_next seen_char _ _ c.in-Some.c _ _ _ v.utf8 s v.put c.in_ok-put_seen.ensures.ok;
     }
 
-pub returns-clause-ok : goal.returns-clause-ok
-returns-clause-ok c = spelled_all seen_char _ _ _ (nil_from_length _ c.in-None.ensures.steps.0.0) c.chars.invariant.put
+pub returns : goal.returns
+returns c = record { ok = (spelled_all seen_char _ _ _ (nil_from_length _ c.in-None.ensures.steps.0.0) c.chars.invariant.put); }

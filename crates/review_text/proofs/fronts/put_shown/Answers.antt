@@ -15,5 +15,5 @@ chars-preserved c =
       put = terminal_next _ _ c.in-Some.c _ _ _ v.utf8 s v.put (c.in_ok-push.ensures.bytes ∙ ap (λ z. string_bytes c.chars.out ++ encode_utf8 z) c.shown.ensures);
     }
 
-pub returns-clause-ok : goal.returns-clause-ok
-returns-clause-ok c = terminal_all _ _ _ (nil_from_length _ c.in-None.ensures.steps.0.0) c.chars.invariant.put
+pub returns : goal.returns
+returns c = record { ok = (terminal_all _ _ _ (nil_from_length _ c.in-None.ensures.steps.0.0) c.chars.invariant.put); }

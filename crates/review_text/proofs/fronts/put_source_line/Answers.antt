@@ -3,8 +3,8 @@ use Rattle.review_text.specs.Window.{IsEnd, IsStart, Sides, window}
 use Rattle.review_text.proofs.Pieces.{on_ok}
 use Rattle.review_text.proofs.fronts.put_source_line.Goals as goal
 
-pub returns-clause-ok : goal.returns-clause-ok
-returns-clause-ok c =
+pub returns : goal.returns
+returns c = record { ok = (
     let before = c.last.result.now in
     let behind = c.first.result.now in
     let left = c.sides.result.0.now in
@@ -22,4 +22,4 @@ returns-clause-ok c =
         is = refl;
       };
       is = h;
-    })
+    })); }

@@ -5,5 +5,5 @@ use Rattle.review_text.proofs.text.put_all.Goals as goal
 pub loop-text-preserved : goal.loop-text-preserved
 loop-text-preserved c = flat_next (λ text. text.now) c.args.texts.now c.loop-text.text-index _ _ _ _ (omega arith) c.loop-text.invariant c.in_ok-push_str.ensures.bytes
 
-pub returns-clause-ok : goal.returns-clause-ok
-returns-clause-ok c = flat_all (λ text. text.now) c.args.texts.now c.loop-text.text-index _ _ (omega arith) c.loop-text.invariant
+pub returns : goal.returns
+returns c = record { ok = (flat_all (λ text. text.now) c.args.texts.now c.loop-text.text-index _ _ (omega arith) c.loop-text.invariant); }

@@ -10,5 +10,5 @@ loop-place-preserved c =
     let a = c.in_ok-add.ensures in
     stream-next c.args.graph.now c.args.given c.args.roots.now _ refl c.documents-sides.result c.loop-place.place c.loop-place.found c.in_ok-more.more c.add.new.found c.requires.paired c.loop-place.invariant c.documents-sides.ensures.are c.in_ok-more.ensures.ok c.in_ok-more.ensures.room a.list a.room a.whole
 
-pub returns-clause-ok : goal.returns-clause-ok
-returns-clause-ok c = stream-done c.args.graph.now c.args.given c.args.roots.now c.loop-place.place c.loop-place.found c.requires.paired (omega arith) c.loop-place.invariant
+pub returns : goal.returns
+returns c = record { ok = (stream-done c.args.graph.now c.args.given c.args.roots.now c.loop-place.place c.loop-place.found c.requires.paired (omega arith) c.loop-place.invariant); }

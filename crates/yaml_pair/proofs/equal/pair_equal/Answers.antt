@@ -12,8 +12,8 @@ pub join-requires-clause-rights : goal.join-requires-clause-rights
 join-requires-clause-rights c = subst (λ z. OnlyFree z c.args.partners.now.rights.items) (sym c.deref-4.ensures.value)
     (counts-free c.deref-2.result.now c.in_ok-right.right.items c.args.partners.now.rights.items (length c.args.rights.now) c.in_ok-right.ensures.ok (ap length c.deref-2.ensures.value ∙ c.in_ok-ranks_of-2.ensures.ok.0) c.requires.none.right)
 
-pub returns-clause-ok : goal.returns-clause-ok
-returns-clause-ok c =
+pub returns : goal.returns
+returns c = record { ok = (
     let g = c.args.view.graph.now in
     let r = c.args.view.ranks.now in
     let ls = c.args.lefts.now in
@@ -25,4 +25,4 @@ returns-clause-ok c =
     (subst (AreRanks g r ls) (sym c.deref.ensures.value) c.in_ok-ranks_of.ensures.ok) (subst (AreRanks g r rs) (sym c.deref-2.ensures.value) c.in_ok-ranks_of-2.ensures.ok)
     c.deref-3.result.now c.deref-4.result.now
     (subst (λ z. AreCounts rl z (length rl)) (sym c.deref-3.ensures.value) c.in_ok-left.ensures.ok) (subst (λ z. AreCounts rr z (length rr)) (sym c.deref-4.ensures.value) c.in_ok-right.ensures.ok) jn)
-    c.join.ensures.ok
+    c.join.ensures.ok); }

@@ -5,8 +5,8 @@ use Rattle.yaml_pair.specs.Named.{Within, HasPairs, PairsBy, naming_of, texts_of
 use Rattle.yaml_pair.proofs.StepLaws.{pairs-told}
 use Rattle.yaml_pair.proofs.pairing.middle.Goals as goal
 
-pub returns-clause-named : goal.returns-clause-named
-returns-clause-named c =
+pub returns : goal.returns
+returns c = record { named = (
     let g = c.args.graph.now in
     let ls = c.args.sides.0.now in
     let rs = c.args.sides.1.now in
@@ -18,4 +18,4 @@ returns-clause-named c =
     let h = c.in_ok-pair_named.ensures.ok w (c.in_ok-pair_equal.ensures.ok w) in
     let has : HasPairs a (length ls) (length rs) (PairsBy g ls rs cs) = subst (λ z. HasPairs a (length ls) (length rs) (PairsBy z ls rs cs)) c.new-view.ensures.graph (subst (λ z. HasPairs a (length ls) (length rs) (PairsBy c.new-view.result.graph.now ls rs z)) names h) in
     pairs-told g ls rs c.args.first cs a c.pair_alike.new.partners c.pair_in_turn.new.partners steps.items has c.in_ok-pair_alike.ensures.ok c.in_ok-pair_in_turn.ensures.ok told fl fr)
-    c.steps_of.ensures.ok
+    c.steps_of.ensures.ok); }

@@ -29,8 +29,8 @@ loop-left-preserved c =
           (join-skip ls rs old i cur (λ k x. partner-none is_one name_laws ls rs i k l r _ there c.in_ok-left_places.ensures.ok c.in_ok-right_places.ensures.ok w.in_default.ensures x) c.loop-left.invariant)
     ]
 
-pub returns-clause-ok : goal.returns-clause-ok
-returns-clause-ok c =
+pub returns : goal.returns
+returns c = record { ok = (
     let le : c.loop-left.left ≤ length c.args.lefts.now = c.loop-left.auto.left-end in
     let same : c.loop-left.left ≡ length c.args.lefts.now = omega (arith, le, c.loop-left-test.false) in
-    subst (λ z. JoinsTo c.args.lefts.now c.args.rights.now z c.args.partners.now c.loop-left.partners) same c.loop-left.invariant
+    subst (λ z. JoinsTo c.args.lefts.now c.args.rights.now z c.args.partners.now c.loop-left.partners) same c.loop-left.invariant); }

@@ -5,5 +5,5 @@ use Rattle.yaml_script.proofs.lines.pieces_of.Goals as goal
 pub lines-preserved : goal.lines-preserved
 lines-preserved c = piece_next _ _ _ _ _ _ _ c.in_ok-push.ensures.items c.piece_of.ensures c.in-Some.ensures.steps.1.0 c.lines.invariant
 
-pub returns-clause-ok : goal.returns-clause-ok
-returns-clause-ok c = piece_all _ _ _ (nil_from_length _ c.in-None.ensures.steps.1.0) c.lines.invariant
+pub returns : goal.returns
+returns c = record { ok = (piece_all _ _ _ (nil_from_length _ c.in-None.ensures.steps.1.0) c.lines.invariant); }

@@ -12,5 +12,5 @@ chars-preserved c =
       put = line_next _ _ _ c.in-Some.c _ _ _ v.utf8 s v.put c.in_ok-put_char.ensures.ok;
     }
 
-pub returns-clause-ok : goal.returns-clause-ok
-returns-clause-ok c = line_all _ _ _ _ (nil_from_length _ c.in-None.ensures.steps.0.0) c.chars.invariant.put
+pub returns : goal.returns
+returns c = record { ok = (line_all _ _ _ _ (nil_from_length _ c.in-None.ensures.steps.0.0) c.chars.invariant.put); }

@@ -10,5 +10,5 @@ loop-place-preserved c =
       behind = change_next _ c.loop-place.place _ _ _ (omega arith) v.behind c.or_change-is_behind.ensures;
     }
 
-pub returns-clause-ok : goal.returns-clause-ok
-returns-clause-ok c = texts_all _ _ _ c.loop-place.place _ _ (omega arith) c.loop-place.invariant.put
+pub returns : goal.returns
+returns c = record { ok = (texts_all _ _ _ c.loop-place.place _ _ (omega arith) c.loop-place.invariant.put); }

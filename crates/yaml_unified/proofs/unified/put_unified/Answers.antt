@@ -12,5 +12,5 @@ hunks-preserved c =
       rights = omega (arith, v.rights, next.ensures.rights);
     }
 
-pub returns-clause-hunks : goal.returns-clause-hunks
-returns-clause-hunks c = hunks_end c.args.context c.hunks.rest.edits.now c.args.edits.now c.hunks.rest.left c.hunks.rest.right _ _ (c.in_default.ensures.none refl) c.hunks.invariant.text
+pub returns : goal.returns
+returns c = record { hunks = (hunks_end c.args.context c.hunks.rest.edits.now c.args.edits.now c.hunks.rest.left c.hunks.rest.right _ _ (c.in_default.ensures.none refl) c.hunks.invariant.text); }

@@ -20,12 +20,12 @@ loop-preserved c =
       few = omega (arith, fewer, few);
     }
 
-pub returns-clause-names : goal.returns-clause-names
-returns-clause-names c = elim c.loop-test.branch [
+pub returns : goal.returns
+returns c = record { names = (elim c.loop-test.branch [
   | else-loop-test w ↦
       let few = c.loop.invariant.few in
       absurd (omega (arith, few, w.loop-test.false, c.args.self.now.left.small, c.args.self.now.right.small))
   | then-loop-test+in_default w ↦
       let none = w.in_default.ensures.none in
       record { lefts = names_all left_of c.loop.entries.items c.loop.left.now _ none.0 c.loop.invariant.lefts; rights = names_all right_of c.loop.entries.items c.loop.right.now _ none.1 c.loop.invariant.rights }
-]
+]); }

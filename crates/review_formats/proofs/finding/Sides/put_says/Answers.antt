@@ -2,6 +2,6 @@ use Rattle.review_formats.specs.Findings.{sides_says}
 use Rattle.review_formats.proofs.PieceLaws.{two_put}
 use Rattle.review_formats.proofs.finding.Sides.put_says.Goals as goal
 
-pub returns-clause-ok : goal.returns-clause-ok
+pub returns : goal.returns
 unfolding sides_says
-returns-clause-ok c = two_put _ _ _ _ _ (rw c.says.ensures at c.in_ok-push_str.ensures.bytes) c.in_ok-put_others.ensures.ok
+returns c = record { ok = (two_put _ _ _ _ _ (rw c.says.ensures at c.in_ok-push_str.ensures.bytes) c.in_ok-put_others.ensures.ok); }
