@@ -2,7 +2,7 @@
 use Rattle.std.proofs.Common.{◌≡◌, ◌==◌, ◌&&◌, ℕ, zero, suc, ◌≤◌, Bool, true, false, cond, List, [], ◌∷◌, ◌++◌, length, map, take, refl, sym, ◌∙◌, ap, subst, arith}
 use Rattle.std.specs.Prelude.{Option, Some, None, Result, Ok, Err, String, IfOk, IfSome, option_map, is_some, codes, string_bytes}
 use Rattle.std.specs.declared.alloc.Global.{Global}
-use Rattle.yaml_text.specs.declared.fault.Fault.{Fault}
+use Rattle.std.specs.declared.alloc.AllocError.{AllocError}
 use Rattle.std.specs.List.{slice_get, flat_map}
 use Rattle.std.proofs.lemmas.Bool.{eqb-true}
 use Rattle.std.proofs.lemmas.List.{length-reverse, length-map}
@@ -168,7 +168,7 @@ group_told labels both asked moves group d seen again last l f s t z p a b c k m
 -- ---- labels
 
 -- a group has a label exactly where there are keys
-pub label_some : (both : Both) (keys : Option Keys) (k : Keys) (room shown : ℕ) (group : Group) (path : List code.Step) (r : Result (Option (String Global)) Fault) → keys ≡ Some k → IfSome keys (AreKeys both) → shown ≡ room → IfOk r (λ told. AreKeys both k → option_map string_bytes told ≡ label both shown group path)
+pub label_some : (both : Both) (keys : Option Keys) (k : Keys) (room shown : ℕ) (group : Group) (path : List code.Step) (r : Result (Option (String Global)) AllocError) → keys ≡ Some k → IfSome keys (AreKeys both) → shown ≡ room → IfOk r (λ told. AreKeys both k → option_map string_bytes told ≡ label both shown group path)
     → IfOk r (λ told. option_map string_bytes told ≡ cond (is_some keys) (label both room group path) None)
 label_some both keys k room shown group path (Ok told) e a m h =
     h (subst (λ z. IfSome z (AreKeys both)) e a) ∙ ap (λ z. label both z group path) m ∙ sym (ap (λ z. cond (is_some z) (label both room group path) None) e)

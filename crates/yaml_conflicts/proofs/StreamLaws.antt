@@ -3,7 +3,7 @@ use Rattle.std.proofs.Common.{◌≡◌, ℕ, zero, suc, ◌+◌, ◌<◌, ◌�
 use Rattle.std.specs.Prelude.{Option, Some, None, Result, Ok, Err, IfOk}
 use Rattle.std.specs.List.{slice_get}
 use Rattle.std.proofs.lemmas.Bool.{eqb-true, eq-eqb}
-use Rattle.yaml_text.specs.declared.fault.Fault.{Fault}
+use Rattle.std.specs.declared.alloc.AllocError.{AllocError}
 use Rattle.yaml_definitions.specs.model.Tree.{Tree, Trees}
 use Rattle.yaml_definitions.specs.model.Same.{same, same_trees}
 use Rattle.yaml_definitions.proofs.Members.{and_both}
@@ -103,7 +103,7 @@ module _ (g : Graph) (given : Bool) (s : Sides) where
   abbrev Here : Bool → Path → Type 0
   Here is_alone p = DocumentBreaks given is_alone p (trees_of g s.base) (trees_of g s.ours) (trees_of g s.theirs) (trees_of g s.merge)
 
-  pub alone-found : (is_alone : Bool) → is_alone ≡ true → (answer : Result Found Fault) → IfOk answer (Finds g given s) → IfOk answer (FindsDocument g given is_alone s)
+  pub alone-found : (is_alone : Bool) → is_alone ≡ true → (answer : Result Found AllocError) → IfOk answer (Finds g given s) → IfOk answer (FindsDocument g given is_alone s)
   alone-found is_alone e (Ok f) h = subst (λ z. FindsDocument g given z s f) (sym e) h
   alone-found is_alone e (Err x) h = tt
 
@@ -113,7 +113,7 @@ module _ (g : Graph) (given : Bool) (s : Sides) where
   pub document-cut : (is_alone : Bool) (f : Found) → lines_of f ≡ [] → f.whole ≡ false → FindsDocument g given is_alone s f
   document-cut is_alone f n h = none-lists g (Here is_alone) (trees_of g s.base) (trees_of g s.ours) (trees_of g s.theirs) (trees_of g s.merge) (lines_of f) f.whole n (λ w p x. true-false w h)
 
-  pub document-one : (is_alone : Bool) → is_alone ≡ false → (answer : Result Found Fault) → IfOk answer (λ f. lines_of f ≡ ([], s) ∷ []) → settled given (trees_of g s.base) (trees_of g s.ours) (trees_of g s.theirs) (trees_of g s.merge) ≡ false → IfOk answer (FindsDocument g given is_alone s)
+  pub document-one : (is_alone : Bool) → is_alone ≡ false → (answer : Result Found AllocError) → IfOk answer (λ f. lines_of f ≡ ([], s) ∷ []) → settled given (trees_of g s.base) (trees_of g s.ours) (trees_of g s.theirs) (trees_of g s.merge) ≡ false → IfOk answer (FindsDocument g given is_alone s)
   document-one is_alone e (Ok f) n h = subst (λ z. FindsDocument g given z s f) (sym e) (one-lists g (Here false) s (lines_of f) f.whole n (h, refl) (λ p x. x.1))
   document-one is_alone e (Err x) n h = tt
 

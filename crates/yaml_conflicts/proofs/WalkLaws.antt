@@ -1,7 +1,7 @@
 -- The walk of four trees, key by key.
 use Rattle.std.proofs.Common.{◌≡◌, ℕ, zero, suc, ◌+◌, ◌<◌, ◌≤◌, Bool, true, false, ◌&&◌, ◌||◌, ◌⊎◌, List, [], ◌∷◌, ◌++◌, map, reverse, length, inl, inr, refl, sym, ◌∙◌, ap, subst, arith}
 use Rattle.std.specs.Prelude.{Option, Some, None, Result, Ok, Err, IfOk}
-use Rattle.yaml_text.specs.declared.fault.Fault.{Fault}
+use Rattle.std.specs.declared.alloc.AllocError.{AllocError}
 use Rattle.std.specs.Option.{is_some}
 use Rattle.std.specs.List.{slice_get}
 use Rattle.std.proofs.lemmas.List.{reverse-append}
@@ -268,7 +268,7 @@ module _ (g : Graph) (given : Bool) (s : Sides) where
   pub cut-found : (f : Found) → lines_of f ≡ [] → f.whole ≡ false → Finds g given s f
   cut-found f e h = none-lists g IsHere base-tree our-tree their-tree merge-tree (lines_of f) f.whole e (λ w p x. true-false w h)
 
-  pub one-found : (answer : Result Found Fault) → IfOk answer (λ f. lines_of f ≡ ([], s) ∷ []) → settled given base-tree our-tree their-tree merge-tree ≡ false → opens base-tree our-tree their-tree merge-tree ≡ false → IfOk answer (Finds g given s)
+  pub one-found : (answer : Result Found AllocError) → IfOk answer (λ f. lines_of f ≡ ([], s) ∷ []) → settled given base-tree our-tree their-tree merge-tree ≡ false → opens base-tree our-tree their-tree merge-tree ≡ false → IfOk answer (Finds g given s)
   one-found (Ok f) e h n = one-lists g IsHere s (lines_of f) f.whole e (h, n) no
     where
       no : (p : Path) → IsHere p → p ≡ []
@@ -287,7 +287,7 @@ none-spends room f e w = record { cut = λ x. absurd (true-false w x); stays = �
 pub cut-spends : (room : Room) (f : Found) → f.room ≡ room → is_spent room ≡ true → Spends room f
 cut-spends room f e h = record { cut = λ x. ap is_spent e ∙ h; stays = λ x. ap is_spent e ∙ h }
 
-pub one-spends : (room : Room) (answer : Result Found Fault) → IfOk answer (λ f. f.whole ≡ true) → is_spent room ≡ false → IfOk answer (Spends room)
+pub one-spends : (room : Room) (answer : Result Found AllocError) → IfOk answer (λ f. f.whole ≡ true) → is_spent room ≡ false → IfOk answer (Spends room)
 one-spends room (Ok f) w n = spends-some room f n (λ x. absurd (true-false w x))
 one-spends room (Err x) w n = tt
 

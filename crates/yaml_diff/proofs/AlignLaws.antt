@@ -1,7 +1,7 @@
 -- Lists of places, as they grow.
 use Rattle.std.proofs.Common.{◌≡◌, ℕ, zero, suc, ◌+◌, ◌-◌, ◌<◌, ◌≤◌, ◌⊎◌, inl, inr, List, [], ◌∷◌, ◌++◌, length, get_or, refl, sym, ◌∙◌, ap, subst, arith}
 use Rattle.std.specs.Prelude.{Option, Some, None, Result, Ok, Err, OnOk}
-use Rattle.yaml_text.specs.declared.fault.Fault.{Fault}
+use Rattle.std.specs.declared.alloc.AllocError.{AllocError}
 use Rattle.std.specs.List.{slice_get}
 use Rattle.std.proofs.lemmas.List.{append_assoc}
 use Rattle.yaml_tree.specs.declared.node.NodeId.{NodeId}
@@ -105,7 +105,7 @@ from_on old mid new j k a b n m la ln lb lm x y = record {
 }
 
 -- the last items
-pub from_end : {V : Type 0} (result : Result V Fault) (old list new : List Places) (j k a b n m : ℕ) → j ≤ a → a ≤ n → k ≤ b → b ≤ m → AlignsFrom old j k a b list → OnOk result (new ≡ list ++ turns a b (n - a) (m - b)) → OnOk result (AlignsFrom old j k n m new)
+pub from_end : {V : Type 0} (result : Result V AllocError) (old list new : List Places) (j k a b n m : ℕ) → j ≤ a → a ≤ n → k ≤ b → b ≤ m → AlignsFrom old j k a b list → OnOk result (new ≡ list ++ turns a b (n - a) (m - b)) → OnOk result (AlignsFrom old j k n m new)
 from_end (Ok v) old list new j k a b n m la ln lb lm x e = from_on old list new j k a b n m la ln lb lm x (from_turns list new a b n m e)
 from_end (Err f) old list new j k a b n m la ln lb lm x e = tt
 

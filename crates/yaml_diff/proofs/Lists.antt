@@ -15,7 +15,7 @@ use Rattle.yaml_diff.specs.declared.difference.Step as code
 use Rattle.yaml_diff.specs.Lines.{trees_of, step_of, Line, way_of, under, IsTold, Listed, Apart, Ordered, Begins}
 use Rattle.yaml_diff.specs.Moves.{MoveLine, moved_under, ListsMoves}
 use Rattle.yaml_diff.specs.Listing.{Lists, ListsSome}
-use Rattle.yaml_text.specs.declared.fault.Fault.{Fault}
+use Rattle.std.specs.declared.alloc.AllocError.{AllocError}
 use Rattle.yaml_diff.specs.declared.difference.Found.{Found}
 use Rattle.yaml_diff.specs.Found.{lines_of, moves_of, Finds}
 use Rattle.yaml_diff.proofs.ListParts.{get-nth, get-side, get-map, map-get, some-is, way-under, way-back, cross}
@@ -249,6 +249,6 @@ lists-one g t u l r room lines moves w e v f m n a b = subst (λ z. Lists g (tur
     at [] d = (0, ([], (l, r)), refl, tt)
     at (s ∷ q) d = absurd (n d.0)
 
-pub one-ok : (g : Graph) (t u : Option Tree) (l r : Option NodeId) (room : ℕ) (answer : Result Found Fault) → IfOk answer (λ f. lines_of f ≡ ([], (l, r)) ∷ []) → IfOk answer (λ f. moves_of f ≡ []) → IfOk answer (λ f. f.whole ≡ true) → 0 < room → head_of t ≢ head_of u → t ≡ trees_of g l → u ≡ trees_of g r → IfOk answer (Finds g t u room)
+pub one-ok : (g : Graph) (t u : Option Tree) (l r : Option NodeId) (room : ℕ) (answer : Result Found AllocError) → IfOk answer (λ f. lines_of f ≡ ([], (l, r)) ∷ []) → IfOk answer (λ f. moves_of f ≡ []) → IfOk answer (λ f. f.whole ≡ true) → 0 < room → head_of t ≢ head_of u → t ≡ trees_of g l → u ≡ trees_of g r → IfOk answer (Finds g t u room)
 one-ok g t u l r room (Ok f) a v b m n p q = (turn t u, calm, lists-one g t u l r room (lines_of f) (moves_of f) f.whole a v b m n p q)
 one-ok g t u l r room (Err e) a v b m n p q = tt

@@ -1,7 +1,7 @@
 -- Steps that were looked at take the items of two lists for each other.
 use Rattle.std.proofs.Common.{◌≡◌, ℕ, zero, suc, ◌+◌, ◌<◌, ◌≤◌, Bool, true, false, cond, ◌⊎◌, List, [], ◌∷◌, ◌++◌, map, take, length, get_or, inl, inr, refl, sym, ◌∙◌, ap, subst, arith}
 use Rattle.std.specs.Prelude.{Option, Some, None, Result, Ok, Err, IfOk}
-use Rattle.yaml_text.specs.declared.fault.Fault.{Fault}
+use Rattle.std.specs.declared.alloc.AllocError.{AllocError}
 use Rattle.std.specs.List.{slice_get}
 use Rattle.std.proofs.lemmas.List.{take_more, take_all}
 use Rattle.yaml_path.specs.Ways.{Each, StayersRise, Rises, Settles, InOrder, Allows, at_places, left_place, right_place}
@@ -196,7 +196,7 @@ module _ (ss : Steps) (moved : List Places) (n m : ℕ) (is : moved ≡ moved_in
       distinct : (a b : ℕ) (s t : Places × Bool) → slice_get ss a ≡ Some s → slice_get ss b ≡ Some t → s.0 ≡ t.0 → a ≡ b
       distinct a b s t e f q = taken-once (places_in ss) n m a b s.0 left-each right-each (map-get place_of ss a s e) (map-get place_of ss b t f ∙ ap Some (sym q))
 
-pub looked : (ss : Steps) (moved : List Places) (n m : ℕ) (answer : Result Bool Fault) → EachOf (map left_of ss) n → Rising (map right_of ss) → Rising (map stayer_of ss) → (moved ≡ []) ⊎ Falls (map pair_of ss) → IfOk answer (λ yes. yes ≡ true → EachOf (map right_of ss) m) → IfOk answer (λ yes. yes ≡ true → IsRight ss moved n m)
+pub looked : (ss : Steps) (moved : List Places) (n m : ℕ) (answer : Result Bool AllocError) → EachOf (map left_of ss) n → Rising (map right_of ss) → Rising (map stayer_of ss) → (moved ≡ []) ⊎ Falls (map pair_of ss) → IfOk answer (λ yes. yes ≡ true → EachOf (map right_of ss) m) → IfOk answer (λ yes. yes ≡ true → IsRight ss moved n m)
 looked ss moved n m (Ok b) l o r c e = λ t. record { left = l; right = e t; order = o; rise = r; crosses = c }
 looked ss moved n m (Err f) l o r c e = tt
 

@@ -10,7 +10,7 @@ use Rattle.std.proofs.lemmas.Option.{slice_get_within}
 use Rattle.yaml_definitions.specs.model.Tree.{Tree}
 use Rattle.yaml_definitions.specs.model.Same.{same}
 use Rattle.yaml_definitions.proofs.Equivalence.{same_refl, same_sym, same_trans}
-use Rattle.yaml_text.specs.declared.fault.Fault.{Fault}
+use Rattle.std.specs.declared.alloc.AllocError.{AllocError}
 use Rattle.yaml_graph.specs.GraphModel.{Entries, entries_of, items_of, node_tree, kind_tree}
 use Rattle.yaml_graph.specs.GraphView.{nodes_of, graph_trees, tree}
 use Rattle.yaml_tree.specs.declared.node.NodeId.{NodeId}
@@ -198,7 +198,7 @@ items-found g i j room lefts rights f hl hr h m =
     tag-is : {a b : List ℕ} → plain.sequence_head a ≡ plain.sequence_head b → a ≡ b
     tag-is e = cc
 
-pub ok-items : (g : Graph) (i j room : ℕ) (lefts rights : List NodeId) (answer : Result Found Fault) → HasItems g i lefts → HasItems g j rights → head (tree g i) ≡ head (tree g j) → IfOk answer (FindsItems g lefts rights room) → IfOk answer (Finds g (Some (tree g i)) (Some (tree g j)) room)
+pub ok-items : (g : Graph) (i j room : ℕ) (lefts rights : List NodeId) (answer : Result Found AllocError) → HasItems g i lefts → HasItems g j rights → head (tree g i) ≡ head (tree g j) → IfOk answer (FindsItems g lefts rights room) → IfOk answer (Finds g (Some (tree g i)) (Some (tree g j)) room)
 ok-items g i j room lefts rights (Ok f) hl hr h m = items-found g i j room lefts rights f hl hr h m
 ok-items g i j room lefts rights (Err e) hl hr h m = tt
 
