@@ -6,9 +6,9 @@ use Rattle.yaml_text.specs.declared.counted.Counted.{Counted}
 use Rattle.review_patterns.specs.declared.pattern.Pattern.{Pattern}
 use Rattle.review_text.specs.declared.options.Diff.{Diff}
 use Rattle.review_text.specs.declared.options.Page.{Page}
-use Rattle.review_folders.specs.Pages.{FolderShows}
-use Rattle.review_folders.specs.Printed.{FolderPrints}
-use Rattle.review_folders.specs.declared.entry.Entry.{Entry}
+use Rattle.review_reports.specs.FolderPages.{FolderShows}
+use Rattle.review_reports.specs.Printed.{FolderPrints}
+use Rattle.review_reports.specs.declared.entry.Entry.{Entry}
 use Rattle.review_command.specs.Commands.{unknown, FoldersEnd}
 
 module _ {W E : Type 0} (contents : W → Option (List ℕ)) (told : E → Option (List ℕ)) where

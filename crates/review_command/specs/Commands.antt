@@ -15,9 +15,9 @@ use Rattle.review_text.specs.declared.options.Diff.{Diff}
 use Rattle.review_text.specs.declared.options.Page.{Page}
 use Rattle.review_files.specs.Lines.{TakesLine, bare_line}
 use Rattle.review_files.specs.Statuses.{fault_status}
-use Rattle.review_folders.specs.Pages.{FolderShows}
-use Rattle.review_folders.specs.Printed.{FolderPrints}
-use Rattle.review_folders.specs.declared.entry.Entry.{Entry}
+use Rattle.review_reports.specs.FolderPages.{FolderShows}
+use Rattle.review_reports.specs.Printed.{FolderPrints}
+use Rattle.review_reports.specs.declared.entry.Entry.{Entry}
 use Rattle.review_command.specs.Runs.{Does}
 
 -- ---- words that ask for no command

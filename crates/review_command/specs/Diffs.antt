@@ -7,7 +7,7 @@ use Rattle.review_patterns.specs.declared.pattern.Pattern.{Pattern}
 use Rattle.review_text.specs.declared.options.Diff.{Diff}
 use Rattle.review_text.specs.declared.options.Page.{Page}
 use Rattle.review_formats.specs.declared.finding.Part.{Part}
-use Rattle.review_folders.specs.Parts.{ListsAll, ShowsLines, IsPartsText}
+use Rattle.review_reports.specs.Parts.{ListsAll, ShowsLines, IsPartsText}
 use Rattle.review_lines.specs.declared.listed.Listed.{Listed}
 use Rattle.review_compare.specs.Compared.{DiffLines, DiffLists}
 use Rattle.review_files.specs.Named.{AreNamed}

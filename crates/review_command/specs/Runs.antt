@@ -30,7 +30,7 @@ use Rattle.review_reports.specs.Pages.{TellsPage}
 use Rattle.review_reports.specs.Reports.{TellsFiles}
 use Rattle.review_reports.specs.declared.reports.Kind.{Kind}
 use Rattle.review_reports.specs.declared.reports.Kind.TheVariants.{Faults, Warnings}
-use Rattle.review_show.specs.Files.{ShowsFiles}
+use Rattle.review_git.specs.ShownFiles.{ShowsFiles}
 
 -- how a list is checked
 pub record AsksRules (asked : Sum) (rules : Rules) : Type 0 where

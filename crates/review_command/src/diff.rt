@@ -11,7 +11,7 @@ use review_compare::{compare_sides, list_sides};
 use review_files::files::{NotBoth, read_both};
 use review_files::rejected::{Named, put_not_compared, put_rejections};
 use review_files::unread::Unread;
-use review_folders::{lines_shown, list_found, parts_text};
+use review_reports::{lines_shown, list_found, parts_text};
 use review_formats::Part;
 use review_lines::Listed;
 use review_patterns::Pattern;

@@ -8,7 +8,7 @@ use Rattle.yaml_text.proofs.UnreadLaws.{no_stream}
 use Rattle.yaml_text.specs.Refused.{RefusesText}
 use Rattle.yaml_text.specs.declared.fault.Fault.{Fault}
 use Rattle.yaml_text.specs.declared.fault.Fault.TheVariants as faults
-use Rattle.yaml_place.specs.declared.place.Place.{Place}
+use Rattle.yaml_path.specs.declared.place.Place.{Place}
 use Rattle.yaml_read.specs.Decided.{HasNoReading}
 use Rattle.review_faults.specs.Again.{CannotRead, CannotTell}
 use Rattle.review_faults.specs.EventPlaces.{IsPlaceAt}

@@ -7,8 +7,8 @@ use Rattle.std.proofs.lemmas.List.{append_assoc, append-nil}
 use Rattle.std.proofs.lemmas.List.Concat.{flat_map-cons}
 use Rattle.std.proofs.lemmas.List.Elements.{All-append}
 use Rattle.yaml_definitions.specs.model.Event.{Event}
-use Rattle.yaml_place.specs.LineModel.{IsPlace}
-use Rattle.yaml_place.specs.declared.place.Place.{Place}
+use Rattle.yaml_path.specs.LineModel.{IsPlace}
+use Rattle.yaml_path.specs.declared.place.Place.{Place}
 use Rattle.review_faults.specs.EventSpots.{path_at}
 use Rattle.review_faults.specs.Heads.{head}
 use Rattle.review_faults.specs.NoJson.{HasPath, IsOfText, BeginsSomewhere, AddsPieces, TellsLacks, unknown}

@@ -4,7 +4,7 @@ use Rattle.std.specs.Prelude.{Option, Some, None, Result, Ok, Err, IfSome, IfOk,
 use Rattle.std.specs.Str.{IsUtf8}
 use Rattle.std.specs.declared.alloc.Global.{Global}
 use Rattle.yaml_text.specs.declared.fault.Fault.{Fault}
-use Rattle.yaml_place.specs.declared.place.Place.{Place}
+use Rattle.yaml_path.specs.declared.place.Place.{Place}
 use Rattle.review_hints.specs.Hinted.{is_line, limit_of, HoldsLimit, IsHint}
 use Rattle.review_hints.specs.declared.words.Words.{Words}
 use Rattle.review_places.specs.declared.trace.Shape.{Shape}

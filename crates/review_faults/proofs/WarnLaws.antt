@@ -8,8 +8,8 @@ use Rattle.std.proofs.lemmas.Option.{slice_get_within, get_or_from_slice_get}
 use Rattle.yaml_definitions.specs.model.Event.{Event}
 use Rattle.yaml_text.specs.EventModel.{event_of}
 use Rattle.yaml_text.specs.declared.event.Event as code
-use Rattle.yaml_place.specs.LineModel.{IsPlace}
-use Rattle.yaml_place.specs.declared.place.Place.{Place}
+use Rattle.yaml_path.specs.LineModel.{IsPlace}
+use Rattle.yaml_path.specs.declared.place.Place.{Place}
 use Rattle.review_places.specs.Trails.{frames_after, frames_of}
 use Rattle.review_places.specs.declared.trail.Frame.{Frame}
 use Rattle.review_places.proofs.TrailLaws.{frames_next}

@@ -2,8 +2,8 @@
 use Rattle.std.specs.Prelude.{◌≡◌, ◌⊎◌, ◌<◌, ◌≤◌, ◌*◌, ◌^◌, ℕ, List, length, Option, Some, None, option_map, slice_get}
 use Rattle.yaml_text.specs.declared.fault.Fault.{Fault}
 use Rattle.yaml_text.specs.declared.fault.Fault.TheVariants as faults
-use Rattle.yaml_place.specs.LineModel.{IsPlace}
-use Rattle.yaml_place.specs.declared.place.Place.{Place}
+use Rattle.yaml_path.specs.LineModel.{IsPlace}
+use Rattle.yaml_path.specs.declared.place.Place.{Place}
 use Rattle.review_places.specs.Layout.{IsLayout, root_events, part_event}
 use Rattle.review_places.specs.Trace.{IsTagAt}
 use Rattle.review_places.specs.declared.layout.Layout.{Layout}

@@ -7,7 +7,7 @@ use Rattle.yaml_definitions.specs.model.Event.{Event, stream_start, stream_end, 
 use Rattle.yaml_definitions.specs.model.Text.{mark_len}
 use Rattle.yaml_text.specs.declared.fault.Fault.{Fault}
 use Rattle.yaml_text.specs.declared.fault.Fault.TheVariants as faults
-use Rattle.yaml_place.specs.declared.place.Place.{Place}
+use Rattle.yaml_path.specs.declared.place.Place.{Place}
 use Rattle.review_places.specs.Trace.{TraceHolds, shapes_in}
 use Rattle.review_places.specs.Trails.{frames_of, path_text}
 use Rattle.review_places.specs.declared.trace.Trace.{Trace}

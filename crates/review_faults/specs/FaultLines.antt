@@ -5,7 +5,7 @@ use Rattle.yaml_definitions.specs.model.Text.{mark_len}
 use Rattle.yaml_text.specs.Fault.{fault_number, fault_name}
 use Rattle.yaml_text.specs.declared.fault.Fault.{Fault}
 use Rattle.yaml_text.specs.declared.fault.Fault.TheVariants as faults
-use Rattle.yaml_place.specs.declared.place.Place.{Place}
+use Rattle.yaml_path.specs.declared.place.Place.{Place}
 use Rattle.review_text.specs.declared.options.Form.{Form}
 use Rattle.review_text.specs.declared.options.Form.TheVariants as form
 use Rattle.review_text.specs.Objects.{count_data, text_data, said_data, object_line}

@@ -1,7 +1,7 @@
 -- What comes before a message of a file.
 use Rattle.std.specs.Prelude.{ℕ, List, [], ◌++◌, Option, Some, None, codes}
 use Rattle.std.specs.Fmt.{decimal}
-use Rattle.yaml_place.specs.declared.place.Place.{Place}
+use Rattle.yaml_path.specs.declared.place.Place.{Place}
 use Rattle.review_text.specs.Terminal.{terminal}
 
 -- the line and the column, if there are

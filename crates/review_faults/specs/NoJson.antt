@@ -2,8 +2,8 @@
 use Rattle.std.specs.Prelude.{◌≡◌, ◌≤◌, ◌++◌, ℕ, Bool, cond, List, [], length, Option, None, IfSome, codes, string_bytes}
 use Rattle.std.specs.List.{All, flat_map}
 use Rattle.yaml_definitions.specs.model.Event.{Event}
-use Rattle.yaml_place.specs.LineModel.{IsPlace}
-use Rattle.yaml_place.specs.declared.place.Place.{Place}
+use Rattle.yaml_path.specs.LineModel.{IsPlace}
+use Rattle.yaml_path.specs.declared.place.Place.{Place}
 use Rattle.review_faults.specs.EventSpots.{path_at}
 use Rattle.review_faults.specs.Heads.{head}
 use Rattle.review_faults.specs.declared.no_json.Lacking.{Lacking}

@@ -2,7 +2,7 @@
 use Rattle.std.specs.Prelude.{◌≡◌, ℕ, List, [], ◌++◌, Option, Some, None, IsSomeAnd, option_map, codes, string_bytes}
 use Rattle.std.specs.Fmt.{decimal}
 use Rattle.yaml_text.specs.declared.fault.Fault.{Fault}
-use Rattle.yaml_place.specs.declared.place.Place.{Place}
+use Rattle.yaml_path.specs.declared.place.Place.{Place}
 use Rattle.review_text.specs.Hidden.{visible}
 use Rattle.review_text.specs.Window.{ShowsLine}
 use Rattle.review_faults.specs.Explained.{second_place, shown_place, shown_point}

@@ -6,7 +6,7 @@ use Rattle.std.specs.declared.cmp.Ordering.{Ordering}
 use Rattle.yaml_definitions.specs.model.Event.{Event, sequence_start, mapping_start, scalar_event}
 use Rattle.yaml_definitions.specs.model.Text.{mark_len}
 use Rattle.yaml_definitions.specs.grammar.Reading.{Reads}
-use Rattle.yaml_place.specs.LineModel.{IsPlace}
+use Rattle.yaml_path.specs.LineModel.{IsPlace}
 use Rattle.review_text.specs.Forms.{more_text}
 use Rattle.review_text.specs.declared.options.Form.{Form}
 use Rattle.review_text.specs.declared.options.Form.TheVariants as form

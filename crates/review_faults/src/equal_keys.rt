@@ -8,7 +8,7 @@ ghost use Rattle.review_faults.specs.Says.{label_text};
 use crate::cause::{is_name_byte, put_label};
 use crate::label::{Label, node_of};
 use std::alloc::{AllocError, Global};
-use yaml_place::Place;
+use yaml_path::Place;
 use yaml_text::event::Event;
 
 /// Writes a scalar or a name between backticks, of 60 bytes at most.

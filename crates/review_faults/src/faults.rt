@@ -13,7 +13,7 @@ use review_text::json::{Said, put_object, text_of};
 use review_text::options::Form;
 use review_text::put_visible;
 use std::alloc::{AllocError, Global};
-use yaml_place::Place;
+use yaml_path::Place;
 use yaml_text::fault::Fault;
 
 /// Writes a line and a column, if there are.

@@ -21,7 +21,7 @@ use review_text::put_visible;
 use std::alloc::{AllocError, Global};
 use std::collections::BTreeMap;
 use yaml_core::scalar::resolve;
-use yaml_place::Place;
+use yaml_path::Place;
 use yaml_read::read_events;
 use yaml_text::chars::Chars;
 use yaml_text::core_tag;

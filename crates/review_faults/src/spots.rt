@@ -18,7 +18,7 @@ use review_places::trace::{Trace, trace_of};
 use review_places::trail::Trail;
 use review_text::tag_words::put_tag_words;
 use std::alloc::{AllocError, Global};
-use yaml_place::{Place, place_at};
+use yaml_path::{Place, place_at};
 use yaml_read::read_events;
 use yaml_text::chars::Chars;
 use yaml_text::event::Event;

@@ -9,7 +9,7 @@ use review_places::places::unmarked;
 use review_text::fronts::put_source_line;
 use review_text::put_visible;
 use std::alloc::{AllocError, Global};
-use yaml_place::Place;
+use yaml_path::Place;
 use yaml_text::fault::Fault;
 
 /// Where a fault is and what is said of it.

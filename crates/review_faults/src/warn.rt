@@ -1,7 +1,7 @@
 //! What other tools read otherwise in a file.
 ghost use Rattle.std.specs.Prelude.{◌≡◌, ◌≤◌, ◌++◌, flat_map, length, map, option_map, IfOk, IfErr, OnOk, string_bytes};
 ghost use Rattle.yaml_text.specs.EventModel.{event_of};
-ghost use Rattle.yaml_place.specs.LineModel.{IsPlace};
+ghost use Rattle.yaml_path.specs.LineModel.{IsPlace};
 ghost use Rattle.review_faults.specs.Again.{CannotRead};
 ghost use Rattle.review_faults.specs.Causes.{cause_rule};
 ghost use Rattle.review_faults.specs.Labels.{label_of, whole};
@@ -19,7 +19,7 @@ use review_text::json::{Said, put_object};
 use review_text::options::Form;
 use review_text::text::{CUT, front};
 use std::alloc::{AllocError, Global};
-use yaml_place::{Place, place_after, place_at};
+use yaml_path::{Place, place_after, place_at};
 use yaml_read::read_events;
 use yaml_text::chars::Chars;
 use yaml_text::event::Event;

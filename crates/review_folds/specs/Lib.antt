@@ -1,3 +1,5 @@
 pub mod Folds
+pub mod Ignored
+pub mod Labels
 pub mod Lists
 pub mod Moves

@@ -13,7 +13,7 @@ use Rattle.percent_encoding.specs.AsciiSet.{contains, should_percent_encode}
 use Rattle.serde_json.specs.Data.{Data, Members, member, no_members, array}
 use Rattle.serde_json.specs.View.{items_of}
 use Rattle.serde_json.specs.Written.{has_float, items_have_float, members_have_float}
-use Rattle.yaml_place.specs.declared.place.Place.{Place}
+use Rattle.yaml_path.specs.declared.place.Place.{Place}
 use Rattle.review_formats.specs.Findings.{left_out_of}
 use Rattle.review_formats.specs.LeftOut.{is_none}
 use Rattle.review_formats.specs.declared.finding.Finding.{Finding}

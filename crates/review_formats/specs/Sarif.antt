@@ -6,7 +6,7 @@ use Rattle.percent_encoding.specs.Percent.{percent_encode_byte}
 use Rattle.serde_json.specs.Data.{Data, Members, boolean, number, unsigned, string, array, object, item, no_items, member, no_members}
 use Rattle.serde_json.specs.View.{items_of}
 use Rattle.serde_json.specs.Written.{compact_text}
-use Rattle.yaml_place.specs.declared.place.Place.{Place}
+use Rattle.yaml_path.specs.declared.place.Place.{Place}
 use Rattle.review_formats.specs.Findings.{left_out_of}
 use Rattle.review_formats.specs.LeftOut.{is_none, left_out_text}
 use Rattle.review_formats.specs.declared.finding.Finding.{Finding}

@@ -4,7 +4,7 @@ ghost use Rattle.review_formats.specs.Findings.{sign_word, sign_mark, sign_says,
 
 use crate::left_out::LeftOut;
 use std::alloc::AllocError;
-use yaml_place::Place;
+use yaml_path::Place;
 
 /// How much something that is found matters.
 #[derive(Clone, Copy, Debug, PartialEq, Eq)]

@@ -10,7 +10,7 @@ use crate::escape::Escape;
 use crate::finding::{Finding, Findings, Level, Part};
 use crate::piece::{Piece, put_pieces};
 use std::alloc::{AllocError, Global};
-use yaml_place::Place;
+use yaml_path::Place;
 
 /// The command of a level.
 fn command_of(level: Level) -> &'static str

@@ -12,7 +12,7 @@ use crate::escape::Escape;
 use crate::finding::{Finding, Findings, Part, Sides};
 use crate::piece::{Piece, put_pieces};
 use std::alloc::{AllocError, Global};
-use yaml_place::Place;
+use yaml_path::Place;
 
 /// A text in the table.
 fn text(text: &str) -> Piece<'_>

@@ -3,8 +3,8 @@ use Rattle.std.specs.Prelude.{bytes_eq}
 use Rattle.std.proofs.Common.{◌≡◌, ◌++◌, ℕ, false, List, Option, Some, inr, refl, sym, ◌∙◌, ap, append_assoc}
 use Rattle.std.proofs.lemmas.Bool.{true≢false}
 use Rattle.std.proofs.lemmas.Slice.Eq.{bytes_eq-Decides}
-use Rattle.yaml_script.specs.Script.{IsScript}
-use Rattle.yaml_script.specs.declared.script.Edit.{Edit}
+use Rattle.yaml_unified.specs.Script.{IsScript}
+use Rattle.yaml_unified.specs.declared.script.Edit.{Edit}
 use Rattle.yaml_unified.specs.Unified.{PutsHunks}
 use Rattle.review_git.specs.Shown.{IsShownFile, side_lines, TellsChanges, TellsShown}
 

@@ -1,13 +1,13 @@
 -- What is printed of two files if lines of what `show` writes are asked for.
 use Rattle.std.specs.Prelude.{◌≡◌, ◌⊎◌, ℕ, List, [], ◌++◌, Option, Some, None, codes}
 use Rattle.yaml_text.specs.declared.fault.Fault.{Fault}
-use Rattle.yaml_script.specs.Script.{IsScript}
-use Rattle.yaml_script.specs.declared.script.Edit.{Edit}
+use Rattle.yaml_unified.specs.Script.{IsScript}
+use Rattle.yaml_unified.specs.declared.script.Edit.{Edit}
 use Rattle.yaml_unified.specs.Unified.{AreHunks}
-use Rattle.yaml_shown.specs.Refused.{ShowRefuses}
-use Rattle.yaml_shown.specs.Shows.{Shows}
+use Rattle.yaml_show.specs.Refused.{ShowRefuses}
+use Rattle.yaml_show.specs.Shows.{Shows}
 use Rattle.review_text.specs.Terminal.{terminal}
-use Rattle.review_show.specs.Unshown.{TellsRejected}
+use Rattle.review_git.specs.Unshown.{TellsRejected}
 
 -- What `show` writes of a file, of which nothing is printed yet; or it is rejected, and it is told why.
 abbrev pub IsShownFile : List ℕ → List ℕ → Option (List ℕ) → List ℕ → Type 0

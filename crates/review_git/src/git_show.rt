@@ -2,11 +2,11 @@
 ghost use Rattle.std.specs.Prelude.{◌≡◌, ◌++◌, ℕ, List, Some, IfOk, IfErr, OnOk, option_map, codes, string_bytes};
 ghost use Rattle.review_git.specs.Shown.{IsShownFile, side_lines, TellsChanges, TellsShown};
 
-use review_show::put_unshown;
+use crate::put_unshown;
 use review_text::put_shown;
 use std::alloc::Global;
-use yaml_script::script_of;
-use yaml_shown::{Unshown, show};
+use yaml_unified::script_of;
+use yaml_show::{Unshown, show};
 use yaml_text::fault::Fault;
 use yaml_unified::put_unified;
 
@@ -14,7 +14,7 @@ use yaml_unified::put_unified;
 const CONTEXT: usize = 3;
 
 /// What `show` writes of a file; none if it is rejected, and then it is written why.
-#[tactic(auto, using(review_show::proofs::MemoryLaws::shown_memory))]
+#[tactic(auto, using(crate::proofs::MemoryLaws::shown_memory))]
 fn shown_of(alloc: Global, out: &mut String, file: (&str, &[u8])) -> Result<Option<String>, Fault>
     ensures ok { IfOk result (λ shown. (text : List ℕ) × (string_bytes out.new ≡ string_bytes out.old ++ text) × IsShownFile file.entry.0.now file.entry.1.now (option_map string_bytes shown) text) }
     ensures err { IfErr result (λ fault. fault ≡ Fault.OutOfMemory) }

@@ -5,7 +5,7 @@ use Rattle.std.specs.List.{list_all, starts_with}
 use Rattle.yaml_definitions.specs.model.Limits.{text_limit, open_limit, height_limit, key_limit, int_bits, exponent_limit}
 use Rattle.yaml_text.specs.declared.fault.Fault.{Fault}
 use Rattle.yaml_text.specs.declared.fault.Fault.TheVariants as faults
-use Rattle.yaml_place.specs.LineModel.{IsPlace}
+use Rattle.yaml_path.specs.LineModel.{IsPlace}
 
 -- ---- how they look
 

@@ -1,6 +1,6 @@
 //! What a syntax fault commonly is, by the text around its place.
 ghost use Rattle.std.specs.Prelude.{◌≡◌, ◌≤◌, ℕ, List, true, length, IfOk, IfErr, string_bytes};
-ghost use Rattle.yaml_place.specs.LineModel.{IsPlace};
+ghost use Rattle.yaml_path.specs.LineModel.{IsPlace};
 ghost use Rattle.review_hints.specs.Hinted.{is_line, name_of, IsHint};
 ghost use Rattle.review_hints.specs.Hints.{IsScanned, IsTrue};
 
@@ -11,7 +11,7 @@ use crate::scan::Opened;
 use crate::spot::Spot;
 use crate::words::Words;
 use std::alloc::Global;
-use yaml_place::{Place, place_at};
+use yaml_path::{Place, place_at};
 use yaml_text::fault::Fault;
 
 /// The words of a hint.

@@ -2,7 +2,7 @@
 use Rattle.std.specs.Prelude.{ℕ, List, [], ◌∷◌, ◌++◌, Option, Some, None, String, codes, string_bytes}
 use Rattle.std.specs.declared.alloc.Global.{Global}
 use Rattle.std.specs.Fmt.{decimal}
-use Rattle.yaml_place.specs.declared.place.Place.{Place}
+use Rattle.yaml_path.specs.declared.place.Place.{Place}
 use Rattle.review_formats.specs.Escaped.{escaped}
 use Rattle.review_formats.specs.Findings.{sign_word, sign_mark}
 use Rattle.review_formats.specs.declared.escape.Escape.TheVariants.{Html}

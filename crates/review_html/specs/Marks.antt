@@ -1,7 +1,7 @@
 -- Which lines of a file are shown, and to which finding each leads.
 use Rattle.std.specs.Prelude.{◌≡◌, ◌==◌, ◌&&◌, ◌||◌, ◌<◌, ℕ, ◌+◌, ◌-◌, Bool, false, cond, nat_lt, nat_le, List, [], ◌∷◌, length, get_or, slice_range, Option, Some, None}
 use Rattle.std.specs.List.{list_any}
-use Rattle.yaml_place.specs.declared.place.Place.{Place}
+use Rattle.yaml_path.specs.declared.place.Place.{Place}
 use Rattle.review_formats.specs.declared.finding.Finding.{Finding}
 use Rattle.review_formats.specs.declared.finding.Sides.{Sides}
 use Rattle.review_html.specs.Texts.{number_after}

@@ -3,7 +3,7 @@ use Rattle.std.specs.Prelude.{ℕ, zero, suc, ◌==◌, true, false, cond, List,
 use Rattle.std.specs.declared.alloc.Global.{Global}
 use Rattle.std.specs.List.{flat_map}
 use Rattle.std.specs.Fmt.{decimal}
-use Rattle.yaml_place.specs.declared.place.Place.{Place}
+use Rattle.yaml_path.specs.declared.place.Place.{Place}
 use Rattle.review_formats.specs.Changes.{without_tab, changed_lines}
 use Rattle.review_formats.specs.Escaped.{escaped}
 use Rattle.review_formats.specs.Findings.{sides_says}

@@ -9,7 +9,7 @@ use review_formats::escape::Escape;
 use review_formats::piece::{Piece, put_pieces};
 use review_formats::{Finding, Level};
 use std::alloc::AllocError;
-use yaml_place::Place;
+use yaml_path::Place;
 
 /// A text of a file.
 pub(crate) fn text(text: &str) -> Piece<'_>

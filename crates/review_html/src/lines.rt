@@ -13,7 +13,7 @@ use review_formats::changes::without_end;
 use review_formats::piece::{Piece, put_pieces};
 use review_formats::{Finding, Part, Shown};
 use std::alloc::{AllocError, Global};
-use yaml_place::Place;
+use yaml_path::Place;
 
 /// Of a file of so many lines, all are shown.
 const FEW: usize = 400;

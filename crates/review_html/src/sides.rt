@@ -10,7 +10,7 @@ use review_formats::changes::{without_end, without_tab};
 use review_formats::piece::{Piece, put_pieces};
 use review_formats::{Finding, Sides, Sign};
 use std::alloc::AllocError;
-use yaml_place::Place;
+use yaml_path::Place;
 
 /// Writes a place that is known, as a link to its line.
 fn put_known(out: &mut String, side: Side, place: Place) -> Result<(), AllocError>

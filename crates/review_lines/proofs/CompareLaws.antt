@@ -18,8 +18,8 @@ use Rattle.review_folds.specs.declared.moves.Group.{Group}
 use Rattle.std.proofs.lemmas.List.{take_more, take_all}
 use Rattle.yaml_graph.specs.declared.graph.Graph.{Graph}
 use Rattle.review_patterns.specs.declared.pattern.Pattern.{Pattern}
-use Rattle.review_ignore.specs.Ignored.{covers_all, Keeps}
-use Rattle.review_ignore.proofs.KeptLaws.{outside_none, moves_none}
+use Rattle.review_folds.specs.Ignored.{covers_all, Keeps}
+use Rattle.review_folds.proofs.KeptLaws.{outside_none, moves_none}
 use Rattle.review_folds.specs.Folds.{Folds}
 use Rattle.review_lines.specs.Searched.{least_room, search_room}
 use Rattle.review_lines.specs.Compared.{is_line, is_plain, with_lines, left_out_of, TellsOne, TellsEach, TellsDifferences, TellsGroup, TellsGroups, TellsMoves, TellsFound, TellsAsked}

@@ -11,8 +11,8 @@ use Rattle.yaml_diff.specs.declared.difference.Move.{Move}
 use Rattle.review_text.specs.declared.options.Diff.{Diff}
 use Rattle.review_folds.specs.Moves.{Groups}
 use Rattle.review_folds.specs.declared.moves.Group.{Group}
-use Rattle.review_labels.specs.Labels.{label, AreKeys}
-use Rattle.review_labels.specs.declared.keys.Keys.{Keys}
+use Rattle.review_folds.specs.Labels.{label, AreKeys}
+use Rattle.review_folds.specs.declared.keys.Keys.{Keys}
 use Rattle.review_text.specs.declared.both.Both.{Both}
 use Rattle.yaml_graph.specs.declared.graph.Graph.{Graph}
 use Rattle.yaml_path.specs.Ways.{Way}

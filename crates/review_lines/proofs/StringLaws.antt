@@ -18,9 +18,9 @@ use Rattle.review_text.specs.Shown.{front}
 use Rattle.review_lines.specs.Lines.{Text}
 use Rattle.review_lines.specs.Compared.{TellsMembers, room_of, is_numbered, path_as, IsScalar, SameTexts, SameFronts, ShowsNode, ShowsBoth, ShowsApart, TellsApart, IsAscii, are_alike, ShowsParts, ShowsScript, ShowsChanges, TellsOne, part_text}
 use Rattle.review_lines.specs.declared.lines.Line.{Line}
-use Rattle.yaml_script.specs.Script.{IsScript}
-use Rattle.yaml_script.specs.Printed.{script_text}
-use Rattle.yaml_script.specs.declared.script.Edit.{Edit}
+use Rattle.yaml_unified.specs.Script.{IsScript}
+use Rattle.yaml_unified.specs.Printed.{script_text}
+use Rattle.yaml_unified.specs.declared.script.Edit.{Edit}
 use Rattle.yaml_diff.specs.Lines.{way_of}
 use Rattle.review_text.specs.declared.options.Diff.{Diff}
 use Rattle.review_text.specs.declared.both.Both.{Both}

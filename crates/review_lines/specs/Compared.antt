@@ -17,19 +17,19 @@ use Rattle.yaml_diff.specs.declared.difference.Step.TheVariants.{Item}
 use Rattle.yaml_diff.specs.declared.difference.Move.{Move}
 use Rattle.yaml_diff.specs.declared.difference.Difference.{Difference}
 use Rattle.yaml_diff.specs.declared.difference.Found.{Found}
-use Rattle.yaml_script.specs.Script.{IsScript}
-use Rattle.yaml_script.specs.Printed.{script_text}
-use Rattle.yaml_script.specs.declared.script.Edit.{Edit}
+use Rattle.yaml_unified.specs.Script.{IsScript}
+use Rattle.yaml_unified.specs.Printed.{script_text}
+use Rattle.yaml_unified.specs.declared.script.Edit.{Edit}
 use Rattle.review_text.specs.declared.options.Diff.{Diff}
 use Rattle.review_text.specs.declared.options.Form.{Form}
 use Rattle.review_text.specs.declared.options.Form.TheVariants as form
 use Rattle.review_patterns.specs.declared.pattern.Pattern.{Pattern}
-use Rattle.review_ignore.specs.Ignored.{Keeps}
+use Rattle.review_folds.specs.Ignored.{Keeps}
 use Rattle.review_folds.specs.Folds.{Folds}
 use Rattle.review_formats.specs.declared.left_out.LeftOut.{LeftOut}
 use Rattle.review_folds.specs.Moves.{Groups}
 use Rattle.review_folds.specs.declared.moves.Group.{Group}
-use Rattle.review_labels.specs.Labels.{label}
+use Rattle.review_folds.specs.Labels.{label}
 use Rattle.review_text.specs.Alike.{looks_alike}
 use Rattle.review_text.specs.Hidden.{ascii}
 use Rattle.review_text.specs.Shown.{front, shown}
@@ -39,8 +39,8 @@ use Rattle.review_paths.specs.Pasted.{pasted}
 use Rattle.review_text.specs.declared.options.Paths.{Paths}
 use Rattle.review_text.specs.declared.options.Paths.TheVariants.{Plain, Jq, JsonPointer}
 use Rattle.review_text.specs.declared.both.Both.{Both}
-use Rattle.review_values.specs.Members.{SaysMembers}
-use Rattle.review_values.specs.declared.members.Members.{Members}
+use Rattle.review_paths.specs.Members.{SaysMembers}
+use Rattle.review_paths.specs.declared.members.Members.{Members}
 use Rattle.review_lines.specs.Lines.{Text, lines_text, rest_text}
 use Rattle.review_lines.specs.Searched.{Searches}
 use Rattle.review_lines.specs.Stat.{stat_text}

@@ -2,15 +2,15 @@
 use Rattle.std.specs.Prelude.{ℕ, zero, suc, Bool, cond, List, [], ◌∷◌, ◌++◌, Option, Some, None, option_map, unwrap_or, String, codes, string_bytes}
 use Rattle.std.specs.declared.alloc.Global.{Global}
 use Rattle.std.specs.Fmt.{decimal}
-use Rattle.yaml_place.specs.declared.place.Place.{Place}
+use Rattle.yaml_path.specs.declared.place.Place.{Place}
 use Rattle.review_text.specs.declared.options.Form.{Form}
 use Rattle.review_text.specs.declared.options.Form.TheVariants as form
 use Rattle.review_text.specs.declared.options.Diff.{Diff}
 use Rattle.review_formats.specs.LeftOut.{is_none, between_text}
 use Rattle.review_formats.specs.declared.left_out.LeftOut.{LeftOut}
 use Rattle.review_text.specs.Hidden.{visible, json_visible}
-use Rattle.review_values.specs.Json.{text_json, place_json, raw_text}
-use Rattle.review_values.specs.declared.members.Members.{Members}
+use Rattle.review_paths.specs.Json.{text_json, place_json, raw_text}
+use Rattle.review_paths.specs.declared.members.Members.{Members}
 use Rattle.review_lines.specs.Stat.{whole_text}
 use Rattle.review_lines.specs.declared.lines.Changes.{Changes}
 use Rattle.review_lines.specs.declared.lines.Line.{Line}

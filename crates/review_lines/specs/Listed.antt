@@ -3,7 +3,7 @@ use Rattle.std.specs.Prelude.{◌≡◌, ◌==◌, ◌&&◌, ◌-◌, ℕ, false
 use Rattle.yaml_diff.specs.declared.difference.Found.{Found}
 use Rattle.review_text.specs.declared.options.Diff.{Diff}
 use Rattle.review_patterns.specs.declared.pattern.Pattern.{Pattern}
-use Rattle.review_ignore.specs.Ignored.{Keeps}
+use Rattle.review_folds.specs.Ignored.{Keeps}
 use Rattle.review_text.specs.declared.both.Both.{Both}
 use Rattle.review_lines.specs.Searched.{Searches}
 use Rattle.review_lines.specs.Compared.{left_out_of, TellsDifferences, TellsMoves}

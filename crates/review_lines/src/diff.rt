@@ -17,7 +17,7 @@ use crate::stat::stat_text;
 use crate::strings::{Budget, changed_lines, differing_parts};
 use review_folds::counts;
 use review_formats::LeftOut;
-use review_ignore::kept;
+use review_folds::kept;
 use review_paths::pasted;
 use review_patterns::Pattern;
 use review_places::trace::Traced;
@@ -26,10 +26,10 @@ use review_text::both::Both;
 use review_text::options::{Diff, Form, Paths};
 use review_text::path::path_text;
 use review_text::text::{CUT, WHOLE, node_text};
-use review_values::{Members, members_of};
+use review_paths::{Members, members_of};
 use std::alloc::{AllocError, Global};
 use yaml_diff::{Difference, Found};
-use yaml_place::Place;
+use yaml_path::Place;
 use yaml_tree::node::NodeId;
 
 /// The text of a node, if there is one.

@@ -8,10 +8,10 @@ use review_formats::LeftOut;
 use review_text::json::text_of;
 use review_text::options::{Diff, Form};
 use review_text::{put_json, put_visible};
-use review_values::Members;
-use review_values::writing::{put_place_json, put_raw, put_text};
+use review_paths::Members;
+use review_paths::writing::{put_place_json, put_raw, put_text};
 use std::alloc::{AllocError, Global};
-use yaml_place::Place;
+use yaml_path::Place;
 
 /// The changed lines of two scalars of one tag.
 #[derive(Drop)]

@@ -10,7 +10,7 @@ use crate::lines::Line;
 use crate::moved::lines_of_moves;
 use crate::search::{lists_none, searched};
 use review_formats::LeftOut;
-use review_ignore::kept;
+use review_folds::kept;
 use review_patterns::Pattern;
 use review_places::trace::Traced;
 use review_text::both::Both;

@@ -3,7 +3,7 @@ ghost use Rattle.std.specs.Prelude.{◌≡◌, ◌++◌, ◌-◌, length, None, 
 ghost use Rattle.std.specs.List.{sum_by};
 ghost use Rattle.yaml_rank.specs.RanksView.{RanksAre};
 ghost use Rattle.yaml_diff.specs.Lines.{way_of};
-ghost use Rattle.review_labels.specs.Labels.{label, AreKeys};
+ghost use Rattle.review_folds.specs.Labels.{label, AreKeys};
 ghost use Rattle.review_lines.specs.Compared.{is_numbered, room_of, path_as, is_plain, list_path, last_of, range_of, before_text, range_path, group_text, IsFirst, TellsGroup, TellsGroups, TellsMoves};
 
 use crate::diff::{is_numbered, members_in, room_of};
@@ -11,8 +11,8 @@ use crate::lines::Line;
 use crate::nodes::{find_places, place_at};
 use crate::strings::Budget;
 use review_folds::{Group, groups};
-use review_ignore::item_path;
-use review_labels::{Keys, label_of};
+use review_folds::item_path;
+use review_folds::{Keys, label_of};
 use review_paths::pasted;
 use review_places::trace::Traced;
 use review_text::both::Both;
@@ -21,7 +21,7 @@ use review_text::path::path_text;
 use std::alloc::{AllocError, Global};
 use yaml_diff::{Difference, Found, Move, Step};
 use yaml_path::places::Places;
-use yaml_place::Place;
+use yaml_path::Place;
 
 /// Whether paths are as the pages show them, with the places of both sides.
 fn is_plain(paths: Paths) -> bool

@@ -10,7 +10,7 @@ use review_text::both::Both;
 use std::alloc::{AllocError, Global};
 use std::collections::BTreeSet;
 use yaml_diff::Difference;
-use yaml_place::Place;
+use yaml_path::Place;
 
 /// The places of the nodes of each difference, where they are told, and what each has as its cause, where that is known.
 #[derive(Drop)]

@@ -3,7 +3,7 @@ ghost use Rattle.std.specs.Prelude.{◌≡◌, ◌==◌, ◌++◌, ◌≤◌, []
 ghost use Rattle.yaml_scalar.specs.Spelling.{quoted_bytes};
 ghost use Rattle.yaml_definitions.specs.model.Tree.{scalar};
 ghost use Rattle.yaml_graph.specs.GraphView.{tree};
-ghost use Rattle.yaml_script.specs.Printed.{script_text};
+ghost use Rattle.yaml_unified.specs.Printed.{script_text};
 ghost use Rattle.review_text.specs.Shown.{front};
 ghost use Rattle.review_lines.specs.Compared.{IsScalar, part_text, ShowsParts, ShowsChanges};
 
@@ -11,11 +11,11 @@ use crate::lines::Changes;
 use review_text::both::Both;
 use review_text::options::Diff;
 use review_text::text::{front, put_spelled};
-use review_values::Room;
+use review_paths::Room;
 use std::alloc::{AllocError, Global};
 use yaml_diff::Difference;
 use yaml_graph::node::NodeKind;
-use yaml_script::{Edit, put_script, script_of};
+use yaml_unified::{Edit, put_script, script_of};
 use yaml_tree::node::NodeId;
 
 /// How many bytes before the first difference are shown.

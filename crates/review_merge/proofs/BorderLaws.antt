@@ -4,7 +4,7 @@ use Rattle.std.specs.Prelude.{slice_index}
 use Rattle.std.specs.Str.{IsCharBoundary}
 use Rattle.std.proofs.lemmas.Bool.{cond_both, cases_lt}
 use Rattle.std.proofs.lemmas.Bool.Decides.{nat_tests}
-use Rattle.yaml_place.specs.LineModel.{starts_char}
+use Rattle.yaml_path.specs.LineModel.{starts_char}
 use Rattle.review_text.specs.Shown.{is_border, last_border}
 
 border_true : (k n b : ℕ) → cond (nat_lt k n) (starts_char b) (k == n) ≡ true → (k ≤ n) × (k < n → 128 ≤ b → 192 ≤ b)

@@ -3,7 +3,7 @@ use Rattle.std.proofs.Common.{◌≡◌, ℕ, ◌==◌, Bool, true, false, cond,
 use Rattle.std.specs.Prelude.{Option, Some, None, Result, Ok, Err, IfOk}
 use Rattle.std.proofs.lemmas.Bool.{eqb-true}
 use Rattle.yaml_text.specs.declared.fault.Fault.{Fault}
-use Rattle.yaml_merge.proofs.RuleLaws.{not-true}
+use Rattle.yaml_conflicts.proofs.RuleLaws.{not-true}
 use Rattle.std.specs.List.{slice_get}
 use Rattle.yaml_definitions.specs.model.Tree.{Tree, Trees}
 use Rattle.yaml_definitions.specs.model.Same.{keyed_trees}
@@ -12,8 +12,8 @@ use Rattle.yaml_tree.specs.declared.node.NodeId.{NodeId}
 use Rattle.yaml_graph.specs.declared.graph.Graph.{Graph}
 use Rattle.yaml_diff.specs.Lines.{tree_of}
 use Rattle.yaml_diff.specs.Found.{AllWithin}
-use Rattle.yaml_merge.specs.Streams.{stream, StreamBreaks}
-use Rattle.yaml_merge.proofs.StreamLaws.{stream-exists}
+use Rattle.yaml_conflicts.specs.MergedStreams.{stream, StreamBreaks}
+use Rattle.yaml_conflicts.proofs.MergedLaws.{stream-exists}
 use Rattle.yaml_conflicts.specs.Found.{line_of, path_of, Lists}
 use Rattle.yaml_conflicts.specs.Streams.{documents, RootsWithin, FindsDocuments, FindsOutcome, FindsStreams}
 use Rattle.yaml_conflicts.specs.declared.sides.Conflict.{Conflict}

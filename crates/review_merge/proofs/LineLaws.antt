@@ -11,7 +11,7 @@ use Rattle.std.specs.declared.alloc.Global.{Global}
 use Rattle.std.proofs.lemmas.Option.{slice_get-map}
 use Rattle.std.specs.Borrow.{Bor}
 use Rattle.yaml_tree.specs.declared.node.NodeId.{NodeId}
-use Rattle.yaml_place.specs.declared.place.Place.{Place}
+use Rattle.yaml_path.specs.declared.place.Place.{Place}
 use Rattle.yaml_diff.specs.declared.difference.Step.{Step}
 use Rattle.yaml_conflicts.specs.declared.sides.Conflict.{Conflict}
 use Rattle.review_text.specs.declared.both.Both.{Both}

@@ -19,7 +19,7 @@ use Rattle.std.proofs.lemmas.List.Elements.{All-contains, Contains-push, Contain
 use Rattle.std.proofs.lemmas.List.Sorted.{Contains-permutation}
 use Rattle.std.proofs.lemmas.Option.{slice_get_within}
 use Rattle.yaml_tree.specs.declared.node.NodeId.{NodeId}
-use Rattle.yaml_place.specs.declared.place.Place.{Place}
+use Rattle.yaml_path.specs.declared.place.Place.{Place}
 use Rattle.yaml_diff.specs.declared.difference.Step.{Step}
 use Rattle.review_text.specs.declared.both.Both.{Both}
 use Rattle.review_places.specs.Layout.{offsets_of, node_numbers, node_told, IsLayout}

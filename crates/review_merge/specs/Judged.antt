@@ -5,7 +5,7 @@ use Rattle.yaml_tree.specs.TreeLists.{trees}
 use Rattle.yaml_graph.specs.GraphView.{roots_of}
 use Rattle.yaml_tree.specs.declared.node.NodeId.{NodeId}
 use Rattle.yaml_path.specs.Path.{Path}
-use Rattle.yaml_merge.specs.Streams.{StreamBreaks}
+use Rattle.yaml_conflicts.specs.MergedStreams.{StreamBreaks}
 use Rattle.yaml_conflicts.specs.declared.streams.Roots.{Roots}
 use Rattle.yaml_conflicts.specs.declared.streams.Outcome.{Outcome}
 use Rattle.yaml_conflicts.specs.declared.streams.Outcome.TheVariants.{Documents, Streams}

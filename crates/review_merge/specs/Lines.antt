@@ -4,7 +4,7 @@ use Rattle.std.specs.Option.{option_map}
 use Rattle.std.specs.List.{slice_get, flat_map, enumerate_from}
 use Rattle.std.specs.Fmt.{decimal}
 use Rattle.yaml_tree.specs.declared.node.NodeId.{NodeId}
-use Rattle.yaml_place.specs.declared.place.Place.{Place}
+use Rattle.yaml_path.specs.declared.place.Place.{Place}
 use Rattle.yaml_path.specs.declared.places.Places.TheVariants.{Both as Twice}
 use Rattle.yaml_diff.specs.Lines.{way_of}
 use Rattle.yaml_diff.specs.declared.difference.Step.{Step}

@@ -7,7 +7,7 @@ use Rattle.yaml_definitions.specs.model.Means.{Means}
 use Rattle.yaml_text.specs.declared.counted.Counted.{Counted}
 use Rattle.yaml_text.specs.Writers.{Printed}
 use Rattle.yaml_tree.specs.TreeLists.{trees}
-use Rattle.yaml_merge.specs.Streams.{IsStreamMerge}
+use Rattle.yaml_conflicts.specs.MergedStreams.{IsStreamMerge}
 use Rattle.review_files.specs.Named.{ReadsNamed}
 use Rattle.review_files.specs.Statuses.{fault_status}
 use Rattle.yaml_conflicts.specs.Streams.{FindsStreams}

@@ -8,8 +8,8 @@ use Rattle.yaml_definitions.specs.model.Limits.{open_limit}
 use Rattle.yaml_definitions.specs.grammar.Nodes.{wide}
 use Rattle.yaml_definitions.specs.grammar.Streams.{ReadsText}
 use Rattle.yaml_tree.specs.declared.node.NodeId.{NodeId}
-use Rattle.yaml_place.specs.LineModel.{IsPlace}
-use Rattle.yaml_place.specs.declared.place.Place.{Place}
+use Rattle.yaml_path.specs.LineModel.{IsPlace}
+use Rattle.yaml_path.specs.declared.place.Place.{Place}
 use Rattle.yaml_diff.specs.declared.difference.Step.{Step}
 use Rattle.review_text.specs.declared.both.Both.{Both}
 use Rattle.review_places.specs.Layout.{offsets_of, IsLayout}

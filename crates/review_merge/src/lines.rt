@@ -4,7 +4,7 @@ ghost use Rattle.std.specs.Option.{is_some, option_map};
 ghost use Rattle.std.specs.List.{slice_get, enumerate_from};
 ghost use Rattle.yaml_rank.specs.RanksView.{RanksAre};
 ghost use Rattle.yaml_diff.specs.Lines.{way_of};
-ghost use Rattle.yaml_place.specs.declared.place.Place.{Place};
+ghost use Rattle.yaml_path.specs.declared.place.Place.{Place};
 ghost use Rattle.review_text.specs.PathText.{path_text};
 ghost use Rattle.review_merge.specs.declared.told.Seats.{Seats};
 ghost use Rattle.review_merge.specs.Parts.{values_in, ShowsValues, budget};
@@ -22,7 +22,7 @@ use std::alloc::{AllocError, Global};
 use yaml_conflicts::{Conflict, Outcome, Roots, Step};
 use yaml_diff::Step as Shown;
 use yaml_path::places::Places;
-use yaml_place::Place;
+use yaml_path::Place;
 use yaml_text::fault::Fault;
 use yaml_tree::node::NodeId;
 

@@ -1,7 +1,7 @@
 //! The places of the nodes of one side.
 ghost use Rattle.std.specs.List.Sorted.{IsNonDecreasingBy};
 
-use yaml_place::Place;
+use yaml_path::Place;
 
 /// The places of the nodes of one side, each with the number of its conflict, which rise.
 #[derive(Drop)]

@@ -1,5 +1,8 @@
-mod KeyLaws
 mod HighLaws
+mod KeyLaws
+mod LeadLaws
 mod PasteLaws
 mod SideLaws
-mod LeadLaws
+mod StepLaws
+mod UnsaidLaws
+mod ValueLaws

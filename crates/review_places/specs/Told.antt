@@ -1,8 +1,8 @@
 -- The places that are told of offsets.
 use Rattle.std.specs.Prelude.{◌≡◌, ◌≤◌, ℕ, List, length}
 use Rattle.std.specs.List.{Contains}
-use Rattle.yaml_place.specs.LineModel.{IsPlace}
-use Rattle.yaml_place.specs.declared.place.Place.{Place}
+use Rattle.yaml_path.specs.LineModel.{IsPlace}
+use Rattle.yaml_path.specs.declared.place.Place.{Place}
 
 -- The number is that of one of these offsets, and the place is that offset's, where the text has it.
 pub record IsTold (text : List ℕ) (offsets : List (ℕ × ℕ)) (told : ℕ × Place) : Type 0 where

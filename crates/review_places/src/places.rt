@@ -3,11 +3,11 @@ ghost use Rattle.std.specs.Prelude.{◌≡◌, ◌≤◌, drop, map, length, IfO
 ghost use Rattle.std.specs.List.{All};
 ghost use Rattle.std.specs.List.Sorted.{IsPermutation, IsNonDecreasingBy};
 ghost use Rattle.yaml_definitions.specs.model.Text.{mark_len};
-ghost use Rattle.yaml_place.specs.LineModel.{IsPlace};
+ghost use Rattle.yaml_path.specs.LineModel.{IsPlace};
 ghost use Rattle.review_places.specs.Told.{IsTold};
 
 use std::alloc::{AllocError, Global};
-use yaml_place::{Place, place_after, place_at};
+use yaml_path::{Place, place_after, place_at};
 
 /// The bytes of the byte order mark (YAML 1.2.2, 5.2), which has no column.
 const MARK: [u8; 3] = [0xEF, 0xBB, 0xBF];

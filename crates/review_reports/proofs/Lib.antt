@@ -1,5 +1,9 @@
 mod DifferenceLaws
+mod LineLaws
+mod NameLaws
 mod PageLaws
+mod PartLaws
 mod ReportLaws
+mod StatusLaws
 mod TextLaws
 mod WarningLaws

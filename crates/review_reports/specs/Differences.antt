@@ -6,7 +6,7 @@ use Rattle.review_formats.specs.declared.finding.Level.TheVariants as levels
 use Rattle.review_formats.specs.declared.finding.Sides.{Sides}
 use Rattle.review_formats.specs.declared.finding.Sign.{Sign}
 use Rattle.review_formats.specs.declared.finding.Sign.TheVariants.{Changed, Left, Right, Moved}
-use Rattle.yaml_place.specs.declared.place.Place.{Place}
+use Rattle.yaml_path.specs.declared.place.Place.{Place}
 use Rattle.review_lines.specs.declared.lines.Line.{Line}
 use Rattle.review_text.specs.Hidden.{visible}
 

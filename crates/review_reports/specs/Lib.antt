@@ -1,4 +1,9 @@
 pub mod Differences
+pub mod FolderPages
+pub mod Folders
+pub mod Names
 pub mod Pages
+pub mod Parts
+pub mod Printed
 pub mod Reports
 pub mod Texts

@@ -13,7 +13,7 @@ use review_lines::lines::Line;
 use review_text::put_visible;
 use review_text::text::{CUT, front, put_all};
 use std::alloc::{AllocError, Global};
-use yaml_place::Place;
+use yaml_path::Place;
 use yaml_text::fault::Fault;
 
 /// A text with escapes for the characters that would not be seen.

@@ -1,6 +1,19 @@
-//! The commands `faults` and `warn`, and what is found as a page, a table, a log or annotations.
+//! The commands `faults` and `warn`, and `diff` of two folders: what is found as lines, a page, a table, a log or annotations.
 #![tactic(auto)]
 
+mod entry;
 pub mod findings;
+mod folder_lines;
+mod folder_names;
+mod folder_page;
+mod host;
 pub mod pages;
+mod parts;
 pub mod reports;
+
+pub use entry::{Entry, Has};
+pub use folder_lines::folder_lines;
+pub use folder_names::{are_folders, names_of};
+pub use folder_page::folder_page;
+pub use host::Host;
+pub use parts::{lines_shown, list_found, parts_text};

@@ -6,7 +6,7 @@ use Rattle.std.specs.Ordering.{match_ordering}
 use Rattle.std.proofs.Math.ListN.{drop_of_length-le}
 use Rattle.serde_json.specs.Data.{Data, Members, member, no_members, put, object}
 use Rattle.serde_json.specs.Written.{has_float, members_have_float, compact_text}
-use Rattle.yaml_place.specs.declared.place.Place.{Place}
+use Rattle.yaml_path.specs.declared.place.Place.{Place}
 use Rattle.review_text.specs.Hidden.{json_visible}
 use Rattle.review_text.specs.Objects.{text_data, place_data, said_data, with_members, object_line}
 use Rattle.review_text.specs.declared.json.Said.{Said}

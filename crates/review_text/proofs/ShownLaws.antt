@@ -7,7 +7,7 @@ use Rattle.std.proofs.lemmas.Bool.Decides.{nat_tests}
 use Rattle.std.proofs.lemmas.List.{take-take, get_or-take, length-take, length-take-le, take-append-drop}
 use Rattle.std.proofs.lemmas.Str.{IsUtf8-take, IsUtf8-drop}
 use Rattle.std.proofs.lemmas.List.{take_all}
-use Rattle.yaml_place.specs.LineModel.{starts_char}
+use Rattle.yaml_path.specs.LineModel.{starts_char}
 use Rattle.review_text.specs.Shown.{is_border, last_border, front, shown, IsLongFront}
 use Rattle.review_text.specs.Fills.{Fills}
 use Rattle.review_text.proofs.NodeLaws.{Alike}

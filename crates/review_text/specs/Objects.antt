@@ -2,7 +2,7 @@
 use Rattle.std.specs.Prelude.{ℕ, List, [], ◌∷◌, ◌++◌, Option, Some, None, option_map, codes}
 use Rattle.serde_json.specs.Data.{Data, null, number, unsigned, string, object, Members, member, no_members, put}
 use Rattle.serde_json.specs.Written.{compact_text}
-use Rattle.yaml_place.specs.declared.place.Place.{Place}
+use Rattle.yaml_path.specs.declared.place.Place.{Place}
 use Rattle.review_text.specs.Hidden.{json_visible}
 use Rattle.review_text.specs.declared.json.Said.{Said}
 use Rattle.review_text.specs.declared.json.Said.TheVariants as said

@@ -1,7 +1,7 @@
 -- What is shown of a text for which there may be too little room.
 use Rattle.std.specs.Prelude.{◌≡◌, ◌⊎◌, ◌≤◌, ℕ, zero, suc, Bool, ◌==◌, cond, nat_lt, nat_le, take, List, ◌++◌, length, slice_index, codes}
 use Rattle.std.specs.Str.{IsUtf8}
-use Rattle.yaml_place.specs.LineModel.{starts_char}
+use Rattle.yaml_path.specs.LineModel.{starts_char}
 
 -- a character starts at this byte, or the text ends there
 abbrev pub is_border : List ℕ → ℕ → Bool

@@ -4,7 +4,7 @@ use Rattle.std.specs.List.{flat_map}
 use Rattle.std.specs.Str.{chars}
 use Rattle.std.specs.Str.Lossy.{utf8_lossy}
 use Rattle.unicode_width.specs.Width.{char_width}
-use Rattle.yaml_place.specs.LineModel.{IsLine}
+use Rattle.yaml_path.specs.LineModel.{IsLine}
 use Rattle.review_text.specs.Terminal.{terminal_char, terminal}
 
 -- how many bytes of a line are shown whole on either side of the offset, and of how many there may be a part

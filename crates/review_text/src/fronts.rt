@@ -5,7 +5,7 @@ ghost use Rattle.review_text.specs.Window.{spaces, below, margin, IsPartFrom, Is
 
 use std::alloc::{AllocError, Global};
 use unicode_width::UnicodeWidthChar;
-use yaml_place::source_line;
+use yaml_path::source_line;
 
 /// How many characters of a line are shown on either side of the place.
 const SIDE: usize = 80;

@@ -7,7 +7,7 @@ ghost use Rattle.review_text.specs.Objects.{place_data, said_data, with_members,
 use crate::hidden::put_json;
 use serde_json::{Map, Value, put};
 use std::alloc::{AllocError, Global};
-use yaml_place::Place;
+use yaml_path::Place;
 
 /// What an object says of something, or `null`.
 #[derive(Clone, Copy)]

@@ -1,7 +1,7 @@
 //! The values of streams, each written as a line.
 use std::process::Abort;
 use std::test::Fail;
-use yaml_stream_values::{Value, Values, values};
+use yaml_values::{Value, Values, values};
 
 /// The numbers from one place up to another, each after a space.
 fn numbers<T: Abort + AllocGlobal>(rt: &T, parts: &[u32]) -> Result<String, Fail> {

@@ -1,6 +1,6 @@
 //! Lines of a text, and long texts.
 use std::test::Fail;
-use yaml_script::{pieces_of, put_script, script_of};
+use yaml_unified::{pieces_of, put_script, script_of};
 
 /// How many lines a long text has.
 const LINES: usize = 5_000;

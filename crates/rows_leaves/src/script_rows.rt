@@ -1,7 +1,7 @@
 //! How a test case is judged.
 use std::process::Abort;
 use std::test::Fail;
-use yaml_script::{put_script, script_of};
+use yaml_unified::{put_script, script_of};
 
 /// Two texts, and the changes from the left one to the right one as they are printed.
 pub struct Row {

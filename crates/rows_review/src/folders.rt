@@ -1,5 +1,5 @@
 //! Two folders of which a file is not there any more when it is opened.
-use review_folders::{Entry, Has, folder_page};
+use review_reports::{Entry, Has, folder_page};
 use review_text::options::{Diff, Form, Page, Paths};
 use std::io;
 use std::test::Fail;

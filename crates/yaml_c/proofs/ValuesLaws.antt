@@ -7,7 +7,7 @@ use Rattle.yaml_definitions.specs.model.Order.{arranged}
 use Rattle.yaml_values.specs.declared.value.Value.{Value}
 use Rattle.yaml_values.specs.declared.making.Values.{Values}
 use Rattle.yaml_values.specs.Denotes.{Denotes}
-use Rattle.yaml_stream_values.specs.ValuesOf.{AreValues}
+use Rattle.yaml_values.specs.ValuesOf.{AreValues}
 use Rattle.yaml_c.specs.declared.values.Lengths.{Lengths}
 use Rattle.yaml_c.specs.Values.{lengths_of, IsAtFront, AreAtFront}
 

@@ -2,8 +2,8 @@
 use Rattle.std.specs.Prelude.{◌≡◌, ◌≤◌, ◌⊎◌, ℕ, List, Option, Some, None, true, length, drop}
 use Rattle.yaml_definitions.specs.model.Text.{mark_len}
 use Rattle.yaml_text.specs.declared.fault.Fault.{Fault}
-use Rattle.yaml_place.specs.LineModel.{IsPlace}
-use Rattle.yaml_place.specs.declared.place.Place.{Place}
+use Rattle.yaml_path.specs.LineModel.{IsPlace}
+use Rattle.yaml_path.specs.declared.place.Place.{Place}
 use Rattle.review_faults.specs.Again.{HasNoEvents}
 use Rattle.review_faults.specs.FaultLines.{names_event, IsStop}
 use Rattle.yaml_c.specs.Numbers.{fault_in}

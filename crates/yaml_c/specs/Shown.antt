@@ -1,9 +1,9 @@
 -- The readable texts of a stream, in the room that a caller gives for them.
 use Rattle.std.specs.Prelude.{◌≡◌, ◌⊎◌, ℕ, List}
-use Rattle.yaml_shown.specs.Alike.{MeanAlike}
-use Rattle.yaml_shown.specs.Lines.{LinesOf}
-use Rattle.yaml_shown.specs.Refused.{ShowRefuses, LinesRefuse}
-use Rattle.yaml_shown.specs.Shows.{Shows}
+use Rattle.yaml_show.specs.Alike.{MeanAlike}
+use Rattle.yaml_show.specs.Lines.{LinesOf}
+use Rattle.yaml_show.specs.Refused.{ShowRefuses, LinesRefuse}
+use Rattle.yaml_show.specs.Shows.{Shows}
 use Rattle.yaml_c.specs.declared.fault.YamlcanonFault.{YamlcanonFault}
 use Rattle.yaml_c.specs.Answers.{Gives, Lacks, Refuses}
 

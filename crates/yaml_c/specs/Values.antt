@@ -9,7 +9,7 @@ use Rattle.yaml_canon.specs.Claims.{CanonicalRefuses}
 use Rattle.yaml_values.specs.declared.value.Value.{Value}
 use Rattle.yaml_values.specs.declared.making.Values.{Values}
 use Rattle.yaml_values.specs.Denotes.{Denotes}
-use Rattle.yaml_stream_values.specs.ValuesOf.{AreValuesOf}
+use Rattle.yaml_values.specs.ValuesOf.{AreValuesOf}
 use Rattle.yaml_c.specs.declared.values.Lengths.{Lengths}
 use Rattle.yaml_c.specs.declared.fault.YamlcanonFault.{YamlcanonFault}
 use Rattle.yaml_c.specs.Told.{told}

@@ -8,7 +8,7 @@ use crate::numbers::fault_in;
 use crate::status::{DONE, NO_MEMORY, REFUSED};
 use review_faults::{fault_place, no_json_place};
 use std::alloc::Global;
-use yaml_place::Place;
+use yaml_path::Place;
 use yaml_text::fault::Fault;
 
 /// The place of a fault of an input, if it has one there.

@@ -3,8 +3,8 @@ ghost use Rattle.std.specs.Prelude.{◌≡◌, ◌⊎◌, List};
 ghost use Rattle.yaml_definitions.specs.model.Tree.{Tree};
 ghost use Rattle.yaml_definitions.specs.model.Proper.{Admitted};
 ghost use Rattle.yaml_definitions.specs.model.Means.{Means};
-ghost use Rattle.yaml_shown.specs.Refused.{JsonRefuses};
-ghost use Rattle.yaml_shown.specs.declared.unshown.Unshown.TheVariants.{NoJson, Unlike};
+ghost use Rattle.yaml_show.specs.Refused.{JsonRefuses};
+ghost use Rattle.yaml_show.specs.declared.unshown.Unshown.TheVariants.{NoJson, Unlike};
 ghost use Rattle.yaml_c.specs.Shown.{GivesShown, ShortShown, RefusesShown, IsLengthOrMemoryNumber};
 ghost use Rattle.yaml_c.specs.Shown.{GivesJson, ShortJson, RefusesJson, WritesNothing};
 
@@ -13,7 +13,7 @@ use crate::room::put_text;
 use crate::status::{NO_JSON, UNLIKE};
 use std::alloc::Global;
 use yaml_canon::Side;
-use yaml_shown::{Unshown, show, show_json};
+use yaml_show::{Unshown, show, show_json};
 
 /// Puts the stream that these bytes are, as readable YAML that means the same, at the start of `out`, and its length into `len`.
 ///

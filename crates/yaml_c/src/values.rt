@@ -10,7 +10,7 @@ use crate::fault::{YamlcanonFault, refuse};
 use crate::status::{DONE, SHORT};
 use std::alloc::Global;
 use yaml_canon::Side;
-use yaml_stream_values::{Value, Values, values};
+use yaml_values::{Value, Values, values};
 
 /// How many values, parts and bytes of texts there are, and how many of the first parts are documents.
 #[repr(C)]

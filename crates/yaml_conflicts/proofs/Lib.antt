@@ -1,4 +1,8 @@
-pub mod NodeLaws
+pub mod ExistLaws
 pub mod KeyLaws
-pub mod WalkLaws
+pub mod MergedLaws
+pub mod NodeLaws
+pub mod RuleLaws
+pub mod ShownLaws
 pub mod StreamLaws
+pub mod WalkLaws

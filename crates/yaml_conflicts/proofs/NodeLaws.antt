@@ -19,7 +19,7 @@ use Rattle.yaml_path.specs.Path.{Step, at_key, part}
 use Rattle.yaml_diff.specs.Lines.{trees_of}
 use Rattle.yaml_diff.specs.Found.{IsValueOf}
 use Rattle.yaml_diff.proofs.Shapes.{item-only, entry-within, value-ranked}
-use Rattle.yaml_merge.specs.Merge.{one_shape}
+use Rattle.yaml_conflicts.specs.Merge.{one_shape}
 use Rattle.yaml_conflicts.specs.Found.{IsBelow, is_mapping}
 
 -- ---- shapes

@@ -15,10 +15,10 @@ use Rattle.yaml_path.specs.Ways.{count_in}
 use Rattle.yaml_diff.specs.Lines.{tree_of, trees_of}
 use Rattle.yaml_diff.specs.Found.{Within, AllWithin}
 use Rattle.yaml_diff.proofs.Shapes.{item-there}
-use Rattle.yaml_merge.specs.Merge.{alike, settled}
-use Rattle.yaml_merge.specs.Streams.{stream, are_paired, DocumentBreaks, StreamBreaks}
-use Rattle.yaml_merge.proofs.RuleLaws.{true-false, not-true}
-use Rattle.yaml_merge.proofs.StreamLaws.{like-count, like-at, all-like}
+use Rattle.yaml_conflicts.specs.Merge.{alike, settled}
+use Rattle.yaml_conflicts.specs.MergedStreams.{stream, are_paired, DocumentBreaks, StreamBreaks}
+use Rattle.yaml_conflicts.proofs.RuleLaws.{true-false, not-true}
+use Rattle.yaml_conflicts.proofs.MergedLaws.{like-count, like-at, all-like}
 use Rattle.yaml_conflicts.specs.declared.sides.Step.TheVariants.{Document}
 use Rattle.yaml_conflicts.specs.declared.sides.Sides.{Sides}
 use Rattle.yaml_conflicts.specs.declared.sides.Found.{Found}

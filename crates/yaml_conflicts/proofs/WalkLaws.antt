@@ -18,8 +18,8 @@ use Rattle.yaml_diff.specs.Lines.{tree_of, trees_of}
 use Rattle.yaml_diff.specs.Found.{Within, size}
 use Rattle.yaml_diff.proofs.ListParts.{get-side, get-nth, get-map, map-get, map-end}
 use Rattle.yaml_diff.proofs.WayLaws.{part-like}
-use Rattle.yaml_merge.specs.Merge.{settled, opens, one_shape, Breaks}
-use Rattle.yaml_merge.proofs.RuleLaws.{true-false, opens-three}
+use Rattle.yaml_conflicts.specs.Merge.{settled, opens, one_shape, Breaks}
+use Rattle.yaml_conflicts.proofs.RuleLaws.{true-false, opens-three}
 use Rattle.yaml_conflicts.specs.declared.sides.Step as code
 use Rattle.yaml_conflicts.specs.declared.sides.Step.TheVariants.{Value}
 use Rattle.yaml_conflicts.specs.declared.sides.Sides.{Sides}

@@ -9,7 +9,7 @@ use Rattle.yaml_graph.specs.declared.graph.Graph.{Graph}
 use Rattle.yaml_path.specs.Path.{Step, Path, AlikePath, at_item, at_key, reach, part_of}
 use Rattle.yaml_diff.specs.Lines.{tree_of, trees_of}
 use Rattle.yaml_diff.specs.Found.{Within}
-use Rattle.yaml_merge.specs.Merge.{Breaks}
+use Rattle.yaml_conflicts.specs.Merge.{Breaks}
 use Rattle.yaml_conflicts.specs.declared.sides.Step as code
 use Rattle.yaml_conflicts.specs.declared.sides.Step.TheVariants.{Document, Value}
 use Rattle.yaml_conflicts.specs.declared.sides.Sides.{Sides}

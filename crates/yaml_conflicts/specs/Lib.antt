@@ -1,4 +1,7 @@
-pub mod Rooms
 pub mod Found
 pub mod Keys
+pub mod Laws
+pub mod Merge
+pub mod MergedStreams
+pub mod Rooms
 pub mod Streams

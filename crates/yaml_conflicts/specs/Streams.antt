@@ -7,7 +7,7 @@ use Rattle.yaml_tree.specs.declared.node.NodeId.{NodeId}
 use Rattle.yaml_graph.specs.declared.graph.Graph.{Graph}
 use Rattle.yaml_diff.specs.Lines.{tree_of, trees_of}
 use Rattle.yaml_diff.specs.Found.{AllWithin}
-use Rattle.yaml_merge.specs.Streams.{stream, DocumentBreaks, StreamBreaks}
+use Rattle.yaml_conflicts.specs.MergedStreams.{stream, DocumentBreaks, StreamBreaks}
 use Rattle.yaml_conflicts.specs.declared.sides.Sides.{Sides}
 use Rattle.yaml_conflicts.specs.declared.sides.Found.{Found}
 use Rattle.yaml_conflicts.specs.declared.streams.Roots.{Roots}

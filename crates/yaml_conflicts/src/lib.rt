@@ -1,7 +1,9 @@
-//! Where two changes of a tree conflict, and where a merge of them is not what it should be: the paths of which `Breaks` and `StreamBreaks` (`yaml_merge`) speak.
+//! What the merge of two changes of a tree is, where they conflict, and where a third tree is not their merge: the paths of which `Breaks`
+//! and `StreamBreaks` speak.
 #![tactic(auto)]
 
 mod keys;
+pub mod laws;
 mod lists;
 mod rules;
 mod shapes;

@@ -1,7 +1,7 @@
 //! What the rules say of one place.
 ghost use Rattle.std.specs.Prelude.{◌≡◌};
 ghost use Rattle.yaml_rank.specs.RanksView.{RanksAre};
-ghost use Rattle.yaml_merge.specs.Merge.{alike, follows, is_ruled, settled};
+ghost use Rattle.yaml_conflicts.specs.Merge.{alike, follows, is_ruled, settled};
 ghost use Rattle.yaml_diff.specs.Lines.{trees_of};
 ghost use Rattle.yaml_diff.specs.Found.{Within};
 ghost use Rattle.yaml_conflicts.specs.Found.{SidesWithin};

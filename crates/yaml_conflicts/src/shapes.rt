@@ -1,7 +1,7 @@
 //! Whether nodes are of one shape.
 ghost use Rattle.std.specs.Prelude.{◌≡◌, ◌<◌, ◌&&◌, length, Some};
 ghost use Rattle.yaml_graph.specs.GraphView.{nodes_of, tree};
-ghost use Rattle.yaml_merge.specs.Merge.{one_shape, opens};
+ghost use Rattle.yaml_conflicts.specs.Merge.{one_shape, opens};
 ghost use Rattle.yaml_diff.specs.Lines.{trees_of};
 ghost use Rattle.yaml_diff.specs.Found.{Within};
 ghost use Rattle.yaml_conflicts.specs.Found.{SidesWithin, is_mapping};

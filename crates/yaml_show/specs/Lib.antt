@@ -1,6 +1,10 @@
+pub mod Alike
+pub mod Drafts
 pub mod Flow
 pub mod JsonText
 pub mod JsonTrees
 pub mod Layout
-pub mod Drafts
+pub mod Lines
+pub mod Refused
 pub mod Sharing
+pub mod Shows

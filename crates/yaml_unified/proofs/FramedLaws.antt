@@ -4,8 +4,8 @@ use Rattle.std.specs.List.{list_any}
 use Rattle.std.proofs.lemmas.Bool.{cases_lt}
 use Rattle.std.proofs.lemmas.List.{take-take, take-append-drop, take_min, drop-take, drop-drop, drop_all, drop_min, length-take, length-drop}
 use Rattle.std.proofs.lemmas.List.Folds.{list_any-append}
-use Rattle.yaml_script.specs.Script.{is_change}
-use Rattle.yaml_script.specs.declared.script.Edit.{Edit}
+use Rattle.yaml_unified.specs.Script.{is_change}
+use Rattle.yaml_unified.specs.declared.script.Edit.{Edit}
 use Rattle.yaml_unified.specs.Unified.{IsFirstChange, BeginsHunk, EndsHunk, Framed}
 use Rattle.yaml_unified.proofs.UnifiedLaws.{kept_part}
 

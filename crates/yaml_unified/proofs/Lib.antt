@@ -1,2 +1,3 @@
-mod UnifiedLaws
 mod FramedLaws
+mod PieceLaws
+mod UnifiedLaws

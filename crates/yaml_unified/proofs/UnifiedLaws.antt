@@ -5,8 +5,8 @@ use Rattle.std.proofs.Math.Seq.{drop-cons}
 use Rattle.std.proofs.Math.ListN.{drop_of_length-le}
 use Rattle.std.proofs.lemmas.List.{append_assoc, append-nil, take-take, take-append-drop, take_all}
 use Rattle.std.proofs.lemmas.List.Folds.{list_any_more, list_any-append}
-use Rattle.yaml_script.specs.Script.{is_change}
-use Rattle.yaml_script.specs.declared.script.Edit.{Edit}
+use Rattle.yaml_unified.specs.Script.{is_change}
+use Rattle.yaml_unified.specs.declared.script.Edit.{Edit}
 use Rattle.yaml_unified.specs.Unified.{lefts, rights, hunk_text, Framed, AreHunks, hunk, no_hunk, PutsHunk, PutsHunks}
 
 drop_next : {X : Type 0} (xs : List X) (i : ℕ) (d : X) → i < length xs → drop i xs ≡ get_or xs i d ∷ drop (i + 1) xs

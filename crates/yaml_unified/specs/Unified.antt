@@ -1,10 +1,10 @@
 -- Unified diffs.
 use Rattle.std.specs.Prelude.{◌≡◌, ◌<◌, ◌≤◌, ◌+◌, ◌-◌, ◌*◌, ◌==◌, ◌++◌, ℕ, Bool, true, false, cond, List, [], length, take, drop, codes, decimal}
 use Rattle.std.specs.List.{list_any, filter, flat_map}
-use Rattle.yaml_script.specs.Script.{is_change}
-use Rattle.yaml_script.specs.declared.lines.Piece.{Piece}
-use Rattle.yaml_script.specs.declared.script.Edit.{Edit}
-use Rattle.yaml_script.specs.declared.script.Edit.TheVariants.{Kept, Removed, Added}
+use Rattle.yaml_unified.specs.Script.{is_change}
+use Rattle.yaml_unified.specs.declared.lines.Piece.{Piece}
+use Rattle.yaml_unified.specs.declared.script.Edit.{Edit}
+use Rattle.yaml_unified.specs.declared.script.Edit.TheVariants.{Kept, Removed, Added}
 
 -- the left text has the line, and the right one
 abbrev pub is_left : Edit → Bool

@@ -5,7 +5,7 @@ ghost use Rattle.yaml_unified.specs.Unified.{is_left, is_right, start, range_tex
 
 use itoa::Buffer;
 use std::alloc::AllocError;
-use yaml_script::{Edit, Piece};
+use crate::{Edit, Piece};
 
 /// What follows a line that no line feed ends.
 const NO_END: &str = "\n\\ No newline at end of file\n";

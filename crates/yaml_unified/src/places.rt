@@ -1,10 +1,10 @@
 //! Where hunks begin and end.
 ghost use Rattle.std.specs.Prelude.{◌≡◌, ◌<◌, ◌≤◌, length, take, drop, false, None, IfSome};
 ghost use Rattle.std.specs.List.{list_any};
-ghost use Rattle.yaml_script.specs.Script.{is_change};
+ghost use Rattle.yaml_unified.specs.Script.{is_change};
 ghost use Rattle.yaml_unified.specs.Unified.{IsFirstChange, EndsHunk};
 
-use yaml_script::Edit;
+use crate::Edit;
 
 /// The place of the first change; none if there is no change.
 pub fn first_change(edits: &[Edit<'_>]) -> Option<usize>

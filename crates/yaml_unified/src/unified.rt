@@ -5,7 +5,7 @@ ghost use Rattle.yaml_unified.specs.Unified.{IsFirstChange, PutsHunk, PutsHunks}
 use crate::hunk::{lefts, put_hunk, rights};
 use crate::places::{first_change, hunk_len};
 use std::alloc::AllocError;
-use yaml_script::Edit;
+use crate::Edit;
 
 /// The edits that are not written yet, and the lines of both texts at which they begin.
 #[derive(Clone, Copy)]

@@ -1,2 +1,3 @@
 pub mod RangeLaws
+mod StreamLaws
 mod ValueLaws

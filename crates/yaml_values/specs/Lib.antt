@@ -1,4 +1,5 @@
-pub mod Kinds
-pub mod Ranges
 pub mod Denotes
+pub mod Kinds
 pub mod Making
+pub mod Ranges
+pub mod ValuesOf

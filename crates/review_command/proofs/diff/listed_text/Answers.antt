@@ -1,6 +1,6 @@
 use Rattle.std.proofs.Common.{◌≡◌, ◌<◌, [], ◌∷◌, ◌++◌, None, inr, refl, ◌∙◌, ap, subst, arith, string_bytes}
 use Rattle.std.proofs.lemmas.Result.{IfOk-weaker}
-use Rattle.review_folders.specs.Parts.{IsPartsText}
+use Rattle.review_reports.specs.Parts.{IsPartsText}
 use Rattle.review_formats.specs.declared.finding.Part.{Part}
 use Rattle.review_command.specs.Diffs.{IsFilePart, IsFilePage}
 use Rattle.review_command.proofs.diff.listed_text.Goals as goal

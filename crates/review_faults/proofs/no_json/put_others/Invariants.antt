@@ -1,6 +1,6 @@
 use Rattle.std.proofs.Common.{◌≤◌, length}
 use Rattle.std.specs.Prelude.{string_bytes}
-use Rattle.yaml_place.specs.LineModel.{IsPlace}
+use Rattle.yaml_path.specs.LineModel.{IsPlace}
 use Rattle.review_faults.specs.NoJson.{AddsPieces}
 use Rattle.review_faults.proofs.no_json.put_others.Given as goal
 

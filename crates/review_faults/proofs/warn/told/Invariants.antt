@@ -1,5 +1,5 @@
 use Rattle.std.proofs.Common.{◌≤◌, length, map, take}
-use Rattle.yaml_place.specs.LineModel.{IsPlace}
+use Rattle.yaml_path.specs.LineModel.{IsPlace}
 use Rattle.yaml_text.specs.EventModel.{event_of}
 use Rattle.review_faults.specs.Warned.{AreWarnings}
 use Rattle.review_faults.proofs.warn.told.Given as goal

@@ -1,5 +1,5 @@
 use Rattle.std.proofs.Common.{sym, ◌∙◌, subst, string_bytes}
-use Rattle.yaml_script.specs.Script.{IsScript}
+use Rattle.yaml_unified.specs.Script.{IsScript}
 use Rattle.review_git.proofs.ShownLaws.{changed_lines}
 use Rattle.review_git.proofs.git_show.put_changes.Goals as goal
 

@@ -2,7 +2,7 @@ use Rattle.std.proofs.Common.{ℕ, ◌+◌, drop, get_or, subst, arith, List}
 use Rattle.std.specs.Prelude.{Option}
 use Rattle.std.specs.String.{string_bytes}
 use Rattle.std.proofs.Math.ListN.{drop_of_length-le}
-use Rattle.yaml_place.specs.declared.place.Place.{Place}
+use Rattle.yaml_path.specs.declared.place.Place.{Place}
 use Rattle.review_merge.specs.Lines.{column, place_text}
 use Rattle.review_merge.specs.Placed.{IsTold}
 use Rattle.review_merge.specs.declared.told.Seats.{Seats}

@@ -1,6 +1,6 @@
 use Rattle.std.proofs.Common.{◌≡◌, ◌≤◌, length, map, take}
 use Rattle.std.specs.List.{All}
-use Rattle.yaml_place.specs.LineModel.{IsPlace}
+use Rattle.yaml_path.specs.LineModel.{IsPlace}
 use Rattle.review_places.specs.Told.{IsTold}
 use Rattle.review_places.proofs.places.places.Given as goal
 

@@ -1,6 +1,6 @@
 use Rattle.std.proofs.Common.{arith, refl, sym, ◌∙◌, ap, subst}
 use Rattle.std.specs.List.{list_any}
-use Rattle.yaml_script.specs.Script.{is_change}
+use Rattle.yaml_unified.specs.Script.{is_change}
 use Rattle.yaml_unified.specs.Unified.{IsFirstChange}
 use Rattle.yaml_unified.proofs.FramedLaws.{reaches_first, reaches_next, ends_hunk}
 use Rattle.yaml_unified.proofs.places.hunk_len.Goals as goal

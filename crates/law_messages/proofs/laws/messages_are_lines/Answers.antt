@@ -1,5 +1,0 @@
-use Rattle.yaml_command.proofs.MessageLaws.{line-is-message}
-use Rattle.law_messages.proofs.laws.messages_are_lines.Goals as goal
-
-pub returns : goal.returns
-returns c = line-is-message

@@ -1,7 +1,0 @@
-//! Laws of messages. Each function has an empty body, and its contract is a law.
-ghost use Rattle.law_messages.specs.Laws.{MessagesAreLines};
-
-/// The line of a fault is its message, between what the line begins with and the line feed.
-pub fn messages_are_lines()
-    ensures { MessagesAreLines }
-{}

@@ -1,4 +1,0 @@
-mod LineLaws
-mod NameLaws
-mod PartLaws
-mod StatusLaws

@@ -1,7 +1,0 @@
-use Rattle.std.proofs.Common.{◌≡◌, ◌++◌, map}
-use Rattle.std.specs.String.{string_bytes}
-use Rattle.review_ignore.proofs.StepLaws.{written}
-use Rattle.review_ignore.proofs.steps.step_texts.Given as goal
-
-abbrev pub invariant-steps : goal.invariant-steps
-invariant-steps l = map string_bytes l.texts.items ≡ map string_bytes l.initial.texts.items ++ map (written l.both.graph) (map (λ s. s.now) l.yielded)

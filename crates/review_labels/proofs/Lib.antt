@@ -1,5 +1,0 @@
-mod KeyLaws
-mod LabelLaws
-mod LeftLaws
-mod NameLaws
-mod ValueLaws

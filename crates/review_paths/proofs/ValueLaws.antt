@@ -1,0 +1,106 @@
+-- Values of JSON that are written piece by piece.
+use Rattle.std.proofs.Common.{◌≡◌, ◌&&◌, ℕ, ◌+◌, ◌<◌, ◌≤◌, true, List, ◌++◌, length, map, drop, get_or, refl, sym, ◌∙◌, ap, ap₂, subst, add-one}
+use Rattle.std.specs.Prelude.{bytes_eq, codes}
+use Rattle.std.proofs.Math.ListN.{drop_of_length-le}
+use Rattle.std.proofs.lemmas.List.{append_assoc}
+use Rattle.yaml_definitions.specs.model.Tree.{Tree, Trees, Pairs, scalar, sequence, mapping}
+use Rattle.yaml_definitions.specs.model.Tag.{str_tag, seq_tag, map_tag}
+use Rattle.yaml_tree.specs.TreeLists.{trees, pairs}
+use Rattle.yaml_show_scalar.specs.Escapes.{quoted}
+use Rattle.yaml_show_scalar.specs.declared.escapes.Language.TheVariants.{Json}
+use Rattle.review_text.proofs.Pieces.{drop_next}
+use Rattle.review_paths.specs.Values.{comma, name_json, value_json, items_json, entries_json, items_have_json, entries_have_json, IsName, Says, SaysKey, SaysItems, SaysEntries}
+
+-- ---- items, from a place on
+
+module _ {X : Type 0} (f : X → Tree) (xs : List X) where
+  abbrev pub items_left : ℕ → List ℕ
+  items_left i = items_json i (trees (map f (drop i xs)))
+
+  -- what is left of the items, and the bracket, is still to be written
+  abbrev pub ItemsAt : ℕ → List ℕ → List ℕ → Type 0
+  ItemsAt i old o =
+      (o ++ (items_left i ++ codes "]") ≡ old ++ (codes "[" ++ (items_left 0 ++ codes "]")))
+      × (items_have_json (trees (map f (drop i xs))) ≡ true → items_have_json (trees (map f xs)) ≡ true)
+
+  pub items_split : (i : ℕ) (d : X) → i < length xs → items_left i ≡ comma i ++ (value_json (f (get_or xs i d)) ++ items_left (i + 1))
+  items_split i d l =
+      ap (λ z. items_json i (trees (map f z))) (drop_next xs i d l)
+      ∙ ap (λ z. comma i ++ (value_json (f (get_or xs i d)) ++ items_json z (trees (map f (drop (i + 1) xs))))) (sym (add-one i))
+
+  pub items_first : (old a : List ℕ) → a ≡ old ++ codes "[" → ItemsAt 0 old a
+  items_first old a e = (ap (λ z. z ++ (items_left 0 ++ codes "]")) e ∙ append_assoc old (codes "[") (items_left 0 ++ codes "]"), λ h. h)
+
+  pub items_step : (i : ℕ) (d : X) (old o a b : List ℕ) → i < length xs → ItemsAt i old o → a ≡ o ++ comma i → Says (f (get_or xs i d)) a b → ItemsAt (i + 1) old b
+  items_step i d old o a b l h e k =
+      let C = comma i in
+      let V = value_json (f (get_or xs i d)) in
+      let L = items_left (i + 1) in
+      let R = codes "]" in (
+        ap (λ z. z ++ (L ++ R)) (k.0 ∙ ap (λ z. z ++ V) e)
+            ∙ append_assoc (o ++ C) V (L ++ R) ∙ append_assoc o C (V ++ (L ++ R))
+            ∙ ap (λ z. o ++ z) (sym (ap (λ z. z ++ R) (items_split i d l) ∙ append_assoc C (V ++ L) R ∙ ap (λ z. C ++ z) (append_assoc V L R)))
+            ∙ h.0,
+        λ m. h.1 (ap (λ z. items_have_json (trees (map f z))) (drop_next xs i d l) ∙ ap₂ ◌&&◌ k.1 m),
+      )
+
+  pub items_end : (i : ℕ) (old o a : List ℕ) → length xs ≤ i → ItemsAt i old o → a ≡ o ++ codes "]" → SaysItems (trees (map f xs)) old a
+  items_end i old o a l h e =
+      (e ∙ ap (λ z. o ++ (items_json i (trees (map f z)) ++ codes "]")) (sym (drop_of_length-le xs l)) ∙ h.0, h.1 (ap (λ z. items_have_json (trees (map f z))) (drop_of_length-le xs l)))
+
+-- ---- entries, from a place on
+
+module _ {X : Type 0} (f : X → Tree × Tree) (xs : List X) where
+  abbrev pub entries_left : ℕ → List ℕ
+  entries_left i = entries_json i (pairs (map f (drop i xs)))
+
+  -- what is left of the entries, and the brace, is still to be written
+  abbrev pub EntriesAt : ℕ → List ℕ → List ℕ → Type 0
+  EntriesAt i old o =
+      (o ++ (entries_left i ++ codes "}") ≡ old ++ (codes "{" ++ (entries_left 0 ++ codes "}")))
+      × (entries_have_json (pairs (map f (drop i xs))) ≡ true → entries_have_json (pairs (map f xs)) ≡ true)
+
+  pub entries_split : (i : ℕ) (d : X) → i < length xs → entries_left i ≡ comma i ++ (name_json (f (get_or xs i d)).0 ++ (codes ":" ++ (value_json (f (get_or xs i d)).1 ++ entries_left (i + 1))))
+  entries_split i d l =
+      ap (λ z. entries_json i (pairs (map f z))) (drop_next xs i d l)
+      ∙ ap (λ z. comma i ++ (name_json (f (get_or xs i d)).0 ++ (codes ":" ++ (value_json (f (get_or xs i d)).1 ++ entries_json z (pairs (map f (drop (i + 1) xs))))))) (sym (add-one i))
+
+  pub entries_first : (old a : List ℕ) → a ≡ old ++ codes "{" → EntriesAt 0 old a
+  entries_first old a e = (ap (λ z. z ++ (entries_left 0 ++ codes "}")) e ∙ append_assoc old (codes "{") (entries_left 0 ++ codes "}"), λ h. h)
+
+  pub entries_step : (i : ℕ) (d : X) (old o a b c : List ℕ) → i < length xs → EntriesAt i old o → a ≡ o ++ comma i → SaysKey (f (get_or xs i d)).0 a b → Says (f (get_or xs i d)).1 b c → EntriesAt (i + 1) old c
+  entries_step i d old o a b c l h e n k =
+      let C = comma i in
+      let K = name_json (f (get_or xs i d)).0 in
+      let S = codes ":" in
+      let V = value_json (f (get_or xs i d)).1 in
+      let L = entries_left (i + 1) in
+      let R = codes "}" in (
+        ap (λ z. z ++ (L ++ R)) (k.0 ∙ ap (λ z. z ++ V) (n.0 ∙ ap (λ z. z ++ (K ++ S)) e))
+            ∙ append_assoc ((o ++ C) ++ (K ++ S)) V (L ++ R) ∙ append_assoc (o ++ C) (K ++ S) (V ++ (L ++ R)) ∙ append_assoc o C ((K ++ S) ++ (V ++ (L ++ R)))
+            ∙ ap (λ z. o ++ (C ++ z)) (append_assoc K S (V ++ (L ++ R)))
+            ∙ ap (λ z. o ++ z) (sym (ap (λ z. z ++ R) (entries_split i d l) ∙ append_assoc C (K ++ (S ++ (V ++ L))) R ∙ ap (λ z. C ++ z) (append_assoc K (S ++ (V ++ L)) R ∙ ap (λ z. K ++ (S ++ z)) (append_assoc V L R))))
+            ∙ h.0,
+        λ m. h.1 (ap (λ z. entries_have_json (pairs (map f z))) (drop_next xs i d l) ∙ ap₂ ◌&&◌ n.1 (ap₂ ◌&&◌ k.1 m)),
+      )
+
+  pub entries_end : (i : ℕ) (old o a : List ℕ) → length xs ≤ i → EntriesAt i old o → a ≡ o ++ codes "}" → SaysEntries (pairs (map f xs)) old a
+  entries_end i old o a l h e =
+      (e ∙ ap (λ z. o ++ (entries_json i (pairs (map f z)) ++ codes "}")) (sym (drop_of_length-le xs l)) ∙ h.0, h.1 (ap (λ z. entries_have_json (pairs (map f z))) (drop_of_length-le xs l)))
+
+-- ---- whole nodes
+
+pub scalar_says : (g x h y old new : List ℕ) (t : Tree) → t ≡ scalar h y → g ≡ h → x ≡ y → Says (scalar g x) old new → Says t old new
+scalar_says g x h y old new t e p q k = subst (λ z. Says z old new) (ap₂ scalar p q ∙ sym e) k
+
+pub sequence_says : (g h old new : List ℕ) (ts : Trees) (t : Tree) → t ≡ sequence h ts → g ≡ h → bytes_eq g seq_tag ≡ true → SaysItems ts old new → Says t old new
+sequence_says g h old new ts t e p b k = subst (λ z. Says z old new) (ap (λ z. sequence z ts) p ∙ sym e) (k.0, ap₂ ◌&&◌ b k.1)
+
+pub mapping_says : (g h old new : List ℕ) (ps : Pairs) (t : Tree) → t ≡ mapping h ps → g ≡ h → bytes_eq g map_tag ≡ true → SaysEntries ps old new → Says t old new
+mapping_says g h old new ps t e p b k = subst (λ z. Says z old new) (ap (λ z. mapping z ps) p ∙ sym e) (k.0, ap₂ ◌&&◌ b k.1)
+
+pub name_is : (g x h y : List ℕ) (t : Tree) → t ≡ scalar h y → g ≡ h → x ≡ y → bytes_eq g str_tag ≡ true → IsName t x
+name_is g x h y t e p q b = subst (λ z. IsName z x) (ap₂ scalar p q ∙ sym e) (refl, b)
+
+pub key_says : (t : Tree) (x old a new : List ℕ) → IsName t x → a ≡ old ++ quoted Json x → new ≡ a ++ codes ":" → SaysKey t old new
+key_says t x old a new n e h = (h ∙ ap (λ z. z ++ codes ":") (e ∙ ap (λ z. old ++ z) (sym n.0)) ∙ append_assoc old (name_json t) (codes ":"), n.1)

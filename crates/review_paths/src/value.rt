@@ -1,0 +1,244 @@
+//! Nodes as values of JSON (RFC 8259).
+ghost use Rattle.std.specs.Prelude.{◌≡◌, ◌++◌, ◌∷◌, ◌+◌, ◌-◌, ◌&&◌, [], false, length, map, min, not, bytes_eq, codes, string_bytes, OnOk, IfOk, IfSome, IfNone, IfErr};
+ghost use Rattle.yaml_definitions.specs.model.Tree.{scalar, height, heights, heights_of_pairs};
+ghost use Rattle.yaml_definitions.specs.model.Tag.{str_tag, seq_tag, map_tag};
+ghost use Rattle.yaml_definitions.specs.model.Order.{arranged};
+ghost use Rattle.yaml_tree.specs.TreeLists.{trees, pairs};
+ghost use Rattle.yaml_graph.specs.GraphView.{tree};
+ghost use Rattle.yaml_rank.specs.RankModel.{key_pair};
+ghost use Rattle.yaml_rank.specs.RanksView.{RanksAre};
+ghost use Rattle.yaml_show_scalar.specs.Stops.{limit_of, Stops};
+ghost use Rattle.yaml_show_scalar.specs.Texts.{written};
+ghost use Rattle.review_paths.specs.Budget.{room_left, one_value};
+ghost use Rattle.review_paths.specs.Values.{comma, scalar_json, scalar_has_json, is_string, name_json, value_json, items_json, entries_json, has_json, items_have_json, entries_have_json, IsName, Says, SaysKey, SaysItems, SaysEntries, Unsays, HasNoValue, IsValueOf};
+
+use crate::room::Room;
+use crate::unsaid::Unsaid;
+use review_text::Both;
+use std::alloc::{AllocError, Global};
+use yaml_graph::node::NodeKind;
+use yaml_json::is_json;
+use yaml_show_scalar::escapes::put_json_string;
+use yaml_show_scalar::number::{is_in_words, put_float};
+use yaml_show_scalar::tag::is_resolved;
+use yaml_show_scalar::{Out, Stop};
+use yaml_text::core_tag;
+use yaml_tree::node::NodeId;
+
+/// How many nodes may be inside one another: some readers of JSON take no more than 127 arrays and objects, and the line is one.
+const LEVELS: u16 = 100;
+
+/// Whether JSON has a scalar of this tag and content.
+#[tactic(auto, unfolding(crate::specs::Values::scalar_has_json, yaml_definitions::specs::model::Tag::core_tag))]
+fn has_value(tag: &str, content: &str) -> bool
+    ensures { result ≡ scalar_has_json tag.now content.now }
+{
+    tag == core_tag::STR || is_resolved(tag) && !(tag == core_tag::FLOAT && is_in_words(content))
+}
+
+/// Writes a scalar that JSON has.
+#[tactic(auto, unfolding(crate::specs::Values::scalar_json, yaml_definitions::specs::model::Tag::core_tag))]
+fn put_written(out: &mut Out, tag: &str, content: &str) -> Result<(), Stop>
+    ensures ok { OnOk result (written out.new ≡ written out.old ++ scalar_json tag.now content.now) }
+    ensures limit { limit_of out.new ≡ limit_of out.old }
+    ensures err { IfErr result (Stops (limit_of out.old) (written out.old ++ scalar_json tag.now content.now)) }
+{
+    if tag == core_tag::STR {
+        return put_json_string(out, content);
+    }
+    if tag == core_tag::FLOAT {
+        return put_float(out, content);
+    }
+    out.put(content)
+}
+
+/// Writes a scalar, if JSON has it.
+fn put_scalar(out: &mut Out, tag: &str, content: &str) -> Result<(), Unsaid>
+    ensures ok { OnOk result (Says (scalar tag.now content.now) (written out.old) (written out.new)) }
+    ensures limit { limit_of out.new ≡ limit_of out.old }
+    ensures err { IfErr result (Unsays (scalar_has_json tag.now content.now) 0 1 (limit_of out.old) (written out.old ++ scalar_json tag.now content.now)) }
+{
+    if !has_value(tag, content) {
+        return Err(Unsaid::NoValue);
+    }
+    put_written(out, tag, content)?;
+    Ok(())
+}
+
+/// Writes a comma, but not before the first part.
+fn put_comma(out: &mut Out, place: usize) -> Result<(), Stop>
+    ensures ok { OnOk result (written out.new ≡ written out.old ++ comma place) }
+    ensures limit { limit_of out.new ≡ limit_of out.old }
+    ensures err { IfErr result (Stops (limit_of out.old) (written out.old ++ comma place)) }
+{
+    if place == 0 {
+        return Ok(());
+    }
+    out.put(",")
+}
+
+/// Whether a tag is that of strings.
+#[tactic(auto, unfolding(yaml_definitions::specs::model::Tag::core_tag))]
+fn is_string(tag: &str) -> bool
+    ensures { result ≡ bytes_eq tag.now str_tag }
+{
+    tag == core_tag::STR
+}
+
+/// Whether a tag is that of sequences.
+#[tactic(auto, unfolding(yaml_definitions::specs::model::Tag::core_tag))]
+fn is_sequence(tag: &str) -> bool
+    ensures { result ≡ bytes_eq tag.now seq_tag }
+{
+    tag == core_tag::SEQ
+}
+
+/// Whether a tag is that of mappings.
+#[tactic(auto, unfolding(yaml_definitions::specs::model::Tag::core_tag))]
+fn is_mapping(tag: &str) -> bool
+    ensures { result ≡ bytes_eq tag.now map_tag }
+{
+    tag == core_tag::MAP
+}
+
+/// The content of a key that is a string.
+fn name_of<'b>(both: &'b Both<'_>, key: NodeId) -> Option<&'b str>
+    requires ranked { RanksAre both.now.graph both.now.ranks }
+    ensures some { IfSome result (λ name. IsName (arranged (tree both.now.graph key.0)) name.now) }
+    ensures none { IfNone result (is_string (arranged (tree both.now.graph key.0)) ≡ false) }
+{
+    let Some(node) = both.node(key) else {
+        return None;
+    };
+    match &node.kind {
+        NodeKind::Scalar(content) => {
+            if is_string(node.tag.as_str()) {
+                Some(content.as_str())
+            } else {
+                None
+            }
+        }
+        _ => None,
+    }
+}
+
+/// Writes a key that is a string, and its colon.
+#[tactic(auto, using(crate::proofs::ValueLaws::key_says))]
+fn put_key(both: &Both<'_>, key: NodeId, out: &mut Out) -> Result<(), Unsaid>
+    requires ranked { RanksAre both.now.graph both.now.ranks }
+    ensures ok { OnOk result (SaysKey (arranged (tree both.now.graph key.0)) (written out.old) (written out.new)) }
+    ensures limit { limit_of out.new ≡ limit_of out.old }
+    ensures err { IfErr result (Unsays (is_string (arranged (tree both.now.graph key.0))) 0 1 (limit_of out.old) (written out.old ++ (name_json (arranged (tree both.now.graph key.0)) ++ codes ":"))) }
+{
+    let Some(name) = name_of(both, key) else {
+        return Err(Unsaid::NoValue);
+    };
+    put_json_string(out, name)?;
+    out.put(":")?;
+    Ok(())
+}
+
+/// Writes a node. Of its levels, so many are left.
+#[cycle(value)]
+fn put_value(both: &Both<'_>, id: NodeId, left: u16, out: &mut Out) -> Result<(), Unsaid>
+    requires { RanksAre both.now.graph both.now.ranks }
+    ensures ok { OnOk result (Says (arranged (tree both.now.graph id.0)) (written out.old) (written out.new)) }
+    ensures limit { limit_of out.new ≡ limit_of out.old }
+    ensures err { IfErr result (Unsays (has_json (arranged (tree both.now.graph id.0))) (height (arranged (tree both.now.graph id.0))) left (limit_of out.old) (written out.old ++ value_json (arranged (tree both.now.graph id.0)))) }
+{
+    let Some(node) = both.node(id) else {
+        return Err(Unsaid::NoValue);
+    };
+    if left == 0 {
+        return Err(Unsaid::NoValue);
+    }
+    let tag = node.tag.as_str();
+    match &node.kind {
+        NodeKind::Scalar(content) => put_scalar(out, tag, content.as_str()),
+        NodeKind::Sequence(items) => {
+            if is_sequence(tag) {
+                put_items(both, items, left - 1, out)
+            } else {
+                Err(Unsaid::NoValue)
+            }
+        }
+        NodeKind::Mapping(_) => {
+            if is_mapping(tag) {
+                put_entries(both, both.sorted(id), left - 1, out)
+            } else {
+                Err(Unsaid::NoValue)
+            }
+        }
+    }
+}
+
+/// Writes items as an array.
+#[cycle(value)]
+fn put_items(both: &Both<'_>, items: &[NodeId], left: u16, out: &mut Out) -> Result<(), Unsaid>
+    requires ranked { RanksAre both.now.graph both.now.ranks }
+    ensures ok { OnOk result (SaysItems (trees (map (λ i. arranged (tree both.now.graph i.0)) items.now)) (written out.old) (written out.new)) }
+    ensures limit { limit_of out.new ≡ limit_of out.old }
+    ensures err { IfErr result (Unsays (items_have_json (trees (map (λ i. arranged (tree both.now.graph i.0)) items.now))) (heights (trees (map (λ i. arranged (tree both.now.graph i.0)) items.now))) (left + 1) (limit_of out.old) (written out.old ++ (codes "[" ++ (items_json 0 (trees (map (λ i. arranged (tree both.now.graph i.0)) items.now)) ++ codes "]")))) }
+{
+    out.put("[")?;
+    for (place, item) in items.iter().enumerate() {
+        put_comma(out, place)?;
+        put_value(both, *item, left, out)?;
+    }
+    out.put("]")?;
+    Ok(())
+}
+
+/// Writes entries as an object.
+#[cycle(value)]
+fn put_entries(
+    both: &Both<'_>,
+    entries: &[(NodeId, NodeId)],
+    left: u16,
+    out: &mut Out,
+) -> Result<(), Unsaid>
+    requires ranked { RanksAre both.now.graph both.now.ranks }
+    ensures ok { OnOk result (SaysEntries (pairs (map (key_pair both.now.graph) entries.now)) (written out.old) (written out.new)) }
+    ensures limit { limit_of out.new ≡ limit_of out.old }
+    ensures err { IfErr result (Unsays (entries_have_json (pairs (map (key_pair both.now.graph) entries.now))) (heights_of_pairs (pairs (map (key_pair both.now.graph) entries.now))) (left + 1) (limit_of out.old) (written out.old ++ (codes "{" ++ (entries_json 0 (pairs (map (key_pair both.now.graph) entries.now)) ++ codes "}")))) }
+{
+    out.put("{")?;
+    for (place, entry) in entries.iter().enumerate() {
+        put_comma(out, place)?;
+        put_key(both, entry.0, out)?;
+        put_value(both, entry.1, left, out)?;
+    }
+    out.put("}")?;
+    Ok(())
+}
+
+/// The value of a node as JSON, if JSON has it and there is room for it: null, a boolean, a number, a string, an array, and an object with
+/// its keys in their order. JSON has no node with another tag than one of the core schema, no `.inf`, `-.inf` and `.nan`, and no key but a
+/// string.
+///
+/// # Errors
+/// `OutOfMemory`
+pub fn value_text(
+    alloc: Global,
+    both: &Both<'_>,
+    id: NodeId,
+    room: &mut Room,
+) -> Result<Option<String>, AllocError>
+    requires ranked { RanksAre both.now.graph both.now.ranks }
+    ensures ok { IfOk result (λ text. IfSome text (λ json. IsValueOf (tree both.now.graph id.0) (string_bytes json))) }
+    ensures none { IfOk result (λ text. IfNone text (HasNoValue (tree both.now.graph id.0) (min (room_left room.old) one_value))) }
+    ensures room { IfOk result (λ text. IfSome text (λ json. room_left room.new ≡ room_left room.old - length (string_bytes json))) }
+{
+    let mut out = Out::new(alloc, room.next());
+    let answer = put_value(both, id, LEVELS, &mut out);
+    room.take(out.text.as_str().len());
+    match answer {
+        Ok(()) => {}
+        Err(Unsaid::Stopped(Stop::OutOfMemory)) => return Err(AllocError),
+        Err(_) => return Ok(None),
+    }
+    if !is_json(alloc, out.text.as_str())? {
+        return Ok(None);
+    }
+    Ok(Some(out.text))
+}

@@ -1,3 +1,0 @@
-pub mod MemoryLaws
-mod ShowLaws
-pub mod WarnLaws

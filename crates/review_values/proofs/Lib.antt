@@ -1,3 +1,0 @@
-mod StepLaws
-mod UnsaidLaws
-mod ValueLaws

@@ -1,4 +1,0 @@
-pub mod Budget
-pub mod Json
-pub mod Members
-pub mod Values

@@ -1,4 +1,0 @@
-pub mod RuleLaws
-pub mod ShownLaws
-pub mod ExistLaws
-pub mod StreamLaws

@@ -1,5 +1,0 @@
-use Rattle.yaml_merge.proofs.ShownLaws.{merge-one}
-use Rattle.yaml_merge.proofs.laws.merge_is_one.Goals as goal
-
-pub returns : goal.returns
-returns c = merge-one

@@ -1,5 +1,0 @@
-use Rattle.yaml_merge.proofs.ShownLaws.{merge-shown}
-use Rattle.yaml_merge.proofs.laws.merge_is_shown.Goals as goal
-
-pub returns : goal.returns
-returns c = λ b o t m kb ko kt km h p. merge-shown p b o t m kb ko kt km h

@@ -1,5 +1,0 @@
-use Rattle.yaml_merge.proofs.RuleLaws.{merge-sides}
-use Rattle.yaml_merge.proofs.laws.merge_of_one.Goals as goal
-
-pub returns : goal.returns
-returns c = merge-sides

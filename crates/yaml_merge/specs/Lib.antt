@@ -1,3 +1,0 @@
-pub mod Merge
-pub mod Streams
-pub mod Laws

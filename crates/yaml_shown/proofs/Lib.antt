@@ -1,4 +1,0 @@
-pub mod AlikeLaws
-pub mod JoinLaws
-pub mod JsonLaws
-pub mod ShownLaws

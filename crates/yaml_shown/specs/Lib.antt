@@ -1,4 +1,0 @@
-pub mod Alike
-pub mod Lines
-pub mod Shows
-pub mod Refused
