@@ -188,7 +188,11 @@ fn put_key(alloc: Global, out: &mut String, event: Option<&Event<'_>>) -> Result
 }
 
 /// What is said of a key that is equal in a language to the one at another event.
-fn equal_words(alloc: Global, reader: Reader, first: Option<&Event<'_>>) -> Result<String, AllocError>
+fn equal_words(
+    alloc: Global,
+    reader: Reader,
+    first: Option<&Event<'_>>,
+) -> Result<String, AllocError>
     ensures ok { IfOk result (λ words. string_bytes words ≡ equal_words reader (option_map (λ e. event_of e.now) first.entry)) }
 {
     let mut out = String::new(alloc);

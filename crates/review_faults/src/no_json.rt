@@ -96,8 +96,7 @@ fn value_of(
     alloc: Global,
     event: &Event<'_>,
     named: &BTreeMap<&str, Value>,
-) -> Result<Option<Value>, AllocError>
-{
+) -> Result<Option<Value>, AllocError> {
     match event {
         Event::Scalar {
             tag,
@@ -214,8 +213,7 @@ fn keep<'e>(
     named: &mut BTreeMap<&'e str, Value>,
     event: &'e Event<'_>,
     value: Option<Value>,
-) -> Result<(), AllocError>
-{
+) -> Result<(), AllocError> {
     if let (Some(name), Some(value)) = (anchor_of(event), value) {
         named.insert(name, value)?;
     }
@@ -288,8 +286,7 @@ fn put_lacking(
 }
 
 /// The source line of an offset, and a caret below it.
-fn source_line(alloc: Global, text: &[u8], offset: Option<usize>) -> Result<String, AllocError>
-{
+fn source_line(alloc: Global, text: &[u8], offset: Option<usize>) -> Result<String, AllocError> {
     let mut out = String::new(alloc);
     if let Some(at) = offset {
         put_source_line(alloc, &mut out, text, at)?;

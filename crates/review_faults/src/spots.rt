@@ -307,9 +307,7 @@ fn spot_of_event(alloc: Global, bytes: &[u8], fault: Fault) -> Result<Spot, Faul
     };
     let events = read_events(alloc, &source)?;
     let text = unmarked(bytes);
-    Ok(spot_at(
-        alloc, fault, text, &trace, &events, number, first,
-    )?)
+    Ok(spot_at(alloc, fault, text, &trace, &events, number, first)?)
 }
 
 /// The spot of a fault.

@@ -85,8 +85,7 @@ fn note(
     firsts: &mut BTreeMap<Cause, usize>,
     causes: &[Option<Cause>],
     number: usize,
-) -> Result<(), AllocError>
-{
+) -> Result<(), AllocError> {
     if let Some(Some(cause)) = causes.get(number) {
         firsts.insert(*cause, number)?;
     }

@@ -4,10 +4,10 @@ ghost use Rattle.yaml_graph.specs.GraphView.{tree};
 ghost use Rattle.yaml_rank.specs.RanksView.{RanksAre};
 ghost use Rattle.review_folds.specs.Labels.{words_of, order_label, others_text, called, name_of, item_label, label, AreKeys};
 
+use crate::Group;
 use crate::keys::Keys;
 use crate::left::{count_of, left_node};
 use crate::names::name_of;
-use crate::Group;
 use review_text::both::Both;
 use review_text::text::{node_text, put_all};
 use std::alloc::{AllocError, Global};

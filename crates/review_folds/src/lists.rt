@@ -55,8 +55,7 @@ impl Numbers {
     }
 
     /// Gives a number to each path at or above this list, where it has none, and tells that of the list.
-    fn add(&mut self, path: &[Step]) -> Result<usize, AllocError>
-    {
+    fn add(&mut self, path: &[Step]) -> Result<usize, AllocError> {
         let Some((step, rest)) = path.split_first() else {
             return Ok(0);
         };
@@ -173,8 +172,7 @@ pub(crate) fn are_same(one: &[Step], other: &[Step]) -> bool
 }
 
 /// The numbers of the lists of which several moves stand one behind another.
-fn numbers_of(alloc: Global, moves: &[Move]) -> Result<Numbers, AllocError>
-{
+fn numbers_of(alloc: Global, moves: &[Move]) -> Result<Numbers, AllocError> {
     let mut numbers = Numbers {
         below: BTreeMap::new(alloc),
     };

@@ -185,7 +185,12 @@ fn single(alloc: Global, ranges: bool, found: &Found) -> Result<Vec<Group>, Allo
 
 /// The moves in groups, of which one line each tells. With folds, a list of which only the order changed has one line, and with ranges
 /// so have neighbours that moved together; without folds each move has one.
-pub fn groups(alloc: Global, folds: bool, ranges: bool, found: &Found) -> Result<Vec<Group>, AllocError>
+pub fn groups(
+    alloc: Global,
+    folds: bool,
+    ranges: bool,
+    found: &Found,
+) -> Result<Vec<Group>, AllocError>
     ensures ok { IfOk result (λ groups. Groups folds ranges found.now 0 (length found.now.moves.items) groups.items) }
 {
     if !folds {

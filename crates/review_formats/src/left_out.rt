@@ -4,7 +4,6 @@ ghost use Rattle.review_formats.specs.LeftOut.{counted_text, differences_text, f
 
 use std::alloc::AllocError;
 
-
 /// How many differences and moves no line of a list tells.
 #[derive(Clone, Copy, Debug, PartialEq, Eq)]
 pub struct LeftOut {

@@ -5,10 +5,9 @@ ghost use Rattle.review_git.specs.Shown.{IsShownFile, side_lines, TellsChanges, 
 use crate::put_unshown;
 use review_text::put_shown;
 use std::alloc::Global;
-use yaml_unified::script_of;
 use yaml_show::{Unshown, show};
 use yaml_text::fault::Fault;
-use yaml_unified::put_unified;
+use yaml_unified::{put_unified, script_of};
 
 /// How many lines are printed before and behind changed ones, as git does.
 const CONTEXT: usize = 3;

@@ -116,7 +116,11 @@ pub(crate) fn put_link(out: &mut String, number: usize, finding: &Finding) -> Re
 }
 
 /// Writes the front of the section of the finding of this number.
-pub(crate) fn put_front(out: &mut String, number: usize, finding: &Finding) -> Result<(), AllocError>
+pub(crate) fn put_front(
+    out: &mut String,
+    number: usize,
+    finding: &Finding,
+) -> Result<(), AllocError>
     ensures ok { OnOk result (string_bytes out.new ≡ string_bytes out.old ++ front_text number finding.now) }
 {
     put_pieces(

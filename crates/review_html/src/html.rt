@@ -177,7 +177,12 @@ fn put_list_links(out: &mut String, list: &[Finding], before: usize) -> Result<(
 }
 
 /// Writes the links to the findings of a part of this number.
-fn put_part_links(out: &mut String, part: &Part, number: usize, before: usize) -> Result<(), AllocError>
+fn put_part_links(
+    out: &mut String,
+    part: &Part,
+    number: usize,
+    before: usize,
+) -> Result<(), AllocError>
     ensures ok { OnOk result (string_bytes out.new ≡ string_bytes out.old ++ part_links (number, before, part.now)) }
 {
     put_file_link(out, &part.name, number)?;
@@ -203,7 +208,12 @@ fn put_links(out: &mut String, parts: &[Part]) -> Result<(), AllocError>
 
 /// Writes the section of the finding of this number, which is in this part.
 #[tactic(auto, using(review_formats::proofs::PieceLaws::three_put))]
-fn put_section(out: &mut String, part: usize, number: usize, finding: &Finding) -> Result<(), AllocError>
+fn put_section(
+    out: &mut String,
+    part: usize,
+    number: usize,
+    finding: &Finding,
+) -> Result<(), AllocError>
     ensures ok { OnOk result (string_bytes out.new ≡ string_bytes out.old ++ (front_text number finding.now ++ (body_text part finding.now ++ codes "</section>\n"))) }
 {
     put_front(out, number, finding)?;

@@ -181,7 +181,13 @@ fn put_front(out: &mut String, side: Side, number: usize, mark: usize) -> Result
 
 /// Writes a line: its number, which leads to the first finding at it if there is one, and its text.
 #[tactic(auto, using(review_formats::proofs::PieceLaws::three_put))]
-fn put_line(out: &mut String, side: Side, at: usize, mark: usize, line: &str) -> Result<(), AllocError>
+fn put_line(
+    out: &mut String,
+    side: Side,
+    at: usize,
+    mark: usize,
+    line: &str,
+) -> Result<(), AllocError>
     ensures ok { OnOk result (string_bytes out.new ≡ string_bytes out.old ++ line_text side at mark line.now) }
 {
     put_front(out, side, at.saturating_add(1), mark)?;

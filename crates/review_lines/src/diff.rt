@@ -15,10 +15,9 @@ use crate::nodes::{Places, find_places, place_at};
 use crate::search::{lists_none, searched};
 use crate::stat::stat_text;
 use crate::strings::{Budget, changed_lines, differing_parts};
-use review_folds::counts;
+use review_folds::{counts, kept};
 use review_formats::LeftOut;
-use review_folds::kept;
-use review_paths::pasted;
+use review_paths::{Members, members_of, pasted};
 use review_patterns::Pattern;
 use review_places::trace::Traced;
 use review_text::alike::{ascii_text, look_alike};
@@ -26,7 +25,6 @@ use review_text::both::Both;
 use review_text::options::{Diff, Form, Paths};
 use review_text::path::path_text;
 use review_text::text::{CUT, WHOLE, node_text};
-use review_paths::{Members, members_of};
 use std::alloc::{AllocError, Global};
 use yaml_diff::{Difference, Found};
 use yaml_path::Place;
@@ -338,7 +336,12 @@ pub(crate) fn left_out(found: &Found, lines: &[Line], moves: &MoveLines) -> Left
 }
 
 /// Lines as text.
-fn put_each(alloc: Global, text: &mut String, lines: &[Line], asked: &Diff<'_>) -> Result<(), AllocError>
+fn put_each(
+    alloc: Global,
+    text: &mut String,
+    lines: &[Line],
+    asked: &Diff<'_>,
+) -> Result<(), AllocError>
     ensures ok { OnOk result (string_bytes text.new ≡ string_bytes text.old ++ lines_text asked.now lines.now) }
 {
     for line in lines {

@@ -5,11 +5,11 @@ ghost use Rattle.review_lines.specs.Lines.{column, place_text, more_text, rest_o
 
 use crate::stat::{put_number, put_whole};
 use review_formats::LeftOut;
+use review_paths::Members;
+use review_paths::writing::{put_place_json, put_raw, put_text};
 use review_text::json::text_of;
 use review_text::options::{Diff, Form};
 use review_text::{put_json, put_visible};
-use review_paths::Members;
-use review_paths::writing::{put_place_json, put_raw, put_text};
 use std::alloc::{AllocError, Global};
 use yaml_path::Place;
 

@@ -10,9 +10,7 @@ use crate::diff::{is_numbered, members_in, room_of};
 use crate::lines::Line;
 use crate::nodes::{find_places, place_at};
 use crate::strings::Budget;
-use review_folds::{Group, groups};
-use review_folds::item_path;
-use review_folds::{Keys, label_of};
+use review_folds::{Group, Keys, groups, item_path, label_of};
 use review_paths::pasted;
 use review_places::trace::Traced;
 use review_text::both::Both;
@@ -20,8 +18,8 @@ use review_text::options::{Diff, Paths};
 use review_text::path::path_text;
 use std::alloc::{AllocError, Global};
 use yaml_diff::{Difference, Found, Move, Step};
-use yaml_path::places::Places;
 use yaml_path::Place;
+use yaml_path::places::Places;
 
 /// Whether paths are as the pages show them, with the places of both sides.
 fn is_plain(paths: Paths) -> bool
@@ -138,7 +136,12 @@ fn path_of_both(
 
 /// The path to a list on both sides. Of all documents it is a dot, as the pattern that matches them.
 #[tactic(auto, using(crate::proofs::MoveLaws::list_pasted, crate::proofs::MoveLaws::list_inside, crate::proofs::MoveLaws::list_of_all))]
-fn list_path(alloc: Global, both: &Both<'_>, paths: Paths, list: &[Step]) -> Result<String, AllocError>
+fn list_path(
+    alloc: Global,
+    both: &Both<'_>,
+    paths: Paths,
+    list: &[Step],
+) -> Result<String, AllocError>
     requires ranked { RanksAre both.now.graph both.now.ranks }
     ensures ok { IfOk result (λ s. string_bytes s ≡ list_path paths (is_numbered both.now) (way_of both.now.graph list.now)) }
 {
@@ -235,8 +238,7 @@ fn line_of_group(
 }
 
 /// The first move of each group as a difference.
-fn firsts(alloc: Global, moves: &[Move], groups: &[Group]) -> Result<Vec<Difference>, AllocError>
-{
+fn firsts(alloc: Global, moves: &[Move], groups: &[Group]) -> Result<Vec<Difference>, AllocError> {
     let mut list = Vec::new(alloc);
     for group in groups {
         list.push(first_of(alloc, moves, *group)?)?;

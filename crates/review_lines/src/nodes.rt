@@ -90,8 +90,7 @@ fn seat_at(
     finder: &mut Finder<'_>,
     difference: &Difference,
     hand: Hand,
-) -> Result<Option<Seat>, AllocError>
-{
+) -> Result<Option<Seat>, AllocError> {
     if has_node(difference, hand) {
         return finder.seat(alloc, &difference.path);
     }
@@ -110,8 +109,7 @@ fn side_places(
     hand: Hand,
     side: Traced<'_>,
     lines: usize,
-) -> Result<SidePlaces, AllocError>
-{
+) -> Result<SidePlaces, AllocError> {
     let layout = lay_out_from(alloc, side.trace, side.first, side.end)?;
     let mut finder = Finder::new(alloc, both, stream_of(both, hand), layout);
     let mut offsets = Vec::new(alloc);
@@ -153,8 +151,7 @@ fn own_causes(
     alloc: Global,
     lefts: &[Option<Mark>],
     rights: &[Option<Mark>],
-) -> Result<BTreeSet<Cause>, AllocError>
-{
+) -> Result<BTreeSet<Cause>, AllocError> {
     let mut own = BTreeSet::new(alloc);
     for number in 0..lefts.len() {
         if let Some((left, right)) = marks_at(lefts, rights, number) {
@@ -172,8 +169,7 @@ fn causes_of(
     alloc: Global,
     lefts: &[Option<Mark>],
     rights: &[Option<Mark>],
-) -> Result<Vec<Option<Cause>>, AllocError>
-{
+) -> Result<Vec<Option<Cause>>, AllocError> {
     let own = own_causes(alloc, lefts, rights)?;
     let mut causes = Vec::new(alloc);
     for number in 0..lefts.len() {
@@ -190,8 +186,11 @@ fn causes_of(
 }
 
 /// The places of one side by the numbers of their lines, of which there are so many.
-fn spread(alloc: Global, places: &[(usize, Place)], len: usize) -> Result<Vec<Option<Place>>, AllocError>
-{
+fn spread(
+    alloc: Global,
+    places: &[(usize, Place)],
+    len: usize,
+) -> Result<Vec<Option<Place>>, AllocError> {
     let mut list = vec![in alloc; None; len]?;
     for (number, place) in places {
         if let Some(slot) = list.get_mut(*number) {
@@ -208,8 +207,7 @@ pub(crate) fn find_places(
     list: &[Difference],
     sides: Option<(Traced<'_>, Traced<'_>)>,
     lines: usize,
-) -> Result<Places, AllocError>
-{
+) -> Result<Places, AllocError> {
     match sides {
         Some((left, right)) => {
             let lefts = side_places(alloc, both, list, Hand::Left, left, lines)?;

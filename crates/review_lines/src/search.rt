@@ -14,8 +14,7 @@ use yaml_graph::graph::Graph;
 use yaml_pair::Asked;
 
 /// The keys of texts, in each of which commas part them.
-fn keys_of<'a>(alloc: Global, texts: &[&'a str]) -> Result<Vec<&'a str>, AllocError>
-{
+fn keys_of<'a>(alloc: Global, texts: &[&'a str]) -> Result<Vec<&'a str>, AllocError> {
     let mut keys = Vec::new(alloc);
     for text in texts {
         for key in text.split(',') {
@@ -28,7 +27,12 @@ fn keys_of<'a>(alloc: Global, texts: &[&'a str]) -> Result<Vec<&'a str>, AllocEr
 }
 
 /// The differences and moves of two streams, at most so many.
-fn list_of(alloc: Global, both: &Both<'_>, asked: &Diff<'_>, room: usize) -> Result<Found, AllocError>
+fn list_of(
+    alloc: Global,
+    both: &Both<'_>,
+    asked: &Diff<'_>,
+    room: usize,
+) -> Result<Found, AllocError>
     requires ranked { RanksAre both.now.graph both.now.ranks }
     ensures ok { IfOk result (FindsItems both.now.graph (take both.now.documents (roots_of both.now.graph)) (drop both.now.documents (roots_of both.now.graph)) room) }
     ensures calm { asked.now.by_position ≡ true → IfOk result (λ found. moves_of found ≡ []) }

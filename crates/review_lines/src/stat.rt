@@ -119,7 +119,11 @@ fn put_numbers(out: &mut String, asked: &Diff<'_>, found: &Found) -> Result<(), 
 }
 
 /// The numbers of differences and moves as a line; no line where none is asked for, or where nothing is listed.
-pub(crate) fn stat_text(alloc: Global, asked: &Diff<'_>, found: &Found) -> Result<String, AllocError>
+pub(crate) fn stat_text(
+    alloc: Global,
+    asked: &Diff<'_>,
+    found: &Found,
+) -> Result<String, AllocError>
     ensures ok { IfOk result (λ text. string_bytes text ≡ stat_text asked.now found.now) }
 {
     let mut out = String::new(alloc);

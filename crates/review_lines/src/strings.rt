@@ -8,15 +8,15 @@ ghost use Rattle.review_text.specs.Shown.{front};
 ghost use Rattle.review_lines.specs.Compared.{IsScalar, part_text, ShowsParts, ShowsChanges};
 
 use crate::lines::Changes;
+use review_paths::Room;
 use review_text::both::Both;
 use review_text::options::Diff;
 use review_text::text::{front, put_spelled};
-use review_paths::Room;
 use std::alloc::{AllocError, Global};
 use yaml_diff::Difference;
 use yaml_graph::node::NodeKind;
-use yaml_unified::{Edit, put_script, script_of};
 use yaml_tree::node::NodeId;
+use yaml_unified::{Edit, put_script, script_of};
 
 /// How many bytes before the first difference are shown.
 const LEAD: usize = 20;
@@ -240,8 +240,7 @@ impl Counts {
 }
 
 /// The groups of changed lines.
-fn groups_of(alloc: Global, edits: &[Edit<'_>]) -> Result<(Vec<Group>, usize), AllocError>
-{
+fn groups_of(alloc: Global, edits: &[Edit<'_>]) -> Result<(Vec<Group>, usize), AllocError> {
     let mut groups: Vec<Group> = Vec::new(alloc);
     let mut lines = 0usize;
     let mut is_open = false;
@@ -275,8 +274,7 @@ fn groups_of(alloc: Global, edits: &[Edit<'_>]) -> Result<(Vec<Group>, usize), A
 }
 
 /// Writes a number of lines and what becomes of them, if there are any.
-fn put_count(out: &mut String, count: usize, words: &str) -> Result<(), AllocError>
-{
+fn put_count(out: &mut String, count: usize, words: &str) -> Result<(), AllocError> {
     if count > 0 {
         write!(out, ", {count} {words}")?;
     }
@@ -284,8 +282,7 @@ fn put_count(out: &mut String, count: usize, words: &str) -> Result<(), AllocErr
 }
 
 /// How many lines the left content has, how many are changed, removed and added, and the left lines at which that is.
-fn summary_of(alloc: Global, edits: &[Edit<'_>]) -> Result<String, AllocError>
-{
+fn summary_of(alloc: Global, edits: &[Edit<'_>]) -> Result<String, AllocError> {
     let (groups, lines) = groups_of(alloc, edits)?;
     let mut counts = Counts {
         lines,

@@ -21,8 +21,8 @@ use review_text::{Both, put_visible};
 use std::alloc::{AllocError, Global};
 use yaml_conflicts::{Conflict, Outcome, Roots, Step};
 use yaml_diff::Step as Shown;
-use yaml_path::places::Places;
 use yaml_path::Place;
+use yaml_path::places::Places;
 use yaml_text::fault::Fault;
 use yaml_tree::node::NodeId;
 

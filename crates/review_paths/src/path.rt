@@ -61,7 +61,12 @@ fn begun(alloc: Global, text: String, is_filter: bool) -> Result<String, AllocEr
 }
 
 /// What is written where a step cannot be pasted: the path as `path_text` has it, behind `!`.
-fn unfit(alloc: Global, both: &Both<'_>, path: &[Step], numbered: bool) -> Result<String, AllocError>
+fn unfit(
+    alloc: Global,
+    both: &Both<'_>,
+    path: &[Step],
+    numbered: bool,
+) -> Result<String, AllocError>
     requires ranked { RanksAre both.now.graph both.now.ranks }
     ensures ok { IfOk result (λ s. string_bytes s ≡ unfit numbered (way_of both.now.graph path.now)) }
 {

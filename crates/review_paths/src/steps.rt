@@ -98,7 +98,12 @@ fn put_next(alloc: Global, out: &mut String, both: &Both<'_>, step: Step) -> Res
 }
 
 /// Writes the steps of a path, that to the document first.
-fn put_steps(alloc: Global, out: &mut String, both: &Both<'_>, path: &[Step]) -> Result<(), AllocError>
+fn put_steps(
+    alloc: Global,
+    out: &mut String,
+    both: &Both<'_>,
+    path: &[Step],
+) -> Result<(), AllocError>
     requires ranked { RanksAre both.now.graph both.now.ranks }
     ensures ok { OnOk result (string_bytes out.new ≡ string_bytes out.old ++ inner_json (way_of both.now.graph path.now)) }
 {

@@ -190,7 +190,11 @@ impl<'g> Finder<'g> {
     }
 
     /// The node and the event to which a path leads, the last step first; and whether no alias is on the way.
-    fn walk(&mut self, alloc: Global, path: &[Step]) -> Result<Option<(NodeId, usize, bool)>, AllocError>
+    fn walk(
+        &mut self,
+        alloc: Global,
+        path: &[Step],
+    ) -> Result<Option<(NodeId, usize, bool)>, AllocError>
         ensures same { SameStream self.old self.new }
         ensures leads { IfOk result (λ found. IfSome found (λ end. IsEnd (both_of self.old) self.old.stream self.old.layout path.now end.0 end.1 end.2)) }
         ensures none { IfOk result (λ found. IfNone found (EndsNowhere (both_of self.old) self.old.stream self.old.layout path.now)) }

@@ -199,8 +199,7 @@ struct Anchors<'t> {
 
 impl<'t> Anchors<'t> {
     /// Those of the events from one on.
-    fn new(alloc: Global, trace: &'t Trace, first: usize) -> Result<Anchors<'t>, AllocError>
-    {
+    fn new(alloc: Global, trace: &'t Trace, first: usize) -> Result<Anchors<'t>, AllocError> {
         let mut named = Vec::new(alloc);
         for noted in &trace.notes {
             if trace.name(*noted).is_some() {
@@ -285,7 +284,12 @@ pub fn lay_out(alloc: Global, trace: &Trace) -> Result<Layout, AllocError>
 ///
 /// # Errors
 /// `OutOfMemory`
-pub fn lay_out_from(alloc: Global, trace: &Trace, first: usize, end: usize) -> Result<Layout, AllocError>
+pub fn lay_out_from(
+    alloc: Global,
+    trace: &Trace,
+    first: usize,
+    end: usize,
+) -> Result<Layout, AllocError>
     ensures offsets { IfOk result (λ layout. offsets_of layout ≡ offsets_in (events_in trace.now first end)) }
     ensures nodes { IfOk result (IsLayout (shapes_in (events_in trace.now first end))) }
 {

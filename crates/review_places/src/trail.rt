@@ -137,7 +137,12 @@ impl Trail {
     }
 
     /// The steps from the document to the node that began last.
-    fn put_steps(&self, alloc: Global, out: &mut String, events: &[Event<'_>]) -> Result<(), AllocError>
+    fn put_steps(
+        &self,
+        alloc: Global,
+        out: &mut String,
+        events: &[Event<'_>],
+    ) -> Result<(), AllocError>
         ensures ok { OnOk result (string_bytes out.new ≡ string_bytes out.old ++ steps_text (map event_of events.now) (open_frames self.now)) }
     {
         'frames: for frame in &self.frames {

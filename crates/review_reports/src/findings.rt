@@ -114,7 +114,12 @@ fn place_of(line: &Line, sign: Sign) -> Option<Place>
 }
 
 /// A difference of two files of these names, at the right one unless that has nothing there.
-fn difference_found(alloc: Global, left: &str, right: &str, line: &Line) -> Result<Finding, AllocError>
+fn difference_found(
+    alloc: Global,
+    left: &str,
+    right: &str,
+    line: &Line,
+) -> Result<Finding, AllocError>
     ensures ok { IfOk result (IsDifference left.now right.now line.now) }
 {
     let sides = sides_of(alloc, line)?;
@@ -182,7 +187,11 @@ fn warning_words(alloc: Global, warning: &Warning) -> Result<String, AllocError>
 }
 
 /// A scalar or a name that other tools read otherwise.
-pub(crate) fn warning_found(alloc: Global, name: &str, warning: &Warning) -> Result<Finding, AllocError>
+pub(crate) fn warning_found(
+    alloc: Global,
+    name: &str,
+    warning: &Warning,
+) -> Result<Finding, AllocError>
     ensures ok { IfOk result (IsFoundWarning name.now warning.now) }
 {
     Ok(Finding {

@@ -77,7 +77,12 @@ fn put_name(alloc: Global, out: &mut String, form: Form, name: &str) -> Result<(
 }
 
 /// Writes that one folder alone has a file: the words below its name, or before it where no lines are printed.
-fn put_alone_line(out: &mut String, is_listed: bool, words: &str, name: &str) -> Result<(), AllocError>
+fn put_alone_line(
+    out: &mut String,
+    is_listed: bool,
+    words: &str,
+    name: &str,
+) -> Result<(), AllocError>
     ensures ok { OnOk result (string_bytes out.new ≡ string_bytes out.old ++ alone_line is_listed words.now name.now) }
 {
     if is_listed {

@@ -6,6 +6,7 @@ ghost use Rattle.review_formats.specs.declared.finding.Sign.TheVariants as signs
 ghost use Rattle.review_reports.specs.FolderPages.{BytesFaults, FileFaults, alone_rule, ShowsSign, IsAlone, IsList, RejectedFound, BothFound, DeletedFound, NewFound, HasFound, HasPart, FindsParts, WritesParts, FolderShows};
 
 use crate::entry::{Entry, Has, are_equal, path_in, status_of};
+use crate::pages::fault_list;
 use crate::parts::{lines_shown, list_found, parts_text};
 use review_compare::{fault_of, list_sides};
 use review_files::files::read_file;
@@ -14,7 +15,6 @@ use review_files::telling::{put_line, tell_bare};
 use review_files::unread::{Unread, greater};
 use review_formats::{Finding, LeftOut, Level, Part, Sides, Sign};
 use review_patterns::Pattern;
-use crate::pages::fault_list;
 use review_text::options::{Diff, Page};
 use review_text::put_visible;
 use std::alloc::{AllocError, Global};
@@ -53,8 +53,7 @@ fn part_with(list: Vec<Finding>) -> Part
 }
 
 /// The lines of a file, with escapes for the characters that would not be seen: of a long file the first ones.
-fn content_of(alloc: Global, bytes: &[u8]) -> Result<String, AllocError>
-{
+fn content_of(alloc: Global, bytes: &[u8]) -> Result<String, AllocError> {
     let mut out = String::new(alloc);
     let text = str::from_utf8(bytes).unwrap_or("");
     for (number, line) in text

@@ -64,7 +64,11 @@ pub fn fault_list(
 }
 
 /// Warnings of a file, as they are found.
-fn warnings_found(alloc: Global, name: &str, warnings: &[Warning]) -> Result<Vec<Finding>, AllocError>
+fn warnings_found(
+    alloc: Global,
+    name: &str,
+    warnings: &[Warning],
+) -> Result<Vec<Finding>, AllocError>
     ensures ok { IfOk result (λ list. AreFoundWarnings name.now warnings.now list.items) }
 {
     let mut list = Vec::new(alloc);

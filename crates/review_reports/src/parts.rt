@@ -2,10 +2,10 @@
 ghost use Rattle.std.specs.Prelude.{◌≡◌, IfOk, string_bytes};
 ghost use Rattle.review_reports.specs.Parts.{ListsAll, IsShown, ShowsLines, AreParts, IsPartsText};
 
-use review_formats::{Finding, Findings, Part, Shown};
-use review_lines::Listed;
 use crate::findings::differences_found;
 use crate::pages::page_text;
+use review_formats::{Finding, Findings, Part, Shown};
+use review_lines::Listed;
 use review_text::options::{Diff, Page};
 use review_text::put_visible;
 use std::alloc::{AllocError, Global};

@@ -160,7 +160,12 @@ fn sides(text: &[u8], at: usize) -> (&[u8], &[u8])
 ///
 /// # Errors
 /// `OutOfMemory`
-pub fn put_source_line(alloc: Global, out: &mut String, text: &[u8], at: usize) -> Result<(), AllocError>
+pub fn put_source_line(
+    alloc: Global,
+    out: &mut String,
+    text: &[u8],
+    at: usize,
+) -> Result<(), AllocError>
     ensures ok { OnOk result (PutsLine text.now (min at (length text.now)) (string_bytes out.old) (string_bytes out.new)) }
 {
     let (left, right) = sides(text, at.min(text.len()));

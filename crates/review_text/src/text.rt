@@ -292,7 +292,12 @@ fn put_entries(
 /// The text of a node. One of more bytes than there is room for is cut at the end of a character, and ends with `...`.
 ///
 /// A whole text ends with `"`, `]` or `}`, so a `.` at the end tells a cut.
-pub fn node_text(alloc: Global, both: &Both<'_>, id: NodeId, room: usize) -> Result<String, AllocError>
+pub fn node_text(
+    alloc: Global,
+    both: &Both<'_>,
+    id: NodeId,
+    room: usize,
+) -> Result<String, AllocError>
     requires { RanksAre both.now.graph both.now.ranks }
     ensures ok { IfOk result (λ s. string_bytes s ≡ shown room (text_of (tree both.now.graph id.0))) }
 {
@@ -321,7 +326,12 @@ fn name_of<'b>(both: &'b Both<'_>, key: NodeId) -> Option<&'b str>
 }
 
 /// The text of a step to the value of a key.
-pub fn put_key(alloc: Global, out: &mut String, both: &Both<'_>, key: NodeId) -> Result<(), AllocError>
+pub fn put_key(
+    alloc: Global,
+    out: &mut String,
+    both: &Both<'_>,
+    key: NodeId,
+) -> Result<(), AllocError>
     requires { RanksAre both.now.graph both.now.ranks }
     ensures ok { OnOk result (string_bytes out.new ≡ string_bytes out.old ++ key_text (tree both.now.graph key.0)) }
 {

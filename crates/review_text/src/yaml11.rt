@@ -62,8 +62,7 @@ fn bases(alloc: Global) -> Result<String, AllocError>
 }
 
 /// Which number a text is by base 10, and which by base 8.
-fn numbers(alloc: Global, text: &str) -> Result<String, AllocError>
-{
+fn numbers(alloc: Global, text: &str) -> Result<String, AllocError> {
     match i128::from_str_radix(text, 10) {
         Ok(here) => match i128::from_str_radix(text, 8) {
             Ok(there) => {

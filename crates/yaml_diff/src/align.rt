@@ -59,7 +59,11 @@ fn equal_back(ranks: &Ranks, lefts: &[NodeId], rights: &[NodeId], front: usize) 
 
 /// Takes the items from these places up to those in turn, and behind them those of the longer side alone.
 #[tactic(auto, using(crate::proofs::AlignLaws::step_both, crate::proofs::AlignLaws::step_left, crate::proofs::AlignLaws::step_right, crate::proofs::AlignLaws::turns_done))]
-fn take_turns(list: &mut Vec<Places>, from: (usize, usize), to: (usize, usize)) -> Result<(), AllocError>
+fn take_turns(
+    list: &mut Vec<Places>,
+    from: (usize, usize),
+    to: (usize, usize),
+) -> Result<(), AllocError>
     requires left { from.0 ≤ to.0 }
     requires right { from.1 ≤ to.1 }
     ensures ok { OnOk result (list.new.items ≡ list.old.items ++ turns from.0 from.1 (to.0 - from.0) (to.1 - from.1)) }
@@ -135,7 +139,11 @@ fn in_turn(
 
 /// Takes the items from these places up to those for each other, of which there are equally many on both sides.
 #[tactic(auto, using(crate::proofs::CrossLaws::pair_step, crate::proofs::AlignLaws::turns_done))]
-fn put_pairs(steps: &mut Vec<Step>, from: (usize, usize), to: (usize, usize)) -> Result<(), AllocError>
+fn put_pairs(
+    steps: &mut Vec<Step>,
+    from: (usize, usize),
+    to: (usize, usize),
+) -> Result<(), AllocError>
     requires left { from.0 ≤ to.0 }
     requires right { from.1 ≤ to.1 }
     requires level { to.0 - from.0 ≡ to.1 - from.1 }
@@ -162,7 +170,11 @@ fn put_steps(steps: &mut Vec<Step>, more: &[Step]) -> Result<(), AllocError>
 
 /// The steps as places, if they are right.
 #[tactic(auto, using(crate::proofs::LookLaws::checked_is))]
-fn checked(alloc: Global, steps: &[Step], lens: (usize, usize)) -> Result<Option<Aligned>, AllocError>
+fn checked(
+    alloc: Global,
+    steps: &[Step],
+    lens: (usize, usize),
+) -> Result<Option<Aligned>, AllocError>
     ensures ok { IfOk result (λ it. IfSome it (λ a. Checked steps.now a.list.items a.moved.items lens.0 lens.1)) }
 {
     let moved = moved_of(alloc, steps)?;

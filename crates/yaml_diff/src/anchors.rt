@@ -40,8 +40,7 @@ fn shared(
     alloc: Global,
     lefts: &[(usize, usize)],
     rights: &[(usize, usize)],
-) -> Result<Vec<(usize, usize)>, AllocError>
-{
+) -> Result<Vec<(usize, usize)>, AllocError> {
     let mut pairs = Vec::new(alloc);
     let mut next = 0;
     for (rank, left) in lefts {
@@ -78,8 +77,10 @@ fn piles_before(pairs: &[(usize, usize)], tops: &[usize], right: usize) -> usize
 }
 
 /// As many of the pairs, whose left places rise, as there can be with rising right places.
-fn longest_rising(alloc: Global, pairs: &[(usize, usize)]) -> Result<Vec<(usize, usize)>, AllocError>
-{
+fn longest_rising(
+    alloc: Global,
+    pairs: &[(usize, usize)],
+) -> Result<Vec<(usize, usize)>, AllocError> {
     let mut tops = Vec::new(alloc);
     let mut before = Vec::new(alloc);
     for (index, pair) in pairs.iter().enumerate() {

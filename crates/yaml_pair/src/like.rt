@@ -20,8 +20,7 @@ fn put_items(
     item: NodeId,
     place: usize,
     all: &mut Vec<(Entry, usize)>,
-) -> Result<(), AllocError>
-{
+) -> Result<(), AllocError> {
     let mut ranks = Vec::new(alloc);
     for part in view.items(item) {
         ranks.push(view.rank(*part))?;
@@ -40,8 +39,7 @@ fn entries(
     view: View<'_>,
     items: &[NodeId],
     places: &[Option<usize>],
-) -> Result<Vec<(Entry, usize)>, AllocError>
-{
+) -> Result<Vec<(Entry, usize)>, AllocError> {
     let mut all = Vec::new(alloc);
     for (place, item) in items.iter().enumerate() {
         if is_free(places, place) {
@@ -67,8 +65,7 @@ fn links(
     alloc: Global,
     lefts: &[(Entry, usize)],
     rights: &[(Entry, usize)],
-) -> Result<Vec<(usize, usize, usize)>, AllocError>
-{
+) -> Result<Vec<(usize, usize, usize)>, AllocError> {
     let mut links = Vec::new(alloc);
     for (entry, left) in lefts {
         let here = range_of(lefts, *entry);
@@ -95,8 +92,7 @@ fn put_alike(
     left: usize,
     near: &[usize],
     alike: &mut Vec<Likeness>,
-) -> Result<(), AllocError>
-{
+) -> Result<(), AllocError> {
     for (index, right) in near.iter().enumerate() {
         let start = near.partition_point(|it| *it < *right);
         let end = near.partition_point(|it| *it <= *right);
@@ -125,8 +121,7 @@ fn all_alike(
     rights: &[NodeId],
     links: &[(usize, usize, usize)],
     entries: &[(Entry, usize)],
-) -> Result<Vec<Likeness>, AllocError>
-{
+) -> Result<Vec<Likeness>, AllocError> {
     let mut alike = Vec::new(alloc);
     let mut near = Vec::new(alloc);
     let mut current = 0;

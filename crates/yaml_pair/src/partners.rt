@@ -51,8 +51,7 @@ impl Partners {
     }
 
     /// The pairs in the order of their left places.
-    pub(crate) fn pairs(&self, alloc: Global) -> Result<Vec<(usize, usize)>, AllocError>
-    {
+    pub(crate) fn pairs(&self, alloc: Global) -> Result<Vec<(usize, usize)>, AllocError> {
         let mut pairs = Vec::new(alloc);
         for (left, partner) in self.lefts.iter().enumerate() {
             if let Some(right) = partner {
@@ -77,7 +76,11 @@ fn is_known<'g>(places: &Places<'g>, name: &Name<'g>) -> bool
 }
 
 /// Notes the place of a name, or that several have it.
-fn note<'g>(places: &mut Places<'g>, name: &Name<'g>, alone: Option<usize>) -> Result<(), AllocError>
+fn note<'g>(
+    places: &mut Places<'g>,
+    name: &Name<'g>,
+    alone: Option<usize>,
+) -> Result<(), AllocError>
     ensures ok { OnOk result ((q : Name) → get name_cmp places.new q ≡ cond (is_one name.now q) (Some alone) (get name_cmp places.old q)) }
 {
     places.insert(*name, alone)?;

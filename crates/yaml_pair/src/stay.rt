@@ -45,8 +45,7 @@ pub(crate) fn stayers(
     alloc: Global,
     pairs: &[(usize, usize)],
     bound: usize,
-) -> Result<Vec<(usize, usize)>, AllocError>
-{
+) -> Result<Vec<(usize, usize)>, AllocError> {
     let step = pairs.len().saturating_add(1);
     let mut best = vec![in alloc; (0, 0); bound.saturating_add(1)]?;
     let mut before = Vec::new(alloc);

@@ -24,8 +24,7 @@ fn singles<'g>(
     columns: &[Column<'_>],
     items: &[NodeId],
     places: &[Option<usize>],
-) -> Result<Vec<Single<'g>>, AllocError>
-{
+) -> Result<Vec<Single<'g>>, AllocError> {
     let mut list = Vec::new(alloc);
     for (place, item) in items.iter().enumerate() {
         if is_free(places, place) {

@@ -15,11 +15,11 @@ ghost use Rattle.yaml_show.specs.Shows.{written_in};
 
 use crate::manner::Manner;
 use crate::unshown::Unshown;
+use crate::{Nodes, Unwritten, block_text, json_lines, sharing_text, source_text};
 use std::alloc::Global;
 use yaml_canon::both::{BothForests, forest_of_both};
 use yaml_canon::canonical;
 use yaml_rank::rank;
-use crate::{Nodes, Unwritten, block_text, json_lines, sharing_text, source_text};
 use yaml_show_scalar::Stop;
 use yaml_text::fault::Fault;
 

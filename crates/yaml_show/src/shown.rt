@@ -9,9 +9,9 @@ ghost use Rattle.yaml_show.specs.Lines.{LinesOf};
 ghost use Rattle.yaml_show.specs.Refused.{RefusesBy, ShowRefuses, AsReadRefuses, SharingRefuses, IsLengthOrMemory, JsonRefuses};
 ghost use Rattle.yaml_show.specs.Shows.{written_in, ShowsBy, Shows, ShowsAsRead, ShowsSharing};
 
+use crate::checked_json::are_json_lines;
 use crate::checking::is_alike;
 use crate::joining::join;
-use crate::checked_json::are_json_lines;
 use crate::manner::Manner;
 use crate::presenting::{readable_text, written_lines};
 use crate::unshown::Unshown;

@@ -3,9 +3,9 @@ ghost use Rattle.std.specs.Prelude.{◌≡◌, ◌≤◌, ◌++◌, length, code
 ghost use Rattle.std.specs.List.{filter, flat_map};
 ghost use Rattle.yaml_unified.specs.Unified.{is_left, is_right, start, range_text, head_text, end_text, line_text, hunk_text};
 
+use crate::{Edit, Piece};
 use itoa::Buffer;
 use std::alloc::AllocError;
-use crate::{Edit, Piece};
 
 /// What follows a line that no line feed ends.
 const NO_END: &str = "\n\\ No newline at end of file\n";
@@ -63,7 +63,12 @@ fn put_range(out: &mut String, line: usize, count: usize) -> Result<(), AllocErr
 }
 
 /// Writes the first line of a hunk.
-fn put_head(out: &mut String, left: usize, right: usize, shown: &[Edit<'_>]) -> Result<(), AllocError>
+fn put_head(
+    out: &mut String,
+    left: usize,
+    right: usize,
+    shown: &[Edit<'_>],
+) -> Result<(), AllocError>
     ensures ok { OnOk result (string_bytes out.new ≡ string_bytes out.old ++ head_text left right shown.now) }
 {
     out.push_str("@@ -")?;

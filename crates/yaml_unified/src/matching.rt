@@ -97,8 +97,7 @@ impl<'t> Both<'_, 't> {
     }
 
     /// The lines that a range has once on either side, by their places, of which the left ones rise.
-    fn lone(self, alloc: Global, range: Range) -> Result<Vec<(usize, usize)>, AllocError>
-    {
+    fn lone(self, alloc: Global, range: Range) -> Result<Vec<(usize, usize)>, AllocError> {
         let mut seen: BTreeMap<&'t str, Seen> = BTreeMap::new(alloc);
         for place in range.left..range.left_end {
             if let Some(piece) = self.left.get(place) {
@@ -127,8 +126,7 @@ impl<'t> Both<'_, 't> {
     }
 
     /// For each two places of a small range, by rows: how many equal lines there are from them on in one order.
-    fn table(self, alloc: Global, range: Range, width: usize) -> Result<Vec<usize>, AllocError>
-    {
+    fn table(self, alloc: Global, range: Range, width: usize) -> Result<Vec<usize>, AllocError> {
         let height = range.left_end.saturating_sub(range.left).saturating_add(1);
         let mut table = vec![in alloc; 0usize; height.saturating_mul(width)]?;
         for row in (range.left..range.left_end).rev() {
@@ -157,8 +155,7 @@ impl<'t> Both<'_, 't> {
         alloc: Global,
         range: Range,
         pairs: &mut Vec<(usize, usize)>,
-    ) -> Result<(), AllocError>
-    {
+    ) -> Result<(), AllocError> {
         let width = range
             .right_end
             .saturating_sub(range.right)
@@ -215,8 +212,7 @@ impl<'t> Both<'_, 't> {
         alloc: Global,
         range: Range,
         pairs: &mut Vec<(usize, usize)>,
-    ) -> Result<(), AllocError>
-    {
+    ) -> Result<(), AllocError> {
         let Inner {
             front,
             middle,
@@ -243,8 +239,7 @@ fn put_run(
     left: usize,
     right: usize,
     count: usize,
-) -> Result<(), AllocError>
-{
+) -> Result<(), AllocError> {
     for place in 0..count {
         pairs.push((left.saturating_add(place), right.saturating_add(place)))?;
     }
@@ -281,8 +276,10 @@ fn piles_before(pairs: &[(usize, usize)], tops: &[usize], right: usize) -> usize
 }
 
 /// As many of the pairs, whose left places rise, as there can be with rising right places.
-fn longest_rising(alloc: Global, pairs: &[(usize, usize)]) -> Result<Vec<(usize, usize)>, AllocError>
-{
+fn longest_rising(
+    alloc: Global,
+    pairs: &[(usize, usize)],
+) -> Result<Vec<(usize, usize)>, AllocError> {
     let mut tops: Vec<usize> = Vec::new(alloc);
     let mut before: Vec<Option<usize>> = Vec::new(alloc);
     for (index, pair) in pairs.iter().enumerate() {
@@ -316,8 +313,7 @@ pub(crate) fn pairs_of(
     alloc: Global,
     left: &[Piece<'_>],
     right: &[Piece<'_>],
-) -> Result<Vec<(usize, usize)>, AllocError>
-{
+) -> Result<Vec<(usize, usize)>, AllocError> {
     let both = Both { left, right };
     let whole = Range {
         left: 0,

@@ -135,7 +135,11 @@ fn script_by<'t>(
 }
 
 /// A script from a text to another, in n log n steps.
-pub fn script_of<'t>(alloc: Global, left: &'t str, right: &'t str) -> Result<Vec<Edit<'t>>, AllocError>
+pub fn script_of<'t>(
+    alloc: Global,
+    left: &'t str,
+    right: &'t str,
+) -> Result<Vec<Edit<'t>>, AllocError>
     ensures ok { IfOk result (λ edits. IsScript left.now right.now edits.items) }
 {
     let lefts = pieces_of(alloc, left)?;

@@ -2,10 +2,10 @@
 ghost use Rattle.std.specs.Prelude.{◌≡◌, ◌<◌, ◌≤◌, ◌+◌, ◌^◌, length, string_bytes, OnOk, IfOk};
 ghost use Rattle.yaml_unified.specs.Unified.{IsFirstChange, PutsHunk, PutsHunks};
 
+use crate::Edit;
 use crate::hunk::{lefts, put_hunk, rights};
 use crate::places::{first_change, hunk_len};
 use std::alloc::AllocError;
-use crate::Edit;
 
 /// The edits that are not written yet, and the lines of both texts at which they begin.
 #[derive(Clone, Copy)]

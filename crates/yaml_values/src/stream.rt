@@ -8,14 +8,14 @@ ghost use Rattle.yaml_canon.specs.Both.{HasBoth};
 ghost use Rattle.yaml_canon.specs.Claims.{CanonicalRefuses};
 ghost use Rattle.yaml_values.specs.ValuesOf.{AreValuesOf, AreValues};
 
+use crate::Values;
+use crate::making::values_of;
 use crate::ranked::ranked_of;
 use std::alloc::Global;
 use yaml_canon::both::{BothForests, forest_of_both};
 use yaml_canon::canonical;
 use yaml_canon::laws::nothing_else_is_refused;
 use yaml_text::fault::Fault;
-use crate::Values;
-use crate::making::values_of;
 
 /// The values of the left one of two streams.
 fn values_made(alloc: Global, both: BothForests<'_>) -> Result<Values, Fault>

@@ -10,4 +10,4 @@ loop-warning-preserved c =
     flat_next (warning_text c.args.form c.args.name.now) c.args.list.now c.loop-warning.warning-index c.warning-item.result _ _ _ (omega arith) c.loop-warning.invariant put
 
 pub returns : goal.returns
-returns c = record { ok = (flat_all (warning_text c.args.form c.args.name.now) c.args.list.now c.loop-warning.warning-index _ _ (omega arith) c.loop-warning.invariant); }
+returns c = record { ok = (flat_all (warning_text c.args.form c.args.name.now) c.args.list.now c.loop-warning.warning-index _ _ (omega arith) c.loop-warning.invariant) }

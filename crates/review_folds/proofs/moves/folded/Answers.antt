@@ -12,4 +12,4 @@ loop-at-preserved c =
     }
 
 pub returns : goal.returns
-returns c = record { ok = (subst (λ z. Groups true c.args.ranges c.args.found.now 0 z c.loop-at.groups.items) (omega (arith, c.loop-at.invariant.within, c.loop-at-test.false)) c.loop-at.invariant.groups); }
+returns c = record { ok = (subst (λ z. Groups true c.args.ranges c.args.found.now 0 z c.loop-at.groups.items) (omega (arith, c.loop-at.invariant.within, c.loop-at-test.false)) c.loop-at.invariant.groups) }

@@ -9,4 +9,4 @@ loop-first-preserved c =
     groups_more false c.args.ranges c.args.found.now 0 at c.loop-first.groups.items _ (record { first = at; end = at + 1; whole = false }) c.loop-first.invariant refl (omega arith) (range_one c.args.found.now.moves.items at (at + 1) refl, λ l. absurd (omega (arith, l))) c.in_ok-push.ensures.items
 
 pub returns : goal.returns
-returns c = record { ok = (subst (λ z. Groups false c.args.ranges c.args.found.now 0 z c.loop-first.groups.items) (omega arith) c.loop-first.invariant); }
+returns c = record { ok = (subst (λ z. Groups false c.args.ranges c.args.found.now 0 z c.loop-first.groups.items) (omega arith) c.loop-first.invariant) }

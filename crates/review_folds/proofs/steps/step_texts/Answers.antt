@@ -12,10 +12,12 @@ pub steps-init : goal.steps-init
 steps-init c = sym (append-nil _)
 
 pub returns : goal.returns
-returns c = record { ok = (
-    let t = YieldsList-end (YieldsList-from_rev_slice c.in-Some.steps.now cc) c.steps.yielded _ c.steps.yielded_by _ _ c.in-None.is c.next.ensures.steps in
-    let g = c.args.both.now.graph in
-    let d = c.in-Some.document.now in
-    let split : c.args.path.now ≡ c.in-Some.steps.now ++ (d ∷ []) = search rules in
-    let first : map string_bytes c.push.new.self.items ≡ visible (first_text (step_of g d)) ∷ [] = search rules in
-    all_written g c.args.path.now c.in-Some.steps.now (map (λ s. s.now) c.steps.yielded) d _ _ split t.0 first c.steps.invariant); }
+returns c = record {
+  ok = (
+      let t = YieldsList-end (YieldsList-from_rev_slice c.in-Some.steps.now cc) c.steps.yielded _ c.steps.yielded_by _ _ c.in-None.is c.next.ensures.steps in
+      let g = c.args.both.now.graph in
+      let d = c.in-Some.document.now in
+      let split : c.args.path.now ≡ c.in-Some.steps.now ++ (d ∷ []) = search rules in
+      let first : map string_bytes c.push.new.self.items ≡ visible (first_text (step_of g d)) ∷ [] = search rules in
+      all_written g c.args.path.now c.in-Some.steps.now (map (λ s. s.now) c.steps.yielded) d _ _ split t.0 first c.steps.invariant);
+}

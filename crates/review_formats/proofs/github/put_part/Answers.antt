@@ -10,4 +10,4 @@ findings-preserved c =
     flat_next finding_line c.args.part.now.list.items c.findings.finding-index _ _ _ _ (omega (arith, c.findings-test.true)) c.findings.invariant (c.in_ok-put_finding.ensures.ok ∙ ap (λ z. string_bytes c.findings.out ++ finding_line z) is)
 
 pub returns : goal.returns
-returns c = record { ok = (flat_all finding_line c.args.part.now.list.items c.findings.finding-index _ _ (omega (arith, c.findings-test.false)) c.findings.invariant); }
+returns c = record { ok = (flat_all finding_line c.args.part.now.list.items c.findings.finding-index _ _ (omega (arith, c.findings-test.false)) c.findings.invariant) }

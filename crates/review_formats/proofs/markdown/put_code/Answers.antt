@@ -12,10 +12,12 @@ pub parts-preserved : goal.parts-preserved
 parts-preserved c = yield_next code_part (λ p. (p.0, p.1.now)) c.parts.yielded (c.in-Some.number, c.in-Some.part) _ _ _ c.parts.invariant c.in_ok-put_code_part.ensures.ok
 
 pub returns : goal.returns
-returns c = record { ok = (
-    let t = YieldsList-end (YieldsList-from_enumerate (YieldsList-from_str_split 64 c.args.code.now (lit< tt) (cc) (cc) (cc)) (cc)) c.parts.yielded _ c.parts.yielded_by _ _ c.in-None.is c.next.ensures.steps in
-    let start = string_bytes c.args.out.now in
-    let begun = string_bytes c.push_str.new.self in
-    let parts = flat_map code_part (enumerate_from 0 (slice_split (λ b. b == 64) c.args.code.now)) in
-    two_put start begun (string_bytes c.push_str-2.new.self) (codes "<code>") (parts ++ codes "</code>") c.in_ok-push_str.ensures.bytes
-    (two_put begun (string_bytes c.parts.out) (string_bytes c.push_str-2.new.self) parts (codes "</code>") (c.parts.invariant ∙ ap (λ z. begun ++ flat_map code_part z) t.0) c.in_ok-push_str-2.ensures.bytes)); }
+returns c = record {
+  ok = (
+      let t = YieldsList-end (YieldsList-from_enumerate (YieldsList-from_str_split 64 c.args.code.now (lit< tt) (cc) (cc) (cc)) (cc)) c.parts.yielded _ c.parts.yielded_by _ _ c.in-None.is c.next.ensures.steps in
+      let start = string_bytes c.args.out.now in
+      let begun = string_bytes c.push_str.new.self in
+      let parts = flat_map code_part (enumerate_from 0 (slice_split (λ b. b == 64) c.args.code.now)) in
+      two_put start begun (string_bytes c.push_str-2.new.self) (codes "<code>") (parts ++ codes "</code>") c.in_ok-push_str.ensures.bytes
+      (two_put begun (string_bytes c.parts.out) (string_bytes c.push_str-2.new.self) parts (codes "</code>") (c.parts.invariant ∙ ap (λ z. begun ++ flat_map code_part z) t.0) c.in_ok-push_str-2.ensures.bytes));
+}

@@ -6,4 +6,4 @@ pub loop-piece-preserved : goal.loop-piece-preserved
 loop-piece-preserved c = pieces_next c.args.pieces.now c.loop-piece.piece-index _ _ _ _ (omega (arith, c.loop-piece-test.true)) c.loop-piece.invariant c.in_ok-put_piece.ensures.ok
 
 pub returns : goal.returns
-returns c = record { ok = (pieces_all c.args.pieces.now c.loop-piece.piece-index _ _ (omega (arith, c.loop-piece-test.false)) c.loop-piece.invariant); }
+returns c = record { ok = (pieces_all c.args.pieces.now c.loop-piece.piece-index _ _ (omega (arith, c.loop-piece-test.false)) c.loop-piece.invariant) }

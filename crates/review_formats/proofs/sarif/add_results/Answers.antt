@@ -10,4 +10,4 @@ findings-preserved c =
     push_next result_data view c.args.part.now.list.items c.findings.finding-index _ _ _ c.in_ok-result_of.field-0 _ (omega (arith, c.findings-test.true)) c.findings.invariant c.in_ok-push.ensures.items (c.in_ok-result_of.ensures.ok ∙ ap result_data is)
 
 pub returns : goal.returns
-returns c = record { ok = (push_all result_data view c.args.part.now.list.items c.findings.finding-index _ _ (omega (arith, c.findings-test.false)) c.findings.invariant); }
+returns c = record { ok = (push_all result_data view c.args.part.now.list.items c.findings.finding-index _ _ (omega (arith, c.findings-test.false)) c.findings.invariant) }

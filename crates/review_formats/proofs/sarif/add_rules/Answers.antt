@@ -9,4 +9,4 @@ findings-preserved c =
     rule_next c.args.part.now.list.items c.findings.finding-index _ _ _ _ (omega (arith, c.findings-test.true)) c.findings.invariant (c.in_ok-add_rule.ensures.ok ∙ ap (λ z. with_rule (texts_of c.findings.rules.items) z.rule.now) is)
 
 pub returns : goal.returns
-returns c = record { ok = (rule_all c.args.part.now.list.items c.findings.finding-index _ _ (omega (arith, c.findings-test.false)) c.findings.invariant); }
+returns c = record { ok = (rule_all c.args.part.now.list.items c.findings.finding-index _ _ (omega (arith, c.findings-test.false)) c.findings.invariant) }

@@ -19,9 +19,11 @@ parts-preserved c =
     c.parts.invariant (c.in_ok-put_part_links.ensures.ok ∙ ap (λ z. out ++ part_links (at + 1, before, z)) c.index-parts-at.is)
 
 pub returns : goal.returns
-returns c = record { ok = (
-    let links = flat_map part_links (numbered 1 0 c.args.parts.now) in
-    let begun = string_bytes c.push_str.new.self in
-    let end = string_bytes c.push_str-2.new.self in
-    two_put (string_bytes c.args.out.now) begun end (codes "<nav aria-label=\"All that is found\">\n") (links ++ codes "</nav>\n") c.in_ok-push_str.ensures.bytes
-    (two_put begun (string_bytes c.parts.out) end links (codes "</nav>\n") (flat_done part_links _ _ _ (parts_done c.args.parts.now (c.parts.at + 1) c.parts.before c.parts.at (omega (arith, c.parts-test.false))) c.parts.invariant) c.in_ok-push_str-2.ensures.bytes)); }
+returns c = record {
+  ok = (
+      let links = flat_map part_links (numbered 1 0 c.args.parts.now) in
+      let begun = string_bytes c.push_str.new.self in
+      let end = string_bytes c.push_str-2.new.self in
+      two_put (string_bytes c.args.out.now) begun end (codes "<nav aria-label=\"All that is found\">\n") (links ++ codes "</nav>\n") c.in_ok-push_str.ensures.bytes
+      (two_put begun (string_bytes c.parts.out) end links (codes "</nav>\n") (flat_done part_links _ _ _ (parts_done c.args.parts.now (c.parts.at + 1) c.parts.before c.parts.at (omega (arith, c.parts-test.false))) c.parts.invariant) c.in_ok-push_str-2.ensures.bytes));
+}

@@ -19,4 +19,4 @@ links-preserved c =
     (c.in_ok-put_link.ensures.ok ∙ ap (λ z. out ++ link_text z one) c.number_after.ensures ∙ ap (λ z. out ++ link_text (number_after n) z) c.index-list-at.is)
 
 pub returns : goal.returns
-returns c = record { ok = (flat_done link_item _ _ _ (enum_done c.args.list.now (c.args.before + c.links.at) c.links.at (omega (arith, c.links-test.false))) c.links.invariant); }
+returns c = record { ok = (flat_done link_item _ _ _ (enum_done c.args.list.now (c.args.before + c.links.at) c.links.at (omega (arith, c.links-test.false))) c.links.invariant) }

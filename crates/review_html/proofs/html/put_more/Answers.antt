@@ -1,4 +1,4 @@
 use Rattle.review_html.proofs.html.put_more.Goals as goal
 
 pub returns : goal.returns
-returns c = record { ok = (rw c.left_out.ensures at c.put_between.ensures.ok); }
+returns c = record { ok = (rw c.left_out.ensures at c.put_between.ensures.ok) }

@@ -20,4 +20,4 @@ parts-preserved c =
     c.parts.invariant (subst (λ z. IsPartText (at + 1, before, z) w.0) c.index-parts-at.is w.1) w.2
 
 pub returns : goal.returns
-returns c = record { ok = (on_done IsPartText (numbered 1 0 c.args.parts.now) (string_bytes c.args.out.now) _ _ (parts_done c.args.parts.now (c.parts.at + 1) c.parts.before c.parts.at (omega (arith, c.parts-test.false))) c.parts.invariant); }
+returns c = record { ok = (on_done IsPartText (numbered 1 0 c.args.parts.now) (string_bytes c.args.out.now) _ _ (parts_done c.args.parts.now (c.parts.at + 1) c.parts.before c.parts.at (omega (arith, c.parts-test.false))) c.parts.invariant) }

@@ -20,4 +20,4 @@ sections-preserved c =
     (c.in_ok-put_section.ensures.ok ∙ ap (λ z. out ++ (front_text z one ++ (body_text c.args.number one ++ codes "</section>\n"))) c.number_after.ensures ∙ ap (λ z. out ++ section_text c.args.number (n, z)) c.index-list-at.is)
 
 pub returns : goal.returns
-returns c = record { ok = (flat_done (section_text c.args.number) _ _ _ (enum_done c.args.list.now (c.args.before + c.sections.at) c.sections.at (omega (arith, c.sections-test.false))) c.sections.invariant); }
+returns c = record { ok = (flat_done (section_text c.args.number) _ _ _ (enum_done c.args.list.now (c.args.before + c.sections.at) c.sections.at (omega (arith, c.sections-test.false))) c.sections.invariant) }

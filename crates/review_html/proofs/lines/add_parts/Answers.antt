@@ -9,6 +9,8 @@ pub parts-preserved : goal.parts-preserved
 parts-preserved c = push_step c.parts.lines.items c.push.new.self.items c.args.lines.now.items c.parts.yielded c.in-Some.part c.parts.invariant c.in_ok-push.ensures.items
 
 pub returns : goal.returns
-returns c = record { ok = (
-    let t = YieldsList-end (YieldsList-from_str_split 13 (without_last 13 c.args.line.now) (lit< tt) (cc) (cc) (cc)) c.parts.yielded _ c.parts.yielded_by _ _ c.in-None.is c.next.ensures.steps in
-    c.parts.invariant ∙ ap (λ z. map (λ one. one.now) c.args.lines.now.items ++ z) t.0); }
+returns c = record {
+  ok = (
+      let t = YieldsList-end (YieldsList-from_str_split 13 (without_last 13 c.args.line.now) (lit< tt) (cc) (cc) (cc)) c.parts.yielded _ c.parts.yielded_by _ _ c.in-None.is c.next.ensures.steps in
+      c.parts.invariant ∙ ap (λ z. map (λ one. one.now) c.args.lines.now.items ++ z) t.0);
+}

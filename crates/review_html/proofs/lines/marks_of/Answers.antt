@@ -18,4 +18,4 @@ findings-preserved c =
     (omega (arith, c.saturating_add-number.ensures, c.saturating_add.ensures)) set)
 
 pub returns : goal.returns
-returns c = record { ok = (marks-done c.args.side c.args.before c.args.list.now c.args.lines c.findings.at c.findings.marks.items c.findings-test.false c.findings.invariant); }
+returns c = record { ok = (marks-done c.args.side c.args.before c.args.list.now c.args.lines c.findings.at c.findings.marks.items c.findings-test.false c.findings.invariant) }

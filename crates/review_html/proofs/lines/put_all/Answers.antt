@@ -15,6 +15,8 @@ lines-preserved c =
     (lines_next c.args.lines.now c.lines.at (c.lines.at + 1) c.lines.at _ refl (omega (arith, c.lines-test.true))) c.lines.invariant w.1 w.2
 
 pub returns : goal.returns
-returns c = record { ok = (
-    on_done (ShowsLine c.args.side c.args.marks.now) (enumerate_from 0 (map (λ one. one.now) c.args.lines.now)) (string_bytes c.args.out.now) _ (string_bytes c.lines.out)
-    (lines_done c.args.lines.now c.lines.at c.lines.at (omega (arith, c.lines-test.false))) c.lines.invariant); }
+returns c = record {
+  ok = (
+      on_done (ShowsLine c.args.side c.args.marks.now) (enumerate_from 0 (map (λ one. one.now) c.args.lines.now)) (string_bytes c.args.out.now) _ (string_bytes c.lines.out)
+      (lines_done c.args.lines.now c.lines.at c.lines.at (omega (arith, c.lines-test.false))) c.lines.invariant);
+}

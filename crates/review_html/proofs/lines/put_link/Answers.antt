@@ -9,4 +9,4 @@ link_known zero l = absurd (omega (arith, l))
 link_known (suc n) l = refl
 
 pub returns-then-mark-gt0 : goal.returns-then-mark-gt0
-returns-then-mark-gt0 c = record { ok = (rw (link_known c.args.mark (omega (arith, c.if-mark-gt0.true))) c.put_pieces.ensures.ok); }
+returns-then-mark-gt0 c = record { ok = (rw (link_known c.args.mark (omega (arith, c.if-mark-gt0.true))) c.put_pieces.ensures.ok) }

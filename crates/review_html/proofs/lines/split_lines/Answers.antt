@@ -11,6 +11,8 @@ pub lines-preserved : goal.lines-preserved
 lines-preserved c = parts_step line_parts c.lines.yielded c.in-Some.line _ _ c.lines.invariant c.in_ok-add_parts.ensures.ok
 
 pub returns : goal.returns
-returns c = record { ok = (
-    let t = YieldsList-end (YieldsList-from_str_split 10 (without_end c.args.content.now) (lit< tt) (cc) (cc) (cc)) c.lines.yielded _ c.lines.yielded_by _ _ c.in-None.is c.next.ensures.steps in
-    c.lines.invariant ∙ ap (flat_map line_parts) t.0); }
+returns c = record {
+  ok = (
+      let t = YieldsList-end (YieldsList-from_str_split 10 (without_end c.args.content.now) (lit< tt) (cc) (cc) (cc)) c.lines.yielded _ c.lines.yielded_by _ _ c.in-None.is c.next.ensures.steps in
+      c.lines.invariant ∙ ap (flat_map line_parts) t.0);
+}

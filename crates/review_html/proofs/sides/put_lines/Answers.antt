@@ -12,6 +12,8 @@ pub lines-preserved : goal.lines-preserved
 lines-preserved c = yield_next line_text (λ line. line.now) c.lines.yielded c.in-Some.line _ _ _ c.lines.invariant c.in_ok-put_line.ensures.ok
 
 pub returns : goal.returns
-returns c = record { ok = (
-    let t = YieldsList-end (YieldsList-from_str_split 10 (without_end c.args.changes.now) (lit< tt) (cc) (cc) (cc)) c.lines.yielded _ c.lines.yielded_by _ _ c.in-None.is c.next.ensures.steps in
-    c.lines.invariant ∙ ap (λ z. string_bytes c.args.out.now ++ flat_map line_text z) t.0); }
+returns c = record {
+  ok = (
+      let t = YieldsList-end (YieldsList-from_str_split 10 (without_end c.args.changes.now) (lit< tt) (cc) (cc) (cc)) c.lines.yielded _ c.lines.yielded_by _ _ c.in-None.is c.next.ensures.steps in
+      c.lines.invariant ∙ ap (λ z. string_bytes c.args.out.now ++ flat_map line_text z) t.0);
+}

@@ -24,4 +24,4 @@ loop-number-preserved c =
     ]
 
 pub returns : goal.returns
-returns c = record { ok = (all_told c.args.both.now c.args.asked.now c.args.list.now c.args.counts.now c.loop-number.lines.items c.loop-number.number (omega arith) c.requires.level c.loop-number.invariant); }
+returns c = record { ok = (all_told c.args.both.now c.args.asked.now c.args.list.now c.args.counts.now c.loop-number.lines.items c.loop-number.number (omega arith) c.requires.level c.loop-number.invariant) }

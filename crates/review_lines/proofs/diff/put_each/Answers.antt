@@ -10,4 +10,4 @@ loop-line-preserved c =
     lines_next f c.args.lines.now c.loop-line.line-index c.line-item.result _ _ _ (omega arith) c.loop-line.invariant (c.in_ok-put.ensures.ok ∙ ap (λ z. string_bytes c.loop-line.text ++ line_text f z) c.line-item.is)
 
 pub returns : goal.returns
-returns c = record { ok = (lines_all c.args.asked.now c.args.lines.now c.loop-line.line-index _ _ (omega arith) c.loop-line.invariant); }
+returns c = record { ok = (lines_all c.args.asked.now c.args.lines.now c.loop-line.line-index _ _ (omega arith) c.loop-line.invariant) }

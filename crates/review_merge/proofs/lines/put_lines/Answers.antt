@@ -28,6 +28,8 @@ list-preserved c =
     (string_bytes c.put_conflict.new.out) (enum_next list at one (omega (arith, c.list-test.true))) c.list.invariant (subst (λ z. styled (at, z) c.list.budget.bytes c.put_conflict.new.budget.bytes w.0) c.index-list-number.is w.1) w.2
 
 pub returns : goal.returns
-returns c = record { ok = (
-    let list = c.args.list.now in
-    lines_done (IsStyled c.args.both.now c.args.style.now) (enumerate_from 0 list) budget (string_bytes c.args.out.now) (enumerate_from c.list.number (drop c.list.number list)) c.list.budget.bytes (string_bytes c.list.out) (enum_end list c.list.number (omega (arith, c.list-test.false))) c.list.invariant); }
+returns c = record {
+  ok = (
+      let list = c.args.list.now in
+      lines_done (IsStyled c.args.both.now c.args.style.now) (enumerate_from 0 list) budget (string_bytes c.args.out.now) (enumerate_from c.list.number (drop c.list.number list)) c.list.budget.bytes (string_bytes c.list.out) (enum_end list c.list.number (omega (arith, c.list-test.false))) c.list.invariant);
+}

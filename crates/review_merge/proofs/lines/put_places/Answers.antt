@@ -27,4 +27,4 @@ seats-preserved c =
     (subst (λ z. Of c.args.number z c.place.result) c.side-item.is c.place.ensures) c.in_ok-put_place.ensures.ok
 
 pub returns : goal.returns
-returns c = record { ok = (on_done (Of c.args.number) text c.args.seats.now (string_bytes c.args.out.now) (drop c.seats.side-index c.args.seats.now) (string_bytes c.seats.out) (drop_of_length-le c.args.seats.now c.seats-test.false) c.seats.invariant); }
+returns c = record { ok = (on_done (Of c.args.number) text c.args.seats.now (string_bytes c.args.out.now) (drop c.seats.side-index c.args.seats.now) (string_bytes c.seats.out) (drop_of_length-le c.args.seats.now c.seats-test.false) c.seats.invariant) }

@@ -16,4 +16,4 @@ texts-preserved c =
     (c.in_ok-put_column.ensures.ok ∙ ap (λ z. string_bytes c.texts.out ++ value_column (at, option_map string_bytes z)) c.index-texts-number.is)
 
 pub returns : goal.returns
-returns c = record { ok = (flat_done value_column _ _ _ (values_end c.args.texts.now c.texts.number (omega (arith, c.texts-test.false))) c.texts.invariant); }
+returns c = record { ok = (flat_done value_column _ _ _ (values_end c.args.texts.now c.texts.number (omega (arith, c.texts-test.false))) c.texts.invariant) }

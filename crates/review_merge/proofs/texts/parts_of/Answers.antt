@@ -15,4 +15,4 @@ wholes-preserved c =
     parts_next (values_in xs) (values_in (take i xs)) (values_in (drop i xs)) (values_in (take (i + 1) xs)) (values_in (drop (i + 1) xs)) (values_in c.wholes.parts.items) (values_in c.push.new.self.items) (option_map string_bytes whole) (option_map string_bytes part) (values_from xs i _ whole l c.index-wholes-at.is) (values_to xs i _ whole l c.index-wholes-at.is) c.in_ok-part_behind.ensures.ok (ap values_in c.in_ok-push.ensures.items ∙ values_end c.wholes.parts.items part) c.wholes.invariant
 
 pub returns : goal.returns
-returns c = record { ok = (parts_end (values_in c.args.wholes.now) (values_in (take c.wholes.at c.args.wholes.now)) (values_in c.wholes.parts.items) _ c.args.wholes.now c.wholes.at (omega (arith, c.wholes-test.false)) c.wholes.invariant); }
+returns c = record { ok = (parts_end (values_in c.args.wholes.now) (values_in (take c.wholes.at c.args.wholes.now)) (values_in c.wholes.parts.items) _ c.args.wholes.now c.wholes.at (omega (arith, c.wholes-test.false)) c.wholes.invariant) }

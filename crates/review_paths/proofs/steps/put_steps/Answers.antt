@@ -20,9 +20,11 @@ steps-preserved c =
     step_more f o _ _ (map (λ s. s.now) c.steps.yielded) c.in-Some-step.step.now c.steps.invariant c.in_ok-put_next.ensures.ok ∙ ap (λ z. o ++ flat_map f z) (sym (map-append (λ s. s.now) c.steps.yielded (c.in-Some-step.step ∷ [])))
 
 pub returns : goal.returns
-returns c = record { ok = (
-    let t = YieldsList-end (YieldsList-from_rev_slice c.in-Some.steps.now cc) c.steps.yielded _ c.steps.yielded_by _ _ c.in-None.is c.next.ensures.steps in
-    let g = c.args.both.now.graph in
-    let d = c.in-Some.document.now in
-    let split : c.args.path.now ≡ c.in-Some.steps.now ++ (d ∷ []) = search rules in
-    steps_written g c.args.path.now c.in-Some.steps.now (map (λ s. s.now) c.steps.yielded) d _ _ _ split t.0 c.in_ok-put_step.ensures.ok c.steps.invariant); }
+returns c = record {
+  ok = (
+      let t = YieldsList-end (YieldsList-from_rev_slice c.in-Some.steps.now cc) c.steps.yielded _ c.steps.yielded_by _ _ c.in-None.is c.next.ensures.steps in
+      let g = c.args.both.now.graph in
+      let d = c.in-Some.document.now in
+      let split : c.args.path.now ≡ c.in-Some.steps.now ++ (d ∷ []) = search rules in
+      steps_written g c.args.path.now c.in-Some.steps.now (map (λ s. s.now) c.steps.yielded) d _ _ _ split t.0 c.in_ok-put_step.ensures.ok c.steps.invariant);
+}

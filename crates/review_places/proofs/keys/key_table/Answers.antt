@@ -28,12 +28,14 @@ entries-preserved c =
     ]
 
 pub returns : goal.returns
-returns c = record { ok = (
-    let both = c.args.both.now in
-    let entries = c.args.entries.now in
-    let t = tells-moved (rank_at both entries) c.entries.place _ _ c.entries.invariant c.sort_unstable_by_key.ensures.permutation in
-    record {
-      rising = IsNonDecreasingBy-from_sort_by_key (λ t. t.0) _ c.sort_unstable_by_key.ensures.sorted (λ a r q k. search rules);
-      sound = t.sound;
-      complete = λ place rank g. not-none _ rank place (t.complete place rank (let l = rank-within both entries place rank g in omega (arith, l, c.entries-test.false)) g);
-    }); }
+returns c = record {
+  ok = (
+      let both = c.args.both.now in
+      let entries = c.args.entries.now in
+      let t = tells-moved (rank_at both entries) c.entries.place _ _ c.entries.invariant c.sort_unstable_by_key.ensures.permutation in
+      record {
+        rising = IsNonDecreasingBy-from_sort_by_key (λ t. t.0) _ c.sort_unstable_by_key.ensures.sorted (λ a r q k. search rules);
+        sound = t.sound;
+        complete = λ place rank g. not-none _ rank place (t.complete place rank (let l = rank-within both entries place rank g in omega (arith, l, c.entries-test.false)) g);
+      });
+}

@@ -14,4 +14,4 @@ chars-preserved c =
     }
 
 pub returns : goal.returns
-returns c = record { ok = (spelled_all seen_char _ _ _ (nil_from_length _ c.in-None.ensures.steps.0.0) c.chars.invariant.put); }
+returns c = record { ok = (spelled_all seen_char _ _ _ (nil_from_length _ c.in-None.ensures.steps.0.0) c.chars.invariant.put) }

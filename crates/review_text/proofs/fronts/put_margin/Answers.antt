@@ -16,4 +16,4 @@ chars-preserved c =
     }
 
 pub returns : goal.returns
-returns c = record { ok = (margin_all _ _ _ (nil_from_length _ c.in-None.ensures.steps.0.0) c.chars.invariant.put); }
+returns c = record { ok = (margin_all _ _ _ (nil_from_length _ c.in-None.ensures.steps.0.0) c.chars.invariant.put) }

@@ -27,40 +27,46 @@ put_entries-loop-place-preserved t c =
     entries_step (key_pair c.args.both.now.graph) c.args.entries.now c.args.room c.loop-place.place _ _ _ _ _ _ _ (omega arith) c.loop-place.invariant c.in_ok-put_separator.ensures.ok c.in_ok-put_node.ensures.ok c.in_ok-push_str.ensures.bytes c.in_ok-put_node-2.ensures.ok
 
 pub put_items-returns-then-is_full : goal.put_items-returns-then-is_full
-put_items-returns-then-is_full t c = record { ok = (left_full c.args.room _ _ _ (subst (λ z. c.args.room < length z) c.deref.ensures c.if-is_full.ensures) c.loop-place.invariant); }
+put_items-returns-then-is_full t c = record { ok = (left_full c.args.room _ _ _ (subst (λ z. c.args.room < length z) c.deref.ensures c.if-is_full.ensures) c.loop-place.invariant) }
 
 pub put_items-returns : goal.put_items-returns
-put_items-returns t c = record { ok = (items_end (λ (i : NodeId). arranged (tree c.args.both.now.graph i.0)) c.args.items.now c.args.room c.loop-place.place _ _ _ (omega arith) c.loop-place.invariant c.in_ok-push-2.ensures.bytes); }
+put_items-returns t c = record { ok = (items_end (λ (i : NodeId). arranged (tree c.args.both.now.graph i.0)) c.args.items.now c.args.room c.loop-place.place _ _ _ (omega arith) c.loop-place.invariant c.in_ok-push-2.ensures.bytes) }
 
 pub put_entries-returns-then-is_full : goal.put_entries-returns-then-is_full
-put_entries-returns-then-is_full t c = record { ok = (left_full c.args.room _ _ _ (subst (λ z. c.args.room < length z) c.deref.ensures c.if-is_full.ensures) c.loop-place.invariant); }
+put_entries-returns-then-is_full t c = record { ok = (left_full c.args.room _ _ _ (subst (λ z. c.args.room < length z) c.deref.ensures c.if-is_full.ensures) c.loop-place.invariant) }
 
 pub put_entries-returns : goal.put_entries-returns
-put_entries-returns t c = record { ok = (entries_end (key_pair c.args.both.now.graph) c.args.entries.now c.args.room c.loop-place.place _ _ _ (omega arith) c.loop-place.invariant c.in_ok-push-2.ensures.bytes); }
+put_entries-returns t c = record { ok = (entries_end (key_pair c.args.both.now.graph) c.args.entries.now c.args.room c.loop-place.place _ _ _ (omega arith) c.loop-place.invariant c.in_ok-push-2.ensures.bytes) }
 
 pub put_node-returns-then-is_full : goal.put_node-returns-then-is_full
-put_node-returns-then-is_full t c = record { ok = (fills_full c.args.room _ _ (subst (λ z. c.args.room < length z) c.deref.ensures c.if-is_full.ensures)); }
+put_node-returns-then-is_full t c = record { ok = (fills_full c.args.room _ _ (subst (λ z. c.args.room < length z) c.deref.ensures c.if-is_full.ensures)) }
 
 pub put_node-returns-in_default : goal.put_node-returns-in_default
-put_node-returns-in_default t c = record { ok = (on_ok c.put_scalar.result c.put_scalar.ensures.ok (λ h. fills_as c.args.room _ _ _ _ (ap text_of (sym (none-there c.args.both.now.graph c.args.id.0 c.in_default.ensures))) h)); }
+put_node-returns-in_default t c = record { ok = (on_ok c.put_scalar.result c.put_scalar.ensures.ok (λ h. fills_as c.args.room _ _ _ _ (ap text_of (sym (none-there c.args.both.now.graph c.args.id.0 c.in_default.ensures))) h)) }
 
 pub put_node-put_entries-requires : goal.put_node-put_entries-requires
 put_node-put_entries-requires t c =
     (omega arith, (c.requires, entries-below c.args.both.now.graph c.args.both.now.ranks c.requires c.args.id.0 c.in-Some.node.now (sym c.in-Some.ensures) _ c.sorted.ensures))
 
 pub put_node-returns-in-Scalar : goal.put_node-returns-in-Scalar
-put_node-returns-in-Scalar t c = record { ok = (
-    let e = scalar-there c.args.both.now.graph c.args.both.now.ranks c.requires c.args.id.0 c.in-Some.node.now (sym c.in-Some.ensures) c.in-Scalar.content c.in-Scalar.is in
-    on_ok c.put_scalar-in-Scalar.result c.put_scalar-in-Scalar.ensures.ok (λ h. fills_as c.args.room _ _ _ _ (scalar_text_of _ _ _ _ (tree c.args.both.now.graph c.args.id.0) e c.as_str-tag.ensures.value c.as_str.ensures.value) h)); }
+put_node-returns-in-Scalar t c = record {
+  ok = (
+      let e = scalar-there c.args.both.now.graph c.args.both.now.ranks c.requires c.args.id.0 c.in-Some.node.now (sym c.in-Some.ensures) c.in-Scalar.content c.in-Scalar.is in
+      on_ok c.put_scalar-in-Scalar.result c.put_scalar-in-Scalar.ensures.ok (λ h. fills_as c.args.room _ _ _ _ (scalar_text_of _ _ _ _ (tree c.args.both.now.graph c.args.id.0) e c.as_str-tag.ensures.value c.as_str.ensures.value) h));
+}
 
 pub put_node-returns-in_ok-put_tag-in-Sequence : goal.put_node-returns-in_ok-put_tag-in-Sequence
 unfolding core_tag
-put_node-returns-in_ok-put_tag-in-Sequence t c = record { ok = (
-    let e = sequence-there c.args.both.now.graph c.args.both.now.ranks c.requires c.args.id.0 c.in-Some.node.now (sym c.in-Some.ensures) c.in-Sequence.items _ c.in-Sequence.is c.deref-in-Sequence.ensures.value in
-    on_ok c.put_items.result c.put_items.ensures.ok (λ h. sequence_filled c.args.room _ _ _ _ _ (tree c.args.both.now.graph c.args.id.0) _ refl (e ∙ ap (λ z. sequence z (trees (map (λ j. arranged (tree c.args.both.now.graph j.0)) c.deref-in-Sequence.result.now))) (sym c.as_str-tag.ensures.value)) c.in_ok-put_tag-in-Sequence.ensures.ok h)); }
+put_node-returns-in_ok-put_tag-in-Sequence t c = record {
+  ok = (
+      let e = sequence-there c.args.both.now.graph c.args.both.now.ranks c.requires c.args.id.0 c.in-Some.node.now (sym c.in-Some.ensures) c.in-Sequence.items _ c.in-Sequence.is c.deref-in-Sequence.ensures.value in
+      on_ok c.put_items.result c.put_items.ensures.ok (λ h. sequence_filled c.args.room _ _ _ _ _ (tree c.args.both.now.graph c.args.id.0) _ refl (e ∙ ap (λ z. sequence z (trees (map (λ j. arranged (tree c.args.both.now.graph j.0)) c.deref-in-Sequence.result.now))) (sym c.as_str-tag.ensures.value)) c.in_ok-put_tag-in-Sequence.ensures.ok h));
+}
 
 pub put_node-returns-in_ok-put_tag-in-Mapping : goal.put_node-returns-in_ok-put_tag-in-Mapping
 unfolding core_tag
-put_node-returns-in_ok-put_tag-in-Mapping t c = record { ok = (
-    let e = mapping-there c.args.both.now.graph c.args.both.now.ranks c.requires c.args.id.0 c.in-Some.node.now (sym c.in-Some.ensures) _ _ c.in-Mapping.is c.sorted.ensures in
-    on_ok c.put_entries.result c.put_entries.ensures.ok (λ h. mapping_filled c.args.room _ _ _ _ _ (tree c.args.both.now.graph c.args.id.0) _ refl (e ∙ ap (λ z. mapping z (pairs (map (key_pair c.args.both.now.graph) c.sorted.result.now))) (sym c.as_str-tag.ensures.value)) c.in_ok-put_tag-in-Mapping.ensures.ok h)); }
+put_node-returns-in_ok-put_tag-in-Mapping t c = record {
+  ok = (
+      let e = mapping-there c.args.both.now.graph c.args.both.now.ranks c.requires c.args.id.0 c.in-Some.node.now (sym c.in-Some.ensures) _ _ c.in-Mapping.is c.sorted.ensures in
+      on_ok c.put_entries.result c.put_entries.ensures.ok (λ h. mapping_filled c.args.room _ _ _ _ _ (tree c.args.both.now.graph c.args.id.0) _ refl (e ∙ ap (λ z. mapping z (pairs (map (key_pair c.args.both.now.graph) c.sorted.result.now))) (sym c.as_str-tag.ensures.value)) c.in_ok-put_tag-in-Mapping.ensures.ok h));
+}

@@ -11,4 +11,4 @@ loop-place-preserved c =
     stream-next c.args.graph.now c.args.given c.args.roots.now _ refl c.documents-sides.result c.loop-place.place c.loop-place.found c.in_ok-more.more c.add.new.found c.requires.paired c.loop-place.invariant c.documents-sides.ensures.are c.in_ok-more.ensures.ok c.in_ok-more.ensures.room a.list a.room a.whole
 
 pub returns : goal.returns
-returns c = record { ok = (stream-done c.args.graph.now c.args.given c.args.roots.now c.loop-place.place c.loop-place.found c.requires.paired (omega arith) c.loop-place.invariant); }
+returns c = record { ok = (stream-done c.args.graph.now c.args.given c.args.roots.now c.loop-place.place c.loop-place.found c.requires.paired (omega arith) c.loop-place.invariant) }

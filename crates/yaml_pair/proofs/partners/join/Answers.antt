@@ -30,7 +30,9 @@ loop-left-preserved c =
     ]
 
 pub returns : goal.returns
-returns c = record { ok = (
-    let le : c.loop-left.left ≤ length c.args.lefts.now = c.loop-left.auto.left-end in
-    let same : c.loop-left.left ≡ length c.args.lefts.now = omega (arith, le, c.loop-left-test.false) in
-    subst (λ z. JoinsTo c.args.lefts.now c.args.rights.now z c.args.partners.now c.loop-left.partners) same c.loop-left.invariant); }
+returns c = record {
+  ok = (
+      let le : c.loop-left.left ≤ length c.args.lefts.now = c.loop-left.auto.left-end in
+      let same : c.loop-left.left ≡ length c.args.lefts.now = omega (arith, le, c.loop-left-test.false) in
+      subst (λ z. JoinsTo c.args.lefts.now c.args.rights.now z c.args.partners.now c.loop-left.partners) same c.loop-left.invariant);
+}

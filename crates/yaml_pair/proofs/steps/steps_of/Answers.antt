@@ -26,7 +26,9 @@ loop-right-preserved-in_default c =
     steps-right c.args.first c.args.partners.now i c.saturating_add-there.result false c.loop-right.steps.items c.push.new.self.items e c.loop-right.invariant c.in_ok-push.ensures.items
 
 pub returns : goal.returns
-returns c = record { ok = (
-    let p = c.args.partners.now in
-    let whole = ap length c.deref-partner-items.ensures.value in
-    steps-more c.args.first p (length p.rights.items) c.loop-right.steps.items c.put_lefts-2.new.steps.items (record { has = λ j k l. c.loop-right.invariant.has j k (omega (arith, l, whole, c.loop-right-test.false)); only = c.loop-right.invariant.only }) c.in_ok-put_lefts-2.ensures.ok); }
+returns c = record {
+  ok = (
+      let p = c.args.partners.now in
+      let whole = ap length c.deref-partner-items.ensures.value in
+      steps-more c.args.first p (length p.rights.items) c.loop-right.steps.items c.put_lefts-2.new.steps.items (record { has = λ j k l. c.loop-right.invariant.has j k (omega (arith, l, whole, c.loop-right-test.false)); only = c.loop-right.invariant.only }) c.in_ok-put_lefts-2.ensures.ok);
+}

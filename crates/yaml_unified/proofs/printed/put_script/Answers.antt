@@ -11,4 +11,4 @@ loop-place-preserved c =
     }
 
 pub returns : goal.returns
-returns c = record { ok = (texts_all _ _ _ c.loop-place.place _ _ (omega arith) c.loop-place.invariant.put); }
+returns c = record { ok = (texts_all _ _ _ c.loop-place.place _ _ (omega arith) c.loop-place.invariant.put) }

@@ -13,4 +13,4 @@ hunks-preserved c =
     }
 
 pub returns : goal.returns
-returns c = record { hunks = (hunks_end c.args.context c.hunks.rest.edits.now c.args.edits.now c.hunks.rest.left c.hunks.rest.right _ _ (c.in_default.ensures.none refl) c.hunks.invariant.text); }
+returns c = record { hunks = (hunks_end c.args.context c.hunks.rest.edits.now c.args.edits.now c.hunks.rest.left c.hunks.rest.right _ _ (c.in_default.ensures.none refl) c.hunks.invariant.text) }

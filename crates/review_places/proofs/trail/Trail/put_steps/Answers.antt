@@ -9,6 +9,8 @@ pub frames-preserved : goal.frames-preserved
 frames-preserved c = flat_next (frame_step (map event_of c.args.events.now)) c.deref-frame-items.result.now c.frames.frame-index _ _ _ _ (omega arith) c.frames.invariant c.in_ok-put_frame.ensures.ok
 
 pub returns : goal.returns
-returns c = record { ok = (
-    flat_all (frame_step (map event_of c.args.events.now)) c.deref-frame-items.result.now c.frames.frame-index _ _ (omega arith) c.frames.invariant
-    ∙ ap (λ z. string_bytes c.args.out.now ++ flat_map (frame_step (map event_of c.args.events.now)) z) c.deref-frame-items.ensures.value); }
+returns c = record {
+  ok = (
+      flat_all (frame_step (map event_of c.args.events.now)) c.deref-frame-items.result.now c.frames.frame-index _ _ (omega arith) c.frames.invariant
+      ∙ ap (λ z. string_bytes c.args.out.now ++ flat_map (frame_step (map event_of c.args.events.now)) z) c.deref-frame-items.ensures.value);
+}

@@ -21,11 +21,13 @@ loop-preserved c =
     }
 
 pub returns : goal.returns
-returns c = record { names = (elim c.loop-test.branch [
-  | else-loop-test w ↦
-      let few = c.loop.invariant.few in
-      absurd (omega (arith, few, w.loop-test.false, c.args.self.now.left.small, c.args.self.now.right.small))
-  | then-loop-test+in_default w ↦
-      let none = w.in_default.ensures.none in
-      record { lefts = names_all left_of c.loop.entries.items c.loop.left.now _ none.0 c.loop.invariant.lefts; rights = names_all right_of c.loop.entries.items c.loop.right.now _ none.1 c.loop.invariant.rights }
-]); }
+returns c = record {
+  names = (elim c.loop-test.branch [
+    | else-loop-test w ↦
+        let few = c.loop.invariant.few in
+        absurd (omega (arith, few, w.loop-test.false, c.args.self.now.left.small, c.args.self.now.right.small))
+    | then-loop-test+in_default w ↦
+        let none = w.in_default.ensures.none in
+        record { lefts = names_all left_of c.loop.entries.items c.loop.left.now _ none.0 c.loop.invariant.lefts; rights = names_all right_of c.loop.entries.items c.loop.right.now _ none.1 c.loop.invariant.rights }
+  ]);
+}
