@@ -8,8 +8,8 @@ TOP = os.path.dirname(os.path.dirname(os.path.dirname(os.path.realpath(__file__)
 TOOLS = f"{TOP}/tools"
 DATA = f"{TOOLS}/data"
 CRATES = f"{TOP}/crates"
-# The kit's command.
-RT = "rt"
+# The kit's rt, as the tools call it.
+RT = f"{TOOLS}/rt"
 EXAMPLES = f"{TOP}/examples"
 # The built programs. YAMLCANON and YAMLREVIEW name others in their place.
 PROGRAM = os.environ.get("YAMLCANON") or f"{CRATES}/yaml_tool/out/yaml_tool"
