@@ -23,7 +23,7 @@ use review_reports::reports::{Kind, reports};
 use review_reports::{Host, are_folders, folder_lines, folder_page, names_of};
 use review_text::options::{Diff, Page};
 use review_text::put_shown;
-use std::alloc::Global;
+use std::alloc::{AllocError, Global};
 use std::io::{Read, Write};
 use std::rt::Files;
 use yaml_command::shelf::Shelf;
@@ -309,8 +309,7 @@ fn sum<S: Shelf, R: Read + Drop, W: Write + Drop, E: Write + Drop>(
 }
 
 /// The text of an error of the words, with `?` for what of the words a terminal would not print.
-fn error_text(alloc: Global, error: &Error) -> Result<String, Fault>
-    ensures err { IfErr result (λ fault. fault ≡ Fault.OutOfMemory) }
+fn error_text(alloc: Global, error: &Error) -> Result<String, AllocError>
 {
     let text = format!(in alloc; "{error}")?;
     let mut shown = String::new(alloc);

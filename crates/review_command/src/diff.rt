@@ -16,7 +16,7 @@ use review_lines::Listed;
 use review_patterns::Pattern;
 use review_reports::{lines_shown, list_found, parts_text};
 use review_text::options::{Diff, Page};
-use std::alloc::Global;
+use std::alloc::{AllocError, Global};
 use std::io::{Read, Write};
 use yaml_canon::Side;
 use yaml_command::shelf::Shelf;
@@ -132,9 +132,8 @@ fn listed_text(
     listed: &Listed,
     left: &[u8],
     right: &[u8],
-) -> Result<String, Fault>
+) -> Result<String, AllocError>
     ensures ok { IfOk result (λ text. IsFilePage asked.now page left.now right.now listed.now (string_bytes text)) }
-    ensures err { IfErr result (λ fault. fault ≡ Fault.OutOfMemory) }
 {
     if asked.lines == 0 {
         return Ok(String::new(alloc));

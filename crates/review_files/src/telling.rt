@@ -1,5 +1,5 @@
 //! The lines of standard error.
-ghost use Rattle.std.specs.Prelude.{◌≡◌, ◌++◌, ℕ, List, true, OnOk, IfErr, codes, string_bytes};
+ghost use Rattle.std.specs.Prelude.{◌≡◌, ◌++◌, ℕ, List, true, OnOk, codes, string_bytes};
 ghost use Rattle.std.specs.Io.KnownBytes.{Appends};
 ghost use Rattle.review_files.specs.Lines.{TakesLine, line_front, fault_line, unread_line, bare_line, TellsNoWords};
 ghost use Rattle.review_files.specs.Statuses.{fault_status, unread_status};
@@ -7,7 +7,7 @@ ghost use Rattle.review_files.specs.declared.unread.Unread.TheVariants.{CannotOp
 
 use crate::unread::{Unread, fault_status};
 use review_text::put_shown;
-use std::alloc::Global;
+use std::alloc::{AllocError, Global};
 use std::io::Write;
 use yaml_args::WordsFault;
 use yaml_message::message_of;
@@ -74,9 +74,8 @@ pub fn tell_usage<E: Write>(line: &str, err: &mut E) -> u8
 }
 
 /// Writes what the line of a file begins with: the program's name and the file's, with `?` for what of it a terminal would not print.
-fn put_front(out: &mut String, name: &str) -> Result<(), Fault>
+fn put_front(out: &mut String, name: &str) -> Result<(), AllocError>
     ensures ok { OnOk result (string_bytes out.new ≡ string_bytes out.old ++ line_front name.now) }
-    ensures err { IfErr result (λ fault. fault ≡ Fault.OutOfMemory) }
 {
     out.push_str(FRONT)?;
     put_shown(out, name)?;
@@ -85,9 +84,8 @@ fn put_front(out: &mut String, name: &str) -> Result<(), Fault>
 }
 
 /// Writes the line of a fault of a file that has no place in it.
-pub fn put_fault_line(out: &mut String, name: &str, fault: Fault) -> Result<(), Fault>
+pub fn put_fault_line(out: &mut String, name: &str, fault: Fault) -> Result<(), AllocError>
     ensures ok { OnOk result (string_bytes out.new ≡ string_bytes out.old ++ fault_line name.now fault) }
-    ensures err { IfErr result (λ fault. fault ≡ Fault.OutOfMemory) }
 {
     let words = message_of(fault);
     put_front(out, name)?;
@@ -97,9 +95,8 @@ pub fn put_fault_line(out: &mut String, name: &str, fault: Fault) -> Result<(), 
 }
 
 /// Writes the line of a file that cannot be opened.
-fn put_closed(out: &mut String, name: &str, why: Reason) -> Result<(), Fault>
+fn put_closed(out: &mut String, name: &str, why: Reason) -> Result<(), AllocError>
     ensures ok { OnOk result (string_bytes out.new ≡ string_bytes out.old ++ unread_line name.now (CannotOpen why)) }
-    ensures err { IfErr result (λ fault. fault ≡ Fault.OutOfMemory) }
 {
     put_front(out, name)?;
     out.push_str("cannot open: ")?;
@@ -109,9 +106,8 @@ fn put_closed(out: &mut String, name: &str, why: Reason) -> Result<(), Fault>
 }
 
 /// Writes the line of a file that is not read.
-pub(crate) fn put_unread(out: &mut String, name: &str, unread: Unread) -> Result<(), Fault>
+pub(crate) fn put_unread(out: &mut String, name: &str, unread: Unread) -> Result<(), AllocError>
     ensures ok { OnOk result (string_bytes out.new ≡ string_bytes out.old ++ unread_line name.now unread) }
-    ensures err { IfErr result (λ fault. fault ≡ Fault.OutOfMemory) }
 {
     match unread {
         Unread::CannotOpen(why) => put_closed(out, name, why),

@@ -15,7 +15,7 @@ use review_files::files::read_file;
 use review_files::rejected::{Named, put_not_compared, put_rejection, put_rejections};
 use review_files::unread::Unread;
 use review_text::options::{Diff, Form, Paths};
-use std::alloc::Global;
+use std::alloc::{AllocError, Global};
 use yaml_command::shelf::Shelf;
 use yaml_text::fault::Fault;
 
@@ -30,9 +30,8 @@ pub(crate) fn named<'n>(name: &'n str, answer: &'n Result<Vec<u8>, Unread>) -> N
 }
 
 /// A path as git labels it on one side.
-fn label(alloc: Global, side: &str, path: &str) -> Result<String, Fault>
+fn label(alloc: Global, side: &str, path: &str) -> Result<String, AllocError>
     ensures ok { IfOk result (λ name. string_bytes name ≡ side.now ++ path.now) }
-    ensures err { IfErr result (λ fault. fault ≡ Fault.OutOfMemory) }
 {
     let mut name = String::new(alloc);
     name.push_str(side)?;
@@ -41,9 +40,8 @@ fn label(alloc: Global, side: &str, path: &str) -> Result<String, Fault>
 }
 
 /// The label of the right path, which a renamed file has anew.
-fn right_label(alloc: Global, pair: Pair<'_>) -> Result<String, Fault>
+fn right_label(alloc: Global, pair: Pair<'_>) -> Result<String, AllocError>
     ensures ok { IfOk result (λ name. string_bytes name ≡ codes "b/" ++ right_path pair.entry) }
-    ensures err { IfErr result (λ fault. fault ≡ Fault.OutOfMemory) }
 {
     match pair.renamed {
         Some((path, _)) => label(alloc, "b/", path),

@@ -61,7 +61,7 @@ fn put_pair<S: Shelf>(
     match pair.left.kind() {
         Kind::None => put_new(shelf, alloc, out, pair),
         Kind::File | Kind::Link | Kind::Submodule => match pair.right.kind() {
-            Kind::None => put_alone(out, "deleted file", pair.left),
+            Kind::None => Ok(put_alone(out, "deleted file", pair.left)?),
             Kind::File | Kind::Link | Kind::Submodule => put_changed(shelf, alloc, out, pair),
         },
     }

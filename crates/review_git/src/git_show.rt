@@ -4,7 +4,7 @@ ghost use Rattle.review_git.specs.Shown.{IsShownFile, side_lines, TellsChanges, 
 
 use crate::put_unshown;
 use review_text::put_shown;
-use std::alloc::Global;
+use std::alloc::{AllocError, Global};
 use yaml_show::{Unshown, show};
 use yaml_text::fault::Fault;
 use yaml_unified::{put_unified, script_of};
@@ -31,9 +31,8 @@ fn shown_of(alloc: Global, out: &mut String, file: (&str, &[u8])) -> Result<Opti
 }
 
 /// Writes the lines with the names of both sides.
-fn put_sides(out: &mut String, left: &str, right: &str) -> Result<(), Fault>
+fn put_sides(out: &mut String, left: &str, right: &str) -> Result<(), AllocError>
     ensures ok { OnOk result (string_bytes out.new ≡ string_bytes out.old ++ side_lines left.now right.now) }
-    ensures err { IfErr result (λ fault. fault ≡ Fault.OutOfMemory) }
 {
     out.push_str("--- ")?;
     put_shown(out, left)?;
@@ -50,9 +49,8 @@ fn put_changes(
     names: (&str, &str),
     old: &str,
     new: &str,
-) -> Result<(), Fault>
+) -> Result<(), AllocError>
     ensures ok { OnOk result ((text : List ℕ) × (string_bytes out.new ≡ string_bytes out.old ++ text) × TellsChanges names.entry.0.now names.entry.1.now (Some old.now) (Some new.now) text) }
-    ensures err { IfErr result (λ fault. fault ≡ Fault.OutOfMemory) }
 {
     if old == new {
         return Ok(());
@@ -70,9 +68,8 @@ fn put_both(
     names: (&str, &str),
     old: &Option<String>,
     new: &Option<String>,
-) -> Result<(), Fault>
+) -> Result<(), AllocError>
     ensures ok { OnOk result ((text : List ℕ) × (string_bytes out.new ≡ string_bytes out.old ++ text) × TellsChanges names.entry.0.now names.entry.1.now (option_map string_bytes old.now) (option_map string_bytes new.now) text) }
-    ensures err { IfErr result (λ fault. fault ≡ Fault.OutOfMemory) }
 {
     match old {
         Some(old) => match new {

@@ -1,11 +1,11 @@
 //! The lines before the differences: which file, which modes, which path it had.
-ghost use Rattle.std.specs.Prelude.{◌≡◌, ◌++◌, ℕ, List, OnOk, MatchBool, codes, string_bytes, IfErr};
+ghost use Rattle.std.specs.Prelude.{◌≡◌, ◌++◌, ℕ, List, OnOk, MatchBool, codes, string_bytes};
 ghost use Rattle.review_git.specs.Sides.{kind_note, mode_text, alone_line, modes_line, HasLine, IsChange};
 ghost use Rattle.review_git.specs.Heads.{name_line, IsRenamedLine};
 
 use crate::asked::{Kind, Pair, Side};
 use review_text::put_shown;
-use yaml_text::fault::Fault;
+use std::alloc::AllocError;
 
 /// The mode of a file that is not executable.
 const PLAIN: &str = "100644";
@@ -17,9 +17,8 @@ const COPY: &str = "copy from ";
 const COPY_BEHIND: &str = "\ncopy from ";
 
 /// Writes the name of a pair.
-pub(crate) fn put_name(out: &mut String, pair: Pair<'_>) -> Result<(), Fault>
+pub(crate) fn put_name(out: &mut String, pair: Pair<'_>) -> Result<(), AllocError>
     ensures ok { OnOk result (string_bytes out.new ≡ string_bytes out.old ++ name_line pair.entry) }
-    ensures err { IfErr result (λ fault. fault ≡ Fault.OutOfMemory) }
 {
     out.push_str("diff ")?;
     put_shown(out, pair.path)?;
@@ -43,9 +42,8 @@ fn note_of(kind: Kind) -> &'static str
 }
 
 /// Writes a mode, and what it stands for where that is no file.
-fn put_mode(out: &mut String, side: Side<'_>) -> Result<(), Fault>
+fn put_mode(out: &mut String, side: Side<'_>) -> Result<(), AllocError>
     ensures ok { OnOk result (string_bytes out.new ≡ string_bytes out.old ++ mode_text side.entry.mode.now) }
-    ensures err { IfErr result (λ fault. fault ≡ Fault.OutOfMemory) }
 {
     put_shown(out, side.mode)?;
     out.push_str(note_of(side.kind()))?;
@@ -53,9 +51,8 @@ fn put_mode(out: &mut String, side: Side<'_>) -> Result<(), Fault>
 }
 
 /// Writes that a side is the only one, with its mode unless it is that of most files.
-pub(crate) fn put_alone(out: &mut String, words: &str, side: Side<'_>) -> Result<(), Fault>
+pub(crate) fn put_alone(out: &mut String, words: &str, side: Side<'_>) -> Result<(), AllocError>
     ensures ok { OnOk result (string_bytes out.new ≡ string_bytes out.old ++ alone_line words.now side.entry.mode.now) }
-    ensures err { IfErr result (λ fault. fault ≡ Fault.OutOfMemory) }
 {
     out.push_str(words)?;
     if side.mode != PLAIN {
@@ -67,9 +64,8 @@ pub(crate) fn put_alone(out: &mut String, words: &str, side: Side<'_>) -> Result
 }
 
 /// Writes which mode was changed, if one was.
-pub(crate) fn put_modes(out: &mut String, pair: Pair<'_>) -> Result<(), Fault>
+pub(crate) fn put_modes(out: &mut String, pair: Pair<'_>) -> Result<(), AllocError>
     ensures ok { OnOk result (string_bytes out.new ≡ string_bytes out.old ++ modes_line pair.entry.left.mode.now pair.entry.right.mode.now) }
-    ensures err { IfErr result (λ fault. fault ≡ Fault.OutOfMemory) }
 {
     if pair.left.mode == pair.right.mode {
         return Ok(());
@@ -101,9 +97,8 @@ fn words_of(lines: &str) -> &'static str
 }
 
 /// Writes from which path a file was renamed or copied, if it was.
-pub(crate) fn put_renamed(out: &mut String, pair: Pair<'_>) -> Result<(), Fault>
+pub(crate) fn put_renamed(out: &mut String, pair: Pair<'_>) -> Result<(), AllocError>
     ensures ok { OnOk result ((line : List ℕ) × (string_bytes out.new ≡ string_bytes out.old ++ line) × IsRenamedLine pair.entry line) }
-    ensures err { IfErr result (λ fault. fault ≡ Fault.OutOfMemory) }
 {
     let Some((_, lines)) = pair.renamed else {
         return Ok(());

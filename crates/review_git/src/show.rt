@@ -18,7 +18,7 @@ use review_files::telling::{put_fault_line, put_line, tell_bare};
 use review_files::unread::{Unread, greater};
 use review_text::options::Form;
 use review_text::put_shown;
-use std::alloc::Global;
+use std::alloc::{AllocError, Global};
 use std::io::{Read, Write};
 use yaml_command::shelf::Shelf;
 use yaml_command::streams::write_out;
@@ -60,9 +60,8 @@ fn text_of(alloc: Global, bytes: &[u8], format: Format) -> Result<String, Unshow
 }
 
 /// Writes that the text of a file would be too long.
-fn put_too_long(out: &mut String, name: &str) -> Result<(), Fault>
+fn put_too_long(out: &mut String, name: &str) -> Result<(), AllocError>
     ensures ok { OnOk result (string_bytes out.new ≡ string_bytes out.old ++ too_long name.now) }
-    ensures err { IfErr result (λ fault. fault ≡ Fault.OutOfMemory) }
 {
     put_shown(out, name)?;
     out.push_str(
@@ -84,16 +83,16 @@ fn put_rejected(
     ensures err { IfErr result (CannotTell bytes.now fault) }
 {
     match fault {
-        Fault::TextTooLong => put_too_long(out, name),
-        Fault::OutOfMemory => put_fault_line(out, name, Fault::OutOfMemory),
-        fault => put_fault(alloc, out, name, bytes, fault, Form::Line),
+        Fault::TextTooLong => put_too_long(out, name)?,
+        Fault::OutOfMemory => put_fault_line(out, name, Fault::OutOfMemory)?,
+        fault => put_fault(alloc, out, name, bytes, fault, Form::Line)?,
     }
+    Ok(())
 }
 
 /// Writes that the JSON of a file would mean something else.
-fn put_unlike(out: &mut String, name: &str) -> Result<(), Fault>
+fn put_unlike(out: &mut String, name: &str) -> Result<(), AllocError>
     ensures ok { OnOk result (string_bytes out.new ≡ string_bytes out.old ++ unlike name.now) }
-    ensures err { IfErr result (λ fault. fault ≡ Fault.OutOfMemory) }
 {
     put_shown(out, name)?;
     out.push_str(": the JSON would mean something else; this is a bug of yamlreview\n")?;
@@ -115,10 +114,11 @@ pub fn put_unshown(
     ensures err { IfErr result (CannotTellNone bytes.now why) }
 {
     match why {
-        Unshown::Rejected(fault) => put_rejected(alloc, out, name, bytes, fault),
-        Unshown::NoJson => put_no_json(alloc, out, name, bytes),
-        Unshown::Unlike => put_unlike(out, name),
+        Unshown::Rejected(fault) => put_rejected(alloc, out, name, bytes, fault)?,
+        Unshown::NoJson => put_no_json(alloc, out, name, bytes)?,
+        Unshown::Unlike => put_unlike(out, name)?,
     }
+    Ok(())
 }
 
 /// Reports why a file is not shown, and answers the status.
@@ -151,9 +151,8 @@ fn tell_no_bytes<E: Write>(alloc: Global, name: &str, unread: Unread, err: &mut 
 }
 
 /// Writes the name of a file on a line of its own.
-fn put_name(out: &mut String, name: &str) -> Result<(), Fault>
+fn put_name(out: &mut String, name: &str) -> Result<(), AllocError>
     ensures ok { OnOk result (string_bytes out.new ≡ string_bytes out.old ++ (terminal name.now ++ codes "\n")) }
-    ensures err { IfErr result (λ fault. fault ≡ Fault.OutOfMemory) }
 {
     put_shown(out, name)?;
     out.push_str("\n")?;

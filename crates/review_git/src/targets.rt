@@ -10,7 +10,7 @@ use crate::differences::{both_of, named, put_unread};
 use review_files::files::read_file;
 use review_files::rejected::Named;
 use review_text::put_shown;
-use std::alloc::Global;
+use std::alloc::{AllocError, Global};
 use std::str;
 use yaml_command::shelf::Shelf;
 use yaml_text::fault::Fault;
@@ -49,9 +49,8 @@ fn target_of(bytes: &[u8]) -> &str
 }
 
 /// Writes what a link or a submodule was and is, if these are different.
-fn put_line(out: &mut String, words: &str, old: &str, new: &str) -> Result<(), Fault>
+fn put_line(out: &mut String, words: &str, old: &str, new: &str) -> Result<(), AllocError>
     ensures ok { OnOk result (string_bytes out.new ≡ string_bytes out.old ++ targets_line words.now old.now new.now) }
-    ensures err { IfErr result (λ fault. fault ≡ Fault.OutOfMemory) }
 {
     if old == new {
         return Ok(());
@@ -76,7 +75,12 @@ fn put_both(
     ensures err { IfErr result (λ fault. fault ≡ Fault.OutOfMemory) }
 {
     match both_of(left, right) {
-        Some((first, second)) => put_line(out, words, target_of(first), target_of(second)),
+        Some((first, second)) => Ok(put_line(
+            out,
+            words,
+            target_of(first),
+            target_of(second),
+        )?),
         None => put_unread(alloc, out, left, right),
     }
 }

@@ -1,5 +1,5 @@
 //! What a syntax fault commonly is, by the text around its place.
-ghost use Rattle.std.specs.Prelude.{◌≡◌, ◌≤◌, ℕ, List, true, length, IfOk, IfErr, string_bytes};
+ghost use Rattle.std.specs.Prelude.{◌≡◌, ◌≤◌, ℕ, List, true, length, IfOk, string_bytes};
 ghost use Rattle.yaml_path.specs.LineModel.{IsPlace};
 ghost use Rattle.review_hints.specs.Hinted.{is_line, name_of, IsHint};
 ghost use Rattle.review_hints.specs.Hints.{IsScanned, IsTrue};
@@ -10,9 +10,8 @@ use crate::open_hints::open_hint;
 use crate::scan::Opened;
 use crate::spot::Spot;
 use crate::words::Words;
-use std::alloc::Global;
+use std::alloc::{AllocError, Global};
 use yaml_path::{Place, place_at};
-use yaml_text::fault::Fault;
 
 /// The words of a hint.
 #[derive(Clone, Copy)]
@@ -50,7 +49,7 @@ fn place_in(text: &str, at: usize) -> Place
 }
 
 impl Hint {
-    ghost use Rattle.std.specs.Prelude.{◌≡◌, ◌≤◌, ℕ, true, length, IfOk, IfErr, string_bytes};
+    ghost use Rattle.std.specs.Prelude.{◌≡◌, ◌≤◌, ℕ, true, length, IfOk, string_bytes};
     ghost use Rattle.review_hints.specs.Hinted.{is_line, IsHint};
     ghost use Rattle.review_hints.specs.Hints.{cause_of, IsTrue};
 
@@ -66,11 +65,10 @@ impl Hint {
     }
 
     /// The hint as a text.
-    fn words(self, alloc: Global, text: &str) -> Result<String, Fault>
+    fn words(self, alloc: Global, text: &str) -> Result<String, AllocError>
         requires { (at : ℕ) × IsTrue text.now at self }
         ensures line { IfOk result (λ words. is_line (string_bytes words) ≡ true) }
         ensures hint { (at : ℕ) → at ≤ length text.now → IsTrue text.now at self → IfOk result (λ words. IsHint text.now at (cause_of self) (string_bytes words)) }
-        ensures err { IfErr result (λ fault. fault ≡ Fault.OutOfMemory) }
     {
         match self {
             Hint::Text(words) => Ok(words.to_string(alloc)?),
@@ -113,10 +111,9 @@ fn hint_of(spot: &Spot<'_>) -> Hint
 ///
 /// # Errors
 /// `OutOfMemory`
-pub fn syntax_words(alloc: Global, text: &str, at: usize) -> Result<Words, Fault>
+pub fn syntax_words(alloc: Global, text: &str, at: usize) -> Result<Words, AllocError>
     ensures line { IfOk result (λ words. is_line (string_bytes words.text) ≡ true) }
     ensures hint { at ≤ length text.now → IfOk result (λ words. IsHint text.now at words.cause (string_bytes words.text)) }
-    ensures err { IfErr result (λ fault. fault ≡ Fault.OutOfMemory) }
 {
     let spot = Spot::new(alloc, text, at)?;
     let hint = hint_of(&spot);

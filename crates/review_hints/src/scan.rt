@@ -3,8 +3,7 @@
 ghost use Rattle.std.specs.Prelude.{ℕ, List};
 ghost use Rattle.review_hints.specs.Hints.{IsMode};
 
-use std::alloc::Global;
-use yaml_text::fault::Fault;
+use std::alloc::{AllocError, Global};
 
 /// A quote, a bracket or a brace.
 #[derive(Clone, Copy)]
@@ -69,7 +68,7 @@ fn after_line(mode: Mode) -> Mode
 }
 
 impl Scan {
-    ghost use Rattle.std.specs.Prelude.{◌≡◌, ◌<◌, ℕ, true, length, slice_get, List, Some, IfSome, IfOk, IfErr, OnOk};
+    ghost use Rattle.std.specs.Prelude.{◌≡◌, ◌<◌, ℕ, true, length, slice_get, List, Some, IfSome, IfOk, OnOk};
     ghost use Rattle.review_hints.specs.Hinted.{is_mark};
     ghost use Rattle.review_hints.specs.Hints.{IsOpened, IsScanned};
 
@@ -77,9 +76,8 @@ impl Scan {
     ///
     /// # Errors
     /// `OutOfMemory`
-    pub fn of(alloc: Global, before: &str) -> Result<Scan, Fault>
+    pub fn of(alloc: Global, before: &str) -> Result<Scan, AllocError>
         ensures ok { IfOk result (IsScanned before.now (length before.now)) }
-        ensures err { IfErr result (λ fault. fault ≡ Fault.OutOfMemory) }
     {
         let mut scan = Scan {
             mode: Mode::Start,
@@ -182,18 +180,16 @@ impl Scan {
         }
     }
 
-    fn take(&mut self, at: usize, byte: u8) -> Result<(), Fault>
+    fn take(&mut self, at: usize, byte: u8) -> Result<(), AllocError>
         ensures ok { (text : List ℕ) (end : ℕ) → at < end → slice_get text at ≡ Some byte → IsScanned text end self.old → OnOk result (IsScanned text end self.new) }
-        ensures err { IfErr result (λ fault. fault ≡ Fault.OutOfMemory) }
     {
         self.end_at(at, byte);
         self.read(at, byte)
     }
 
     /// Reads a character by where it stands.
-    fn read(&mut self, at: usize, byte: u8) -> Result<(), Fault>
+    fn read(&mut self, at: usize, byte: u8) -> Result<(), AllocError>
         ensures ok { (text : List ℕ) (end : ℕ) → at < end → slice_get text at ≡ Some byte → IsScanned text end self.old → OnOk result (IsScanned text end self.new) }
-        ensures err { IfErr result (λ fault. fault ≡ Fault.OutOfMemory) }
     {
         match self.mode {
             Mode::Double(opened) => match byte {
@@ -228,9 +224,8 @@ impl Scan {
     }
 
     /// Where a node may start.
-    fn start(&mut self, at: usize, byte: u8) -> Result<(), Fault>
+    fn start(&mut self, at: usize, byte: u8) -> Result<(), AllocError>
         ensures ok { (text : List ℕ) (end : ℕ) → at < end → slice_get text at ≡ Some byte → IsScanned text end self.old → OnOk result (IsScanned text end self.new) }
-        ensures err { IfErr result (λ fault. fault ≡ Fault.OutOfMemory) }
     {
         if is_blank(byte) {
             return Ok(());
@@ -240,9 +235,8 @@ impl Scan {
     }
 
     /// By the first character of a node.
-    fn open(&mut self, at: usize, byte: u8) -> Result<(), Fault>
+    fn open(&mut self, at: usize, byte: u8) -> Result<(), AllocError>
         ensures ok { (text : List ℕ) (end : ℕ) → at < end → slice_get text at ≡ Some byte → IsScanned text end self.old → OnOk result (IsScanned text end self.new) }
-        ensures err { IfErr result (λ fault. fault ≡ Fault.OutOfMemory) }
     {
         match byte {
             b'"' => self.mode = Mode::Double(self.opened(at, byte)),
@@ -260,9 +254,8 @@ impl Scan {
         Ok(())
     }
 
-    fn plain(&mut self, at: usize, byte: u8) -> Result<(), Fault>
+    fn plain(&mut self, at: usize, byte: u8) -> Result<(), AllocError>
         ensures ok { (text : List ℕ) (end : ℕ) → at < end → slice_get text at ≡ Some byte → IsScanned text end self.old → OnOk result (IsScanned text end self.new) }
-        ensures err { IfErr result (λ fault. fault ≡ Fault.OutOfMemory) }
     {
         match byte {
             b'#' if is_blank(self.last) => self.mode = Mode::Comment,
@@ -278,9 +271,8 @@ impl Scan {
     }
 
     /// After a node that a character of its own has ended.
-    fn behind(&mut self, byte: u8) -> Result<(), Fault>
+    fn behind(&mut self, byte: u8) -> Result<(), AllocError>
         ensures ok { (text : List ℕ) (end : ℕ) → IsScanned text end self.old → OnOk result (IsScanned text end self.new) }
-        ensures err { IfErr result (λ fault. fault ≡ Fault.OutOfMemory) }
     {
         match byte {
             b']' | b'}' => {
@@ -296,9 +288,8 @@ impl Scan {
     }
 
     /// At the start of a line after a block scalar's header.
-    fn block(&mut self, at: usize, byte: u8) -> Result<(), Fault>
+    fn block(&mut self, at: usize, byte: u8) -> Result<(), AllocError>
         ensures ok { (text : List ℕ) (end : ℕ) → at < end → slice_get text at ≡ Some byte → IsScanned text end self.old → OnOk result (IsScanned text end self.new) }
-        ensures err { IfErr result (λ fault. fault ≡ Fault.OutOfMemory) }
     {
         if byte == b' ' || byte == b'\r' {
             return Ok(());

@@ -1,10 +1,9 @@
 //! What is around the offset at which a text breaks off, for a hint.
-ghost use Rattle.std.specs.Prelude.{◌≡◌, ◌≤◌, ◌⊎◌, [], length, take, IfOk, IfErr};
+ghost use Rattle.std.specs.Prelude.{◌≡◌, ◌≤◌, ◌⊎◌, [], length, take, IfOk};
 ghost use Rattle.review_hints.specs.Hints.{IsScanned};
 
 use crate::scan::Scan;
-use std::alloc::Global;
-use yaml_text::fault::Fault;
+use std::alloc::{AllocError, Global};
 
 /// An offset of a text, and what is around it.
 #[derive(Drop)]
@@ -23,16 +22,15 @@ pub struct Spot<'a> {
 }
 
 impl<'a> Spot<'a> {
-    ghost use Rattle.std.specs.Prelude.{◌≡◌, ◌≤◌, IfOk, IfErr};
+    ghost use Rattle.std.specs.Prelude.{◌≡◌, ◌≤◌, IfOk};
     ghost use Rattle.review_hints.specs.Hints.{IsScanned};
 
     /// # Errors
     /// `OutOfMemory`
-    pub fn new(alloc: Global, text: &'a str, at: usize) -> Result<Spot<'a>, Fault>
+    pub fn new(alloc: Global, text: &'a str, at: usize) -> Result<Spot<'a>, AllocError>
         ensures at { IfOk result (λ spot. spot.at ≡ at) }
         ensures above { IfOk result (λ spot. spot.above_at ≤ spot.at) }
         ensures scan { IfOk result (λ spot. IsScanned text.now spot.at spot.scan) }
-        ensures err { IfErr result (λ fault. fault ≡ Fault.OutOfMemory) }
     {
         let before = front(text, at);
         let behind = text.get(at..).unwrap_or("");

@@ -1,5 +1,5 @@
 //! What is said of each fault.
-ghost use Rattle.std.specs.Prelude.{◌≡◌, ◌≤◌, true, length, IfOk, IfErr, string_bytes};
+ghost use Rattle.std.specs.Prelude.{◌≡◌, ◌≤◌, true, length, IfOk, string_bytes};
 ghost use Rattle.std.specs.Str.{IsUtf8};
 ghost use Rattle.review_hints.specs.Hinted.{is_line, is_plain, limit_of, HoldsLimit, IsHint};
 
@@ -8,7 +8,7 @@ use crate::byte_hints::{
     directive_words, escape_words, handle_words, printable_words, tab_words, tag_words, utf8_words,
 };
 use crate::hints::syntax_words;
-use std::alloc::Global;
+use std::alloc::{AllocError, Global};
 use std::str;
 use yaml_text::fault::Fault;
 
@@ -34,11 +34,10 @@ fn source_of(text: &[u8]) -> &str
 ///
 /// # Errors
 /// `OutOfMemory`
-pub fn words_of(alloc: Global, fault: Fault, text: &[u8], at: usize) -> Result<Words, Fault>
+pub fn words_of(alloc: Global, fault: Fault, text: &[u8], at: usize) -> Result<Words, AllocError>
     ensures line { IfOk result (λ words. is_line (string_bytes words.text) ≡ true) }
     ensures limit { IfOk result (λ words. HoldsLimit (limit_of fault) (string_bytes words.text)) }
     ensures hint { IfOk result (λ words. IsUtf8 text.now → at ≤ length text.now → IsHint text.now at words.cause (string_bytes words.text)) }
-    ensures err { IfErr result (λ fault. fault ≡ Fault.OutOfMemory) }
 {
     let source = source_of(text);
     if let Fault::Syntax(_) = fault {

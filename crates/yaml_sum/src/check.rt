@@ -19,7 +19,7 @@ use crate::stop::Halt;
 use crate::summary::close;
 use crate::telling::tell;
 use crate::told::{Seen, Told};
-use std::alloc::Global;
+use std::alloc::{AllocError, Global};
 use std::io::{Read, Write};
 use yaml_command::shelf::Shelf;
 use yaml_command::streams::write_out;
@@ -42,9 +42,8 @@ fn make_verdict(
     rules: Rules,
     name: &[u8],
     finding: Finding,
-) -> Result<(), Fault>
+) -> Result<(), AllocError>
     ensures ok { OnOk result (line.new.items ≡ verdict_line rules name.now finding) }
-    ensures only { IfErr result (λ fault. fault ≡ Fault.OutOfMemory) }
 {
     line.clear();
     if !rules.shows(finding) {
@@ -99,9 +98,8 @@ fn tell_found<E: Write>(
     bytes: &[u8],
     finding: Finding,
     err: &mut Counted<E>,
-) -> Result<(), Fault>
+) -> Result<(), AllocError>
     ensures ok { OnOk result (TellsFound E.contents rules name.now finding err.old err.new) }
-    ensures only { IfErr result (λ fault. fault ≡ Fault.OutOfMemory) }
     ensures quiet { OnErr result (err.new ≡ err.old) }
 {
     match finding {
@@ -269,6 +267,6 @@ pub(crate) fn check_list<'a, S: Shelf, R: Read, W: Write, E: Write>(
     };
     match close(rules, list, told, &mut bytes, err) {
         Ok(status) => Ok(status),
-        Err(fault) => Err(Halt::Fault(fault)),
+        Err(refused) => Err(Halt::Fault(refused.into())),
     }
 }

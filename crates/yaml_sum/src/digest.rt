@@ -4,16 +4,16 @@ ghost use Rattle.yaml_canon.specs.Claims.{CanonicalRefuses};
 ghost use Rattle.yaml_sum.specs.Digests.{IsDigest, HoldsText};
 
 use sha2::{Digest, Sha256};
-use std::alloc::Global;
+use std::alloc::{AllocError, Global};
 use yaml_canon::canonical_into;
 use yaml_text::fault::Fault;
 
 /// Makes a room this long.
-fn lengthen(room: &mut Vec<u8>, len: usize) -> Result<(), Fault>
+fn lengthen(room: &mut Vec<u8>, len: usize) -> Result<(), AllocError>
     ensures ok { OnOk result (length room.new.items ≡ len) }
-    ensures only { IfErr result (λ fault. fault ≡ Fault.OutOfMemory) }
 {
-    room.resize(len, 0).map_err(|_| Fault::OutOfMemory)
+    room.resize(len, 0)?;
+    Ok(())
 }
 
 /// Puts the canonical text of the stream that these bytes are at the start of the room, which is made

@@ -128,7 +128,7 @@ fn line_of<S: Shelf, R: Read>(
     )?;
     match make_line(&mut buffers.line, &digest, name) {
         Ok(()) => Ok(()),
-        Err(fault) => Err(Stop::Refused(fault)),
+        Err(refused) => Err(Stop::Refused(refused.into())),
     }
 }
 

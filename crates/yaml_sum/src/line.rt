@@ -1,8 +1,9 @@
 //! The lines of `sha256sum`.
-ghost use Rattle.std.specs.Prelude.{◌≡◌, ◌++◌, List, ℕ, Option, option_map, OnOk, IfErr};
+ghost use Rattle.std.specs.Prelude.{◌≡◌, ◌++◌, List, ℕ, Option, option_map, OnOk};
 ghost use Rattle.yaml_sum.specs.Lines.{escape_of, is_special, name_text, printed_byte, told_name, sum_line};
 
 use hex::encode_to_slice;
+use std::alloc::AllocError;
 use yaml_text::fault::Fault;
 
 /// What stands in a line for this byte of a name, if it is not itself: a backslash, and the ends of lines.
@@ -30,18 +31,16 @@ fn is_escaped(name: &[u8]) -> bool
 }
 
 /// Puts some bytes behind a line.
-pub(crate) fn push(line: &mut Vec<u8>, piece: &[u8]) -> Result<(), Fault>
+pub(crate) fn push(line: &mut Vec<u8>, piece: &[u8]) -> Result<(), AllocError>
     ensures ok { OnOk result (line.new.items ≡ line.old.items ++ piece.now) }
-    ensures only { IfErr result (λ fault. fault ≡ Fault.OutOfMemory) }
 {
-    line.extend_from_slice(piece)
-        .map_err(|_| Fault::OutOfMemory)
+    line.extend_from_slice(piece)?;
+    Ok(())
 }
 
 /// Puts a name behind a line, so that the line stays one.
-pub(crate) fn push_name(line: &mut Vec<u8>, name: &[u8]) -> Result<(), Fault>
+pub(crate) fn push_name(line: &mut Vec<u8>, name: &[u8]) -> Result<(), AllocError>
     ensures ok { OnOk result (line.new.items ≡ line.old.items ++ name_text name.now) }
-    ensures only { IfErr result (λ fault. fault ≡ Fault.OutOfMemory) }
 {
     'bytes: for byte in name {
         match escape_of(*byte) {
@@ -64,9 +63,8 @@ fn printed_byte(byte: u8, is_text: bool) -> u8
 }
 
 /// Puts a name behind a line that reports a file, with `?` for each control character that has no escape.
-pub(crate) fn push_told_name(line: &mut Vec<u8>, name: &[u8], is_text: bool) -> Result<(), Fault>
+pub(crate) fn push_told_name(line: &mut Vec<u8>, name: &[u8], is_text: bool) -> Result<(), AllocError>
     ensures ok { OnOk result (line.new.items ≡ line.old.items ++ told_name is_text name.now) }
-    ensures only { IfErr result (λ fault. fault ≡ Fault.OutOfMemory) }
 {
     'bytes: for byte in name {
         match escape_of(*byte) {
@@ -79,9 +77,8 @@ pub(crate) fn push_told_name(line: &mut Vec<u8>, name: &[u8], is_text: bool) -> 
 
 /// Makes the line of a sum: a backslash where the name is not written as it is, the digest in hex, two
 /// spaces, the name, and a line feed.
-pub(crate) fn make_line(line: &mut Vec<u8>, digest: &[u8; 32], name: &[u8]) -> Result<(), Fault>
+pub(crate) fn make_line(line: &mut Vec<u8>, digest: &[u8; 32], name: &[u8]) -> Result<(), AllocError>
     ensures ok { OnOk result (line.new.items ≡ sum_line digest.now name.now) }
-    ensures only { IfErr result (λ fault. fault ≡ Fault.OutOfMemory) }
 {
     let mut digits = [0u8; 64];
     let _ = encode_to_slice(digest, &mut digits);

@@ -1,5 +1,5 @@
 //! The lines of a list of sums.
-ghost use Rattle.std.specs.Prelude.{◌≡◌, ◌<◌, ◌++◌, length, option_map, OnOk, IfOk, IfErr};
+ghost use Rattle.std.specs.Prelude.{◌≡◌, ◌<◌, ◌++◌, length, option_map, OnOk, IfOk};
 ghost use Rattle.hex.specs.Hex.{decode_sized};
 ghost use Rattle.yaml_sum.specs.Listed.{
   after_equals,
@@ -25,7 +25,7 @@ use crate::line::push;
 use crate::names::cut;
 use crate::parts::{cut_last, is_white, line_text, skip_white, unmarked};
 use hex::FromHex;
-use yaml_text::fault::Fault;
+use std::alloc::AllocError;
 
 /// A line of a list: a digest, and the name of a file as it is written.
 #[derive(Clone, Copy)]
@@ -203,9 +203,8 @@ fn escaped(byte: u8) -> Option<u8>
 }
 
 /// What `push_name` made of a name, undone. Whether it could have made it.
-fn unescape(name: &[u8], plain: &mut Vec<u8>) -> Result<bool, Fault>
+fn unescape(name: &[u8], plain: &mut Vec<u8>) -> Result<bool, AllocError>
     ensures ok { IfOk result (λ is. IsNamed is (name_of name.now) plain.new.items) }
-    ensures only { IfErr result (λ fault. fault ≡ Fault.OutOfMemory) }
 {
     plain.clear();
     let mut at = 0;
@@ -228,9 +227,8 @@ fn unescape(name: &[u8], plain: &mut Vec<u8>) -> Result<bool, Fault>
 }
 
 /// Puts the name of a line as it is in place of what is held. Whether it is written properly.
-pub(crate) fn unwrite(listed: &Listed<'_>, plain: &mut Vec<u8>) -> Result<bool, Fault>
+pub(crate) fn unwrite(listed: &Listed<'_>, plain: &mut Vec<u8>) -> Result<bool, AllocError>
     ensures ok { IfOk result (λ is. IsNamed is (name_as listed.now.is_escaped listed.now.name.now) plain.new.items) }
-    ensures only { IfErr result (λ fault. fault ≡ Fault.OutOfMemory) }
 {
     if listed.is_escaped {
         return unescape(listed.name, plain);

@@ -1,9 +1,8 @@
 //! The names of a list.
-ghost use Rattle.std.specs.Prelude.{◌≡◌, ◌++◌, map, option_map, OnOk, IfOk, IfErr};
+ghost use Rattle.std.specs.Prelude.{◌≡◌, ◌++◌, map, option_map, OnOk, IfOk};
 ghost use Rattle.yaml_sum.specs.Names.{end_in, names_in, named, IsCut};
 
-use std::alloc::Global;
-use yaml_text::fault::Fault;
+use std::alloc::{AllocError, Global};
 
 /// What ends a name in this list: a null byte if there is one, else a line feed.
 fn end_in(list: &[u8]) -> u8
@@ -27,9 +26,8 @@ pub(crate) fn cut(list: &[u8], end: u8) -> (&[u8], Option<&[u8]>)
 }
 
 /// Puts a name behind others, unless it is empty.
-fn add<'a>(names: &mut Vec<&'a [u8]>, name: &'a [u8]) -> Result<(), Fault>
+fn add<'a>(names: &mut Vec<&'a [u8]>, name: &'a [u8]) -> Result<(), AllocError>
     ensures ok { OnOk result (map (λ s. s.now) names.new.items ≡ map (λ s. s.now) names.old.items ++ named name.now) }
-    ensures only { IfErr result (λ fault. fault ≡ Fault.OutOfMemory) }
 {
     if !name.is_empty() {
         names.push(name)?;
@@ -39,9 +37,8 @@ fn add<'a>(names: &mut Vec<&'a [u8]>, name: &'a [u8]) -> Result<(), Fault>
 
 /// The names of a list, each ended by a null byte if there is one, else by a line feed; the last one
 /// may have no end. Empty ones are left out.
-pub(crate) fn names_in(alloc: Global, list: &[u8]) -> Result<Vec<&[u8]>, Fault>
+pub(crate) fn names_in(alloc: Global, list: &[u8]) -> Result<Vec<&[u8]>, AllocError>
     ensures ok { IfOk result (λ v. map (λ s. s.now) v.items ≡ names_in list.now) }
-    ensures only { IfErr result (λ fault. fault ≡ Fault.OutOfMemory) }
 {
     let end = end_in(list);
     let mut names = Vec::new(alloc);
@@ -57,9 +54,8 @@ pub(crate) fn names_in(alloc: Global, list: &[u8]) -> Result<Vec<&[u8]>, Fault>
 }
 
 /// The same of names that are given one by one.
-pub(crate) fn names_of<'a>(alloc: Global, words: &[&'a str]) -> Result<Vec<&'a [u8]>, Fault>
+pub(crate) fn names_of<'a>(alloc: Global, words: &[&'a str]) -> Result<Vec<&'a [u8]>, AllocError>
     ensures ok { IfOk result (λ v. map (λ s. s.now) v.items ≡ map (λ s. s.now) words.now) }
-    ensures only { IfErr result (λ fault. fault ≡ Fault.OutOfMemory) }
 {
     let mut names = Vec::new(alloc);
     'words: for word in words {

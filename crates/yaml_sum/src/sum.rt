@@ -57,7 +57,7 @@ fn sum_words<'a, S: Shelf, R: Read, W: Write, E: Write>(
 {
     let names = match names_of(alloc, words) {
         Ok(names) => names,
-        Err(fault) => return Err(Halt::Fault(fault)),
+        Err(refused) => return Err(Halt::Fault(refused.into())),
     };
     match sum_each(shelf, alloc, names.as_slice(), input, out, err) {
         Ok(status) => Ok(status),
@@ -82,7 +82,7 @@ fn sum_listed<'a, S: Shelf, R: Read, W: Write, E: Write>(
     read_list(shelf, list, input, &mut bytes)?;
     let names = match names_in(alloc, bytes.as_slice()) {
         Ok(names) => names,
-        Err(fault) => return Err(Halt::Fault(fault)),
+        Err(refused) => return Err(Halt::Fault(refused.into())),
     };
     match sum_each(shelf, alloc, names.as_slice(), input, out, err) {
         Ok(status) => Ok(status),

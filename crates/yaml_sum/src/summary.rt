@@ -1,5 +1,5 @@
 //! What is told of a list as a whole.
-ghost use Rattle.std.specs.Prelude.{◌≡◌, ◌++◌, IfOk, IfErr, OnOk, OnErr};
+ghost use Rattle.std.specs.Prelude.{◌≡◌, ◌++◌, IfOk, OnOk, OnErr};
 ghost use Rattle.yaml_sum.specs.Summaries.{count_line, counts, list_line, list_status, summary, TellsText, Closes};
 
 use crate::asked::Rules;
@@ -8,18 +8,17 @@ use crate::line::{push, push_name};
 use crate::stop::greater;
 use crate::told::Told;
 use itoa::Buffer;
+use std::alloc::AllocError;
 use std::io::Write;
 use yaml_spell::page::write_whole;
 use yaml_text::counted::Counted;
-use yaml_text::fault::Fault;
 
 /// The status of a list in which no line is one of a sum.
 const UNUSABLE: u8 = 3;
 
 /// Puts a line behind others that tells how many there are, if there are any.
-fn push_count(line: &mut Vec<u8>, what: &str, count: usize) -> Result<(), Fault>
+fn push_count(line: &mut Vec<u8>, what: &str, count: usize) -> Result<(), AllocError>
     ensures ok { OnOk result (line.new.items ≡ line.old.items ++ count_line what.now count) }
-    ensures only { IfErr result (λ fault. fault ≡ Fault.OutOfMemory) }
 {
     if count == 0 {
         return Ok(());
@@ -32,9 +31,8 @@ fn push_count(line: &mut Vec<u8>, what: &str, count: usize) -> Result<(), Fault>
 }
 
 /// Puts a line behind others that tells this of the list of this name.
-fn push_list(line: &mut Vec<u8>, list: &str, what: &str) -> Result<(), Fault>
+fn push_list(line: &mut Vec<u8>, list: &str, what: &str) -> Result<(), AllocError>
     ensures ok { OnOk result (line.new.items ≡ line.old.items ++ list_line list.now what.now) }
-    ensures only { IfErr result (λ fault. fault ≡ Fault.OutOfMemory) }
 {
     push(line, b"yamlreview: ")?;
     push_name(line, list.as_bytes())?;
@@ -42,9 +40,8 @@ fn push_list(line: &mut Vec<u8>, list: &str, what: &str) -> Result<(), Fault>
 }
 
 /// Puts the numbers behind others.
-fn push_counts(line: &mut Vec<u8>, told: Told) -> Result<(), Fault>
+fn push_counts(line: &mut Vec<u8>, told: Told) -> Result<(), AllocError>
     ensures ok { OnOk result (line.new.items ≡ line.old.items ++ counts told) }
-    ensures only { IfErr result (λ fault. fault ≡ Fault.OutOfMemory) }
 {
     push_count(line, "lines that are no sums: ", told.improper)?;
     push_count(line, "files without a sum: ", told.unread)?;
@@ -52,9 +49,8 @@ fn push_counts(line: &mut Vec<u8>, told: Told) -> Result<(), Fault>
 }
 
 /// Makes the lines that tell of a list as a whole, in place of what is held.
-fn make_summary(line: &mut Vec<u8>, rules: Rules, list: &str, told: Told) -> Result<(), Fault>
+fn make_summary(line: &mut Vec<u8>, rules: Rules, list: &str, told: Told) -> Result<(), AllocError>
     ensures ok { OnOk result (line.new.items ≡ summary rules list.now told) }
-    ensures only { IfErr result (λ fault. fault ≡ Fault.OutOfMemory) }
 {
     line.clear();
     if rules.is_silent {
@@ -101,9 +97,8 @@ pub(crate) fn close<E: Write>(
     told: Told,
     line: &mut Vec<u8>,
     err: &mut Counted<E>,
-) -> Result<u8, Fault>
+) -> Result<u8, AllocError>
     ensures ok { IfOk result (Closes E.contents rules list.now told err.old err.new) }
-    ensures only { IfErr result (λ fault. fault ≡ Fault.OutOfMemory) }
     ensures quiet { OnErr result (err.new ≡ err.old) }
 {
     make_summary(line, rules, list, told)?;

@@ -12,7 +12,7 @@ use crate::line::{push, push_told_name};
 use crate::stop::{Halt, Stop};
 use review_faults::put_fault;
 use review_text::options::Form;
-use std::alloc::Global;
+use std::alloc::{AllocError, Global};
 use std::io::Write;
 use std::str;
 use yaml_command::line;
@@ -32,15 +32,14 @@ fn make_refused(
     name: &[u8],
     bytes: &[u8],
     fault: Fault,
-) -> Result<(), Fault>
+) -> Result<(), AllocError>
     ensures ok { OnOk result (Complains name.now (Refused fault) line.new.items) }
-    ensures only { IfErr result (λ fault. fault ≡ Fault.OutOfMemory) }
 {
     let shown = shown_name(name);
     let mut text = String::new(alloc);
     match put_fault(alloc, &mut text, shown, bytes, fault, Form::Line) {
         Ok(()) => {}
-        Err(_) => return Err(Fault::OutOfMemory),
+        Err(_) => return Err(AllocError),
     }
     line.clear();
     push(line, text.as_bytes())
@@ -57,9 +56,8 @@ fn shown_name(name: &[u8]) -> &str
 }
 
 /// Puts behind a line why a file that is not refused has no sum.
-fn push_reason(line: &mut Vec<u8>, stop: Stop) -> Result<(), Fault>
+fn push_reason(line: &mut Vec<u8>, stop: Stop) -> Result<(), AllocError>
     ensures ok { OnOk result (line.new.items ≡ line.old.items ++ reason stop) }
-    ensures only { IfErr result (λ fault. fault ≡ Fault.OutOfMemory) }
 {
     match stop {
         Stop::CannotOpen(why) => {
@@ -77,9 +75,8 @@ fn push_reason(line: &mut Vec<u8>, stop: Stop) -> Result<(), Fault>
 }
 
 /// Makes the line that tells why a file that is not refused has no sum.
-fn make_complaint(line: &mut Vec<u8>, name: &[u8], stop: Stop) -> Result<(), Fault>
+fn make_complaint(line: &mut Vec<u8>, name: &[u8], stop: Stop) -> Result<(), AllocError>
     ensures ok { OnOk result (line.new.items ≡ complaint name.now stop) }
-    ensures only { IfErr result (λ fault. fault ≡ Fault.OutOfMemory) }
 {
     line.clear();
     push(line, FRONT.as_bytes())?;
@@ -95,9 +92,8 @@ fn make_told(
     name: &[u8],
     bytes: &[u8],
     stop: Stop,
-) -> Result<(), Fault>
+) -> Result<(), AllocError>
     ensures ok { OnOk result (Complains name.now stop line.new.items) }
-    ensures only { IfErr result (λ fault. fault ≡ Fault.OutOfMemory) }
 {
     match stop {
         Stop::Refused(fault) => make_refused(alloc, line, name, bytes, fault),
@@ -114,9 +110,8 @@ pub(crate) fn tell<E: Write>(
     bytes: &[u8],
     stop: Stop,
     err: &mut Counted<E>,
-) -> Result<(), Fault>
+) -> Result<(), AllocError>
     ensures ok { OnOk result (TellsStop E.contents name.now stop err.old err.new) }
-    ensures only { IfErr result (λ fault. fault ≡ Fault.OutOfMemory) }
     ensures quiet { OnErr result (err.new ≡ err.old) }
 {
     make_told(alloc, line, name, bytes, stop)?;

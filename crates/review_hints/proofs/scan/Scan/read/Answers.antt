@@ -1,8 +1,8 @@
 use Rattle.review_hints.proofs.scan.Scan.read.Goals as goal
 
-pub returns-in_ok-behind-in-SingleEnd-2-clause-ok : goal.returns-in_ok-behind-in-SingleEnd-2-clause-ok
-returns-in_ok-behind-in-SingleEnd-2-clause-ok c text end before stands scanned =
+pub returns-in_ok-behind-in-SingleEnd-2 : goal.returns-in_ok-behind-in-SingleEnd-2
+returns-in_ok-behind-in-SingleEnd-2 c text end before stands scanned =
     c.in_ok-behind-in-SingleEnd-2.ensures.ok text end (record { flow = scanned.flow; mode = tt })
 
-pub returns-in_ok-behind-in-Behind-clause-ok : goal.returns-in_ok-behind-in-Behind-clause-ok
-returns-in_ok-behind-in-Behind-clause-ok c text end before stands scanned = c.in_ok-behind-in-Behind.ensures.ok text end scanned
+pub returns-in_ok-behind-in-Behind : goal.returns-in_ok-behind-in-Behind
+returns-in_ok-behind-in-Behind c text end before stands scanned = c.in_ok-behind-in-Behind.ensures.ok text end scanned
