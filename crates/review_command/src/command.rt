@@ -309,8 +309,7 @@ fn sum<S: Shelf, R: Read + Drop, W: Write + Drop, E: Write + Drop>(
 }
 
 /// The text of an error of the words, with `?` for what of the words a terminal would not print.
-fn error_text(alloc: Global, error: &Error) -> Result<String, AllocError>
-{
+fn error_text(alloc: Global, error: &Error) -> Result<String, AllocError> {
     let text = format!(in alloc; "{error}")?;
     let mut shown = String::new(alloc);
     for (number, line) in text.split('\n').enumerate() {

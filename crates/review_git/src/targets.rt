@@ -75,12 +75,7 @@ fn put_both(
     ensures err { IfErr result (λ fault. fault ≡ Fault.OutOfMemory) }
 {
     match both_of(left, right) {
-        Some((first, second)) => Ok(put_line(
-            out,
-            words,
-            target_of(first),
-            target_of(second),
-        )?),
+        Some((first, second)) => Ok(put_line(out, words, target_of(first), target_of(second))?),
         None => put_unread(alloc, out, left, right),
     }
 }

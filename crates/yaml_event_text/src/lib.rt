@@ -48,7 +48,7 @@ fn place(alloc: Global, events: &[Event<'_>], room: &mut [u8]) -> Result<usize, 
     ensures kept { OnErr result (room.new ≡ room.old) }
 {
     if surely_fits(events, room.len()) {
-        return fill_by_pages(alloc, events, room);
+        return Ok(fill_by_pages(alloc, events, room)?);
     }
     let len = text_len(events)?;
     if len > room.len() {

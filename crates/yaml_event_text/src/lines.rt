@@ -19,7 +19,7 @@ ghost use Rattle.yaml_event_text.specs.Slots.{props_text};
 
 use crate::slot::{Slot, slot_in};
 use crate::starts::{move_behind, move_from};
-use std::alloc::Global;
+use std::alloc::{AllocError, Global};
 use std::borrow::CowStr;
 use yaml_events::{push_line, push_properties, push_scalar_line};
 use yaml_read::read_into;
@@ -89,21 +89,19 @@ impl Lines {
     }
 
     /// Notes that a line begins at the text's end.
-    fn begin_line(&mut self) -> Result<(), Fault>
+    fn begin_line(&mut self) -> Result<(), AllocError>
         ensures ok { OnOk result (Begins self.old self.new) }
-        ensures err { IfErr result (λ e. e ≡ OutOfMemory) }
     {
         if self.failed {
-            return Err(Fault::OutOfMemory);
+            return Err(AllocError);
         }
         self.starts.push(self.text.as_str().len())?;
         Ok(())
     }
 
     /// Puts a line at the text's end.
-    fn put(&mut self, line: &str) -> Result<(), Fault>
+    fn put(&mut self, line: &str) -> Result<(), AllocError>
         ensures ok { OnOk result (Grows self.old line.now self.new) }
-        ensures err { IfErr result (λ e. e ≡ OutOfMemory) }
     {
         self.begin_line()?;
         self.text.push_str(line)?;
@@ -121,25 +119,23 @@ impl Lines {
     }
 
     /// Puts a piece into the text.
-    fn put_in(&mut self, at: usize, piece: &str) -> Result<(), Fault>
+    fn put_in(&mut self, at: usize, piece: &str) -> Result<(), AllocError>
         ensures ok { OnOk result (Fills self.old at piece.now self.new) }
-        ensures err { IfErr result (λ e. e ≡ OutOfMemory) }
         ensures starts { self.new.starts ≡ self.old.starts }
     {
         if !self.text.is_char_boundary(at) {
-            return Err(Fault::OutOfMemory);
+            return Err(AllocError);
         }
         self.text.insert_str(at, piece)?;
         Ok(())
     }
 
     /// Puts a line before an event's.
-    fn put_before(&mut self, event: usize, line: &str) -> Result<(), Fault>
+    fn put_before(&mut self, event: usize, line: &str) -> Result<(), AllocError>
         ensures ok { OnOk result (Inserts self.old event line.now self.new) }
-        ensures err { IfErr result (λ e. e ≡ OutOfMemory) }
     {
         if event > self.starts.len() {
-            return Err(Fault::OutOfMemory);
+            return Err(AllocError);
         }
         let at = self.offset(event);
         self.put_in(at, line)?;
@@ -149,9 +145,8 @@ impl Lines {
     }
 
     /// Notes properties as a line has them.
-    fn spell(&mut self, properties: &Properties<'_>) -> Result<(), Fault>
+    fn spell(&mut self, properties: &Properties<'_>) -> Result<(), AllocError>
         ensures ok { OnOk result (string_bytes self.new.given ≡ props_text (props_of properties.now)) }
-        ensures err { IfErr result (λ e. e ≡ OutOfMemory) }
         ensures beside { IsBeside self.old self.new }
     {
         self.given.clear();
@@ -162,8 +157,7 @@ impl Lines {
     }
 
     /// Takes bytes from those to spare, if there are so many.
-    fn spend(&mut self, bytes: usize) -> Result<(), Fault>
-        ensures err { IfErr result (λ e. e ≡ OutOfMemory) }
+    fn spend(&mut self, bytes: usize) -> Result<(), AllocError>
         ensures beside { IsBeside self.old self.new }
         ensures given { self.new.given ≡ self.old.given }
     {
@@ -172,30 +166,28 @@ impl Lines {
                 self.spare = left;
                 Ok(())
             }
-            None => Err(Fault::OutOfMemory),
+            None => Err(AllocError),
         }
     }
 
     /// Puts the properties that were noted into an event's line, which has its place for them here.
-    fn give(&mut self, event: usize, at: usize) -> Result<(), Fault>
+    fn give(&mut self, event: usize, at: usize) -> Result<(), AllocError>
         ensures ok { OnOk result (Gives self.old event at self.new) }
-        ensures err { IfErr result (λ e. e ≡ OutOfMemory) }
         ensures count { length self.new.starts.items ≡ length self.old.starts.items }
     {
         let len = self.given.as_str().len();
         let behind = self.text.as_str().len().saturating_sub(at);
         self.spend(len.saturating_add(behind))?;
         if !self.text.is_char_boundary(at) {
-            return Err(Fault::OutOfMemory);
+            return Err(AllocError);
         }
         self.text.insert_str(at, self.given.as_str())?;
         move_behind(&mut self.starts, event, len)
     }
 
     /// Puts properties on an event that has none.
-    fn dress_line(&mut self, event: usize, properties: &Properties<'_>) -> Result<(), Fault>
+    fn dress_line(&mut self, event: usize, properties: &Properties<'_>) -> Result<(), AllocError>
         ensures ok { OnOk result (DressesLine self.old event (props_of properties.now) self.new) }
-        ensures err { IfErr result (λ e. e ≡ OutOfMemory) }
         ensures count { length self.new.starts.items ≡ length self.old.starts.items }
     {
         if event >= self.starts.len() {
@@ -204,7 +196,7 @@ impl Lines {
         let at = self.offset(event);
         match slot_in(self.text.as_bytes(), at) {
             Slot::Closed => Ok(()),
-            Slot::Taken => Err(Fault::OutOfMemory),
+            Slot::Taken => Err(AllocError),
             Slot::Behind(place) => {
                 if properties.is_none() {
                     return Ok(());
@@ -244,24 +236,29 @@ impl Keeper for Lines {
 
     fn push(&mut self, event: &Event<'_>, _at: usize) -> Result<(), Fault> {
         self.begin_line()?;
-        push_line(event, &mut self.text)
+        push_line(event, &mut self.text)?;
+        Ok(())
     }
 
     fn scalar(&mut self, style: Style, text: &mut CowStr<'_>, _at: usize) -> Result<(), Fault> {
         self.begin_line()?;
-        push_scalar_line(style, text.as_str(), &mut self.text)
+        push_scalar_line(style, text.as_str(), &mut self.text)?;
+        Ok(())
     }
 
     fn begin(&mut self, collection: Collection, flow: bool, _at: usize) -> Result<(), Fault> {
-        self.put(start_line(collection, flow))
+        self.put(start_line(collection, flow))?;
+        Ok(())
     }
 
     fn end(&mut self, collection: Collection, _at: usize) -> Result<(), Fault> {
-        self.put(end_line(collection))
+        self.put(end_line(collection))?;
+        Ok(())
     }
 
     fn insert(&mut self, start: usize, flow: bool, _at: usize) -> Result<(), Fault> {
-        self.put_before(start, start_line(Collection::Mapping, flow))
+        self.put_before(start, start_line(Collection::Mapping, flow))?;
+        Ok(())
     }
 
     fn announce(&mut self, _own: &Properties<'_>) {}

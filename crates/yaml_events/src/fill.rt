@@ -1,5 +1,5 @@
 //! A text in the room that a caller gives for it.
-ghost use Rattle.std.specs.Prelude.{◌≡◌, ◌<◌, ◌≤◌, ◌+◌, ◌∷◌, ◌++◌, [], length, map, All, IsOk, IfOk, IfErr, OnErr};
+ghost use Rattle.std.specs.Prelude.{◌≡◌, ◌<◌, ◌≤◌, ◌+◌, ◌∷◌, ◌++◌, [], length, map, All, IsOk, IfOk, OnErr};
 ghost use Rattle.std.specs.String.{string_bytes, string_len, string_capacity};
 ghost use Rattle.yaml_text.specs.EventModel.{event_of};
 ghost use Rattle.yaml_definitions.specs.model.EventText.{event_line, events_text};
@@ -104,7 +104,7 @@ fn turn(page: &mut String, room: &mut [u8], at: usize) -> usize
 
 /// Puts the text of events at the start of a room that is long enough, by way of an empty page with room for each line. It
 /// takes no memory, and is always done. The answer is the text's length.
-fn turn_pages(events: &[Event<'_>], page: &mut String, room: &mut [u8]) -> Result<usize, Fault>
+fn turn_pages(events: &[Event<'_>], page: &mut String, room: &mut [u8]) -> Result<usize, AllocError>
     requires empty { string_bytes page.old ≡ [] }
     requires lines { All (λ e. 4096 + length (event_line e ++ (b-line-feed ∷ [])) ≤ string_capacity page.old) (map event_of events.now) }
     requires long { length (events_text (map event_of events.now)) ≤ length room.old }
@@ -123,10 +123,13 @@ fn turn_pages(events: &[Event<'_>], page: &mut String, room: &mut [u8]) -> Resul
 /// Writes the text of events to the start of a buffer that is long enough, and returns its length. Behind the text, the buffer is
 /// not changed. It takes the memory of one page before it writes. `OutOfMemory` is the only error and leaves the buffer
 /// unchanged.
-pub fn fill_by_pages(alloc: Global, events: &[Event<'_>], room: &mut [u8]) -> Result<usize, Fault>
+pub fn fill_by_pages(
+    alloc: Global,
+    events: &[Event<'_>],
+    room: &mut [u8],
+) -> Result<usize, AllocError>
     requires { length (events_text (map event_of events.now)) ≤ length room.old }
     ensures fills { IfOk result (Fills (events_text (map event_of events.now)) room.old room.new) }
-    ensures only { IfErr result (λ fault. fault ≡ Fault.OutOfMemory) }
     ensures kept { OnErr result (room.new ≡ room.old) }
 {
     let mut page = page_for(alloc, events)?;

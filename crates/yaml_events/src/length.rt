@@ -1,14 +1,14 @@
 //! How long the lines of events can be.
-ghost use Rattle.std.specs.Prelude.{◌≡◌, ◌<◌, ◌≤◌, ◌+◌, ◌*◌, ◌++◌, ◌∷◌, [], length, map, true, All, IfOk, IfErr};
+ghost use Rattle.std.specs.Prelude.{◌≡◌, ◌<◌, ◌≤◌, ◌+◌, ◌*◌, ◌++◌, ◌∷◌, [], length, map, true, All, IfOk};
 ghost use Rattle.std.specs.Option.{option_map};
 ghost use Rattle.std.specs.Cow.{cow_str_bytes};
 ghost use Rattle.yaml_text.specs.EventModel.{event_of, written_of};
 ghost use Rattle.yaml_definitions.specs.model.EventText.{event_line, events_text, anchor_part, tag_part};
 ghost use Rattle.yaml_definitions.specs.grammar.Characters.{b-line-feed};
 
+use std::alloc::AllocError;
 use std::borrow::CowStr;
 use yaml_text::event::{Event, EventTag};
-use yaml_text::fault::Fault;
 
 /// More bytes than a line has that are of no name, tag or value.
 const FRAME: u128 = 16;
@@ -58,16 +58,15 @@ fn line_bound(event: &Event<'_>) -> u128
 /// A number of bytes that no line of the events with its LF exceeds. No text is looked at and no memory
 /// taken: each byte of a tag is taken as three, and each of a value as two. `OutOfMemory` means that
 /// the number is past the greatest `usize`.
-pub fn longest_line(events: &[Event<'_>]) -> Result<usize, Fault>
+pub fn longest_line(events: &[Event<'_>]) -> Result<usize, AllocError>
     ensures ok { IfOk result (λ most. All (λ e. length (event_line e ++ (b-line-feed ∷ [])) ≤ most) (map event_of events.now)) }
-    ensures only { IfErr result (λ fault. fault ≡ Fault.OutOfMemory) }
 {
     let mut most: u128 = 0;
     'lines: for event in events {
         most = most.max(line_bound(event));
     }
     if most > usize::MAX as u128 {
-        return Err(Fault::OutOfMemory);
+        return Err(AllocError);
     }
     Ok(most as usize)
 }

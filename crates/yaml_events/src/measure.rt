@@ -1,5 +1,5 @@
 //! How long the text of events is.
-ghost use Rattle.std.specs.Prelude.{◌≡◌, ◌<◌, ◌≤◌, ◌+◌, ◌^◌, ◌++◌, ◌∷◌, [], length, map, IfOk, IfErr};
+ghost use Rattle.std.specs.Prelude.{◌≡◌, ◌<◌, ◌≤◌, ◌+◌, ◌^◌, ◌++◌, ◌∷◌, [], length, map, IfOk};
 ghost use Rattle.std.specs.Option.{option_map};
 ghost use Rattle.std.specs.Cow.{cow_str_bytes};
 ghost use Rattle.yaml_text.specs.EventModel.{event_of, written_of};
@@ -7,10 +7,10 @@ ghost use Rattle.yaml_definitions.specs.canonical.TagText.{encoded, spell_byte};
 ghost use Rattle.yaml_definitions.specs.model.EventText.{event_line, events_text, anchor_part, tag_part, flag_text, value_byte, value_text};
 ghost use Rattle.yaml_definitions.specs.grammar.Characters.{b-line-feed};
 
+use std::alloc::AllocError;
 use std::borrow::CowStr;
 use yaml_text::class::is_uri;
 use yaml_text::event::{Event, EventTag};
-use yaml_text::fault::Fault;
 
 /// The bytes of a line without properties, name or value: a word of four and an LF.
 const BARE: u128 = 5;
@@ -139,15 +139,14 @@ fn line_len(event: &Event<'_>) -> u128
 }
 
 /// How many bytes the text of events has. `OutOfMemory` means that the number is past the greatest `usize`.
-pub fn text_len(events: &[Event<'_>]) -> Result<usize, Fault>
+pub fn text_len(events: &[Event<'_>]) -> Result<usize, AllocError>
     ensures ok { IfOk result (λ len. len ≡ length (events_text (map event_of events.now))) }
-    ensures only { IfErr result (λ fault. fault ≡ Fault.OutOfMemory) }
 {
     let mut left = usize::MAX;
     'lines: for event in events {
         let more = line_len(event);
         if more > left as u128 {
-            return Err(Fault::OutOfMemory);
+            return Err(AllocError);
         }
         left -= more as usize;
     }

@@ -1,5 +1,5 @@
 //! Parts of lines, for who has no event as a whole.
-ghost use Rattle.std.specs.Prelude.{◌≡◌, ◌++◌, ◌∷◌, [], None, IfErr, OnOk, codes};
+ghost use Rattle.std.specs.Prelude.{◌≡◌, ◌++◌, ◌∷◌, [], None, OnOk, codes};
 ghost use Rattle.std.specs.Option.{option_map};
 ghost use Rattle.std.specs.Cow.{cow_str_bytes};
 ghost use Rattle.std.specs.String.{string_bytes};
@@ -12,9 +12,9 @@ use crate::name::push_anchor;
 use crate::sink::Sink;
 use crate::tag::push_tag;
 use crate::value::push_value;
+use std::alloc::AllocError;
 use std::borrow::CowStr;
 use yaml_text::event::{EventTag, Style};
-use yaml_text::fault::Fault;
 
 /// What stands before a scalar's value where it has no properties.
 fn before_value(style: Style) -> &'static str
@@ -32,9 +32,8 @@ fn before_value(style: Style) -> &'static str
 /// Appends the line of a scalar without properties, with its LF. The only error is `OutOfMemory`. The text may then have a part
 /// of the line.
 #[tactic(auto, unfolding(yaml_definitions::specs::model::EventText::event_line))]
-pub fn push_scalar_line(style: Style, text: &str, out: &mut String) -> Result<(), Fault>
+pub fn push_scalar_line(style: Style, text: &str, out: &mut String) -> Result<(), AllocError>
     ensures ok { OnOk result (string_bytes out.new ≡ string_bytes out.old ++ (event_line (scalar_event None untagged (style_of style) text.now) ++ (b-line-feed ∷ []))) }
-    ensures only { IfErr result (λ fault. fault ≡ Fault.OutOfMemory) }
 {
     out.put(before_value(style))?;
     push_value(text, out)?;
@@ -47,9 +46,8 @@ pub fn push_properties(
     anchor: &Option<CowStr<'_>>,
     tag: &EventTag<'_>,
     out: &mut String,
-) -> Result<(), Fault>
+) -> Result<(), AllocError>
     ensures ok { OnOk result (string_bytes out.new ≡ string_bytes out.old ++ (anchor_part (option_map cow_str_bytes anchor.now) ++ tag_part (written_of tag.now))) }
-    ensures only { IfErr result (λ fault. fault ≡ Fault.OutOfMemory) }
 {
     push_anchor(anchor, out)?;
     push_tag(tag, out)?;

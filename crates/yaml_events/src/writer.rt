@@ -134,11 +134,10 @@ pub fn put_line<S: Sink>(event: &Event<'_>, out: &mut S) -> Result<(), AllocErro
 
 /// Appends an event's line with its LF, as `write_events` writes it. The only error is `OutOfMemory`, only if the text had no
 /// room for the line. A part of the line may then be there.
-pub fn push_line(event: &Event<'_>, out: &mut String) -> Result<(), Fault>
+pub fn push_line(event: &Event<'_>, out: &mut String) -> Result<(), AllocError>
     ensures ok { OnOk result (string_bytes out.new ≡ string_bytes out.old ++ (event_line (event_of event.now) ++ (b-line-feed ∷ []))) }
     ensures keeps { string_capacity out.old ≤ string_capacity out.new }
     ensures full { OnErr result (string_capacity out.old < string_len out.old + length (event_line (event_of event.now) ++ (b-line-feed ∷ []))) }
-    ensures only { IfErr result (λ fault. fault ≡ Fault.OutOfMemory) }
 {
     put_line(event, out)?;
     Ok(())

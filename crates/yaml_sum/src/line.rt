@@ -63,7 +63,11 @@ fn printed_byte(byte: u8, is_text: bool) -> u8
 }
 
 /// Puts a name behind a line that reports a file, with `?` for each control character that has no escape.
-pub(crate) fn push_told_name(line: &mut Vec<u8>, name: &[u8], is_text: bool) -> Result<(), AllocError>
+pub(crate) fn push_told_name(
+    line: &mut Vec<u8>,
+    name: &[u8],
+    is_text: bool,
+) -> Result<(), AllocError>
     ensures ok { OnOk result (line.new.items ≡ line.old.items ++ told_name is_text name.now) }
 {
     'bytes: for byte in name {
@@ -77,7 +81,11 @@ pub(crate) fn push_told_name(line: &mut Vec<u8>, name: &[u8], is_text: bool) -> 
 
 /// Makes the line of a sum: a backslash where the name is not written as it is, the digest in hex, two
 /// spaces, the name, and a line feed.
-pub(crate) fn make_line(line: &mut Vec<u8>, digest: &[u8; 32], name: &[u8]) -> Result<(), AllocError>
+pub(crate) fn make_line(
+    line: &mut Vec<u8>,
+    digest: &[u8; 32],
+    name: &[u8],
+) -> Result<(), AllocError>
     ensures ok { OnOk result (line.new.items ≡ sum_line digest.now name.now) }
 {
     let mut digits = [0u8; 64];

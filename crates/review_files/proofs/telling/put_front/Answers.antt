@@ -4,10 +4,12 @@ use Rattle.review_text.proofs.Pieces.{then_more}
 use Rattle.review_files.proofs.telling.put_front.Goals as goal
 
 pub returns : goal.returns
-returns c = record { ok = (
-    let name = terminal c.args.name.now in
-    let o = string_bytes c.args.out.now in
-    let front = string_bytes c.push_str.new.self in
-    let shown = string_bytes c.put_shown.new.out in
-    let end = string_bytes c.push_str-2.new.self in
-    then_more o front end (codes "yamlreview: ") (name ++ codes ": ") c.in_ok-push_str.ensures.bytes (then_more front shown end name (codes ": ") c.in_ok-put_shown.ensures.ok c.in_ok-push_str-2.ensures.bytes)); }
+returns c = record {
+  ok = (
+      let name = terminal c.args.name.now in
+      let o = string_bytes c.args.out.now in
+      let front = string_bytes c.push_str.new.self in
+      let shown = string_bytes c.put_shown.new.out in
+      let end = string_bytes c.push_str-2.new.self in
+      then_more o front end (codes "yamlreview: ") (name ++ codes ": ") c.in_ok-push_str.ensures.bytes (then_more front shown end name (codes ": ") c.in_ok-put_shown.ensures.ok c.in_ok-push_str-2.ensures.bytes));
+}

@@ -10,7 +10,9 @@ loop-place-preserved c =
     let k = c.loop-place.place in
     placed-more vs k (get_or vs k 0) c.push.new.self.items c.loop-place-test.true refl (c.in_ok-push.ensures.items ∙ ap (λ z. z ++ ((get_or vs k 0, k) ∷ [])) c.loop-place.invariant)
 
-pub returns-clause-ok : goal.returns-clause-ok
-returns-clause-ok c =
-    in-order c.args.values.now c.sort_unstable.new.self.items
-    (subst (λ z. IsPermutation z c.sort_unstable.new.self.items) (c.loop-place.invariant ∙ ap (placed 0) (take_all c.loop-place.place c.args.values.now c.loop-place-test.false)) c.sort_unstable.ensures.permutation) c.sort_unstable.ensures.sorted
+pub returns : goal.returns
+returns c = record {
+  ok = (
+      in-order c.args.values.now c.sort_unstable.new.self.items
+      (subst (λ z. IsPermutation z c.sort_unstable.new.self.items) (c.loop-place.invariant ∙ ap (placed 0) (take_all c.loop-place.place c.args.values.now c.loop-place-test.false)) c.sort_unstable.ensures.permutation) c.sort_unstable.ensures.sorted);
+}

@@ -10,8 +10,10 @@ pieces-preserved c =
     names_more c.end_in-end.result c.pieces.rest.now c.cut.result.0.now c.in-Some.more.now _ _ _ cut.0 cut.1 c.pieces.invariant c.in_ok-add.ensures.ok
 
 pub returns-in-None : goal.returns-in-None
-returns-in-None c = record { ok = (
-    let cut : IsCut c.end_in-end.result c.pieces.rest.now c.cut.result.0.now None =
-    subst (IsCut c.end_in-end.result c.pieces.rest.now c.cut.result.0.now) (ap (option_map (λ s. s.now)) c.in-None.is) c.cut.ensures in
-    sym (names_last c.end_in-end.result c.pieces.rest.now c.cut.result.0.now _ _ _ cut.0 cut.1 c.pieces.invariant c.in_ok-add.ensures.ok)
-    ∙ ap (λ e. all_named (pieces e c.args.list.now)) c.end_in-end.ensures); }
+returns-in-None c = record {
+  ok = (
+      let cut : IsCut c.end_in-end.result c.pieces.rest.now c.cut.result.0.now None =
+      subst (IsCut c.end_in-end.result c.pieces.rest.now c.cut.result.0.now) (ap (option_map (λ s. s.now)) c.in-None.is) c.cut.ensures in
+      sym (names_last c.end_in-end.result c.pieces.rest.now c.cut.result.0.now _ _ _ cut.0 cut.1 c.pieces.invariant c.in_ok-add.ensures.ok)
+      ∙ ap (λ e. all_named (pieces e c.args.list.now)) c.end_in-end.ensures);
+}
