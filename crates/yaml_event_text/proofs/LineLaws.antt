@@ -1,6 +1,6 @@
 -- The lines of a reader's events, as these are put down, dressed and taken back.
 use Rattle.std.proofs.Common.{◌≡◌, ◌<◌, ◌≤◌, ℕ, suc, ◌+◌, true, false, Result, Ok, Err, IfOk, List, [], ◌∷◌, ◌++◌, length, map, take, drop, get_or, refl, sym, ◌∙◌, ap, subst, arith, append_assoc, length-append, take-append-drop}
-use Rattle.std.specs.Prelude.{Option, Some, None, IfSome, IfErr, IsOk, OnOk}
+use Rattle.std.specs.Prelude.{Option, Some, None, IfSome, IfErr, IsOk}
 use Rattle.std.specs.List.{insert_slice}
 use Rattle.std.specs.String.{string_bytes}
 use Rattle.std.proofs.lemmas.List.{append-nil, get_or-append-add, length-map}
@@ -84,10 +84,6 @@ lines_none l t s = record {
   count = ap length s;
   is = λ f. record { text = t ∙ sym text_none; starts = s ∙ sym (starts_none 0) };
 }
-
-pub on_if : {T E P Q : Type 0} (r : Result T E) → OnOk r P → (P → Q) → IfOk r (λ _. Q)
-on_if (Ok x) h f = f h
-on_if (Err e) h f = tt
 
 -- ---- what is answered
 
