@@ -247,8 +247,7 @@ pub fn put_fault(
 {
     let told = find_told(alloc, bytes, fault)?;
     match form {
-        Form::Line => put_lines(alloc, out, name, bytes, fault, &told)?,
-        Form::Json => put_json(alloc, out, name, bytes, fault, &told)?,
+        Form::Line => Ok(put_lines(alloc, out, name, bytes, fault, &told)?),
+        Form::Json => Ok(put_json(alloc, out, name, bytes, fault, &told)?),
     }
-    Ok(())
 }

@@ -378,10 +378,7 @@ fn words_at(
             text: own,
             cause: None,
         }),
-        None => match words_of(alloc, fault, text, at) {
-            Ok(words) => Ok(words),
-            Err(_) => Err(AllocError),
-        },
+        None => words_of(alloc, fault, text, at),
     }
 }
 

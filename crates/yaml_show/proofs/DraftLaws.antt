@@ -1,6 +1,7 @@
 -- Drafts, piece by piece.
 use Rattle.std.proofs.Common.{◌≡◌, ℕ, Bool, true, false, not, List, [], ◌∷◌, ◌++◌, refl, sym, ◌∙◌, ap, subst}
-use Rattle.std.specs.Prelude.{Result, Ok, Err, OnOk, IfErr, IfOk, Option, Some, None, is_some, result_err, string_bytes}
+use Rattle.std.specs.Prelude.{Result, Ok, Err, OnOk, IfErr, IfOk, Option, Some, None, is_some, string_bytes}
+use Rattle.std.specs.Result.{result_err}
 use Rattle.std.proofs.lemmas.List.{append_assoc, append-nil}
 use Rattle.yaml_show_scalar.specs.Stops.{limit_of, Stops}
 use Rattle.yaml_show_scalar.specs.Texts.{written}

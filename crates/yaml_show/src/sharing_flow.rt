@@ -1,5 +1,5 @@
 //! Nodes on one line, with anchors and aliases.
-ghost use Rattle.std.specs.Prelude.{◌≡◌, ◌<◌, ◌++◌, ◌∷◌, []};
+ghost use Rattle.std.specs.Prelude.{◌≡◌, ◌<◌, ◌++◌, ◌∷◌, ◌&&◌, [], not};
 ghost use Rattle.std.specs.List.{All};
 ghost use Rattle.yaml_definitions.specs.grammar.Characters.{c-mapping-start, c-sequence-start};
 ghost use Rattle.yaml_spell.specs.declared.names.Opening.TheVariants.{Plain};
@@ -34,10 +34,10 @@ fn mark(is_simple: bool) -> &'static str
 }
 
 /// What is between a key and its value.
-fn colon(is_simple: bool) -> &'static str
-    ensures { result.now ≡ colon is_simple }
+fn colon(is_simple: bool, is_alias: bool) -> &'static str
+    ensures { result.now ≡ colon (is_simple && not is_alias) }
 {
-    if is_simple { ": " } else { " : " }
+    if is_simple && !is_alias { ": " } else { " : " }
 }
 
 /// Writes a node on one line, in a key of a block mapping or elsewhere. The answer is whether it is an alias.
@@ -148,7 +148,7 @@ fn put_entries<I: Copy, V: RankedNodes<I>>(
         let is_simple = is_simple_key(view, entry.0, in_key);
         draft.put(mark(is_simple));
         let is_alias = put_shared_flow(view, names, entry.0, in_key, draft);
-        draft.put(colon(is_simple && !is_alias));
+        draft.put(colon(is_simple, is_alias));
         put_shared_flow(view, names, entry.1, in_key, draft);
     }
     draft.put("}");

@@ -10,7 +10,6 @@ mod tags;
 mod texts;
 pub mod value;
 
-pub use crate::{Value, Values};
 pub use making::Values;
 pub use stream::values;
 pub use value::Value;

@@ -7,7 +7,6 @@ use Rattle.review_places.specs.Trace.{TraceHolds, shapes_in}
 use Rattle.review_faults.specs.EventPlaces.{IsEventOf}
 use Rattle.review_faults.specs.EventSpots.{IsSpotAt}
 use Rattle.review_faults.proofs.AgainLaws.{reading_refused}
-use Rattle.review_faults.proofs.SpotLaws.{if_ok}
 use Rattle.review_faults.proofs.spots.spot_of_event.Goals as goal
 
 pub returns-in_err-trace-clause-err : goal.returns-in_err-trace-clause-err
@@ -39,8 +38,9 @@ returns-clause-ok c =
     let number = c.in-Some.number in
     let text = c.unmarked-text.result.now in
     let same : held.0 ≡ events = c.in_ok-events.ensures.only held.0 held.1 in
-    if_ok c.spot_at.result c.spot_at.ensures.ok
-    (λ spot known. record {
+    let spot = c.in_ok-spot_at.field-0 in
+    let known = c.in_ok-spot_at.ensures.ok in
+    record {
       trace = trace;
       events = events;
       reads = (text_of c.in_ok-source.source, c.in_ok-source.ensures.read, c.in_ok-events.ensures.ok);
@@ -48,4 +48,4 @@ returns-clause-ok c =
       event = Some number;
       is = subst (λ z. IsEventOf (shapes_in trace.events.items) c.args.fault (option_map (λ t. t.0) z)) c.in-Some.is c.in_ok-number.ensures.event;
       known = subst (λ z. IsSpotAt trace events z c.args.fault number spot) c.unmarked-text.ensures (subst (λ z. IsSpotAt trace (map event_of z) text c.args.fault number spot) c.deref.ensures.value known);
-    })
+    }

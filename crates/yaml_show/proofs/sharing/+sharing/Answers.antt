@@ -1,4 +1,4 @@
-use Rattle.std.proofs.Common.{◌≡◌, ℕ, ◌+◌, ◌*◌, ◌<◌, List, [], ◌∷◌, ◌++◌, refl, sym, ◌∙◌, ap, rules, arith}
+use Rattle.std.proofs.Common.{◌≡◌, true, false, ℕ, ◌+◌, ◌*◌, ◌<◌, List, [], ◌∷◌, ◌++◌, refl, sym, ◌∙◌, ap, rules, arith}
 use Rattle.yaml_definitions.specs.model.Tree.{height, heights, heights_of_pairs}
 use Rattle.yaml_spell.specs.NamesView.{given_of}
 use Rattle.yaml_spell.specs.RankedNodes.{tree_of, pair_of, trees_of, pairs_of}
@@ -181,8 +181,8 @@ put_inside-returns-then-level-ge-DEEPEST-clause-adds g w c =
     let e = sequence-shown N T t _ _ _ c.node-node.ensures.tree c.in-Sequence.is in
     adds_as _ _ _ _ (deep_items_inside R c.args.place c.args.level t _ p _ e (some_items f xs (sym c.if-is_empty.ensures)) (deep c.args.level (omega arith))) c.put_line.ensures.adds
 
-pub put_inside-returns-in-Sequence-clause-known : goal.put_inside-returns-in-Sequence-clause-known
-put_inside-returns-in-Sequence-clause-known g w c =
+pub put_inside-returns-else-level-ge-DEEPEST-clause-known : goal.put_inside-returns-else-level-ge-DEEPEST-clause-known
+put_inside-returns-else-level-ge-DEEPEST-clause-known g w c =
     let N = g.V.RankedNodes.number in
     let v = c.args.view.now in
     let R = g.V.RankedNodes.rank v in
@@ -194,8 +194,8 @@ put_inside-returns-in-Sequence-clause-known g w c =
     let e = sequence-shown N T t _ _ _ c.node-node.ensures.tree c.in-Sequence.is in
     c.put_items.ensures.known ∙ sequence_given R t _ _ p e
 
-pub put_inside-returns-in-Sequence-clause-adds : goal.put_inside-returns-in-Sequence-clause-adds
-put_inside-returns-in-Sequence-clause-adds g w c =
+pub put_inside-returns-else-level-ge-DEEPEST-clause-adds : goal.put_inside-returns-else-level-ge-DEEPEST-clause-adds
+put_inside-returns-else-level-ge-DEEPEST-clause-adds g w c =
     let N = g.V.RankedNodes.number in
     let v = c.args.view.now in
     let R = g.V.RankedNodes.rank v in
@@ -270,7 +270,8 @@ put_inside-returns-in-Ok-true-clause-adds g w c =
     let f = pair_of g.V.RankedNodes.tree N v in
     let xs = c.in-Mapping.entries.now in
     let e = mapping-shown N T t _ _ _ c.node-node.ensures.tree c.in-Mapping.is in
-    adds_as _ _ _ _ (entries_inside R c.args.place c.args.level t _ p _ e _ _ map_own (some_entries f xs (sym c.if-is_empty-2.ensures)) (shallow c.args.level (omega arith)) (sym c.in-Ok-true.ensures.ok) c.goes_on-begun-in-Ok-true.ensures) (adds_then _ _ _ _ _ c.put_head-in-Ok-true.ensures c.put_entries.ensures.adds)
+    let h = λ (known : c.in-Ok-true.field-0 ≡ true). adds_as _ _ _ _ (entries_inside R c.args.place c.args.level t _ p _ e _ _ map_own (some_entries f xs (sym c.if-is_empty-2.ensures)) (shallow c.args.level (omega arith)) (sym c.in-Ok-true.ensures.ok ∙ known) c.goes_on-begun-in-Ok-true.ensures) (adds_then _ _ _ _ _ c.put_head-in-Ok-true.ensures c.put_entries.ensures.adds) in
+    search (rules, h)
 
 pub put_inside-returns-in-Ok-false-clause-adds : goal.put_inside-returns-in-Ok-false-clause-adds
 put_inside-returns-in-Ok-false-clause-adds g w c =
@@ -283,7 +284,8 @@ put_inside-returns-in-Ok-false-clause-adds g w c =
     let f = pair_of g.V.RankedNodes.tree N v in
     let xs = c.in-Mapping.entries.now in
     let e = mapping-shown N T t _ _ _ c.node-node.ensures.tree c.in-Mapping.is in
-    adds_as _ _ _ _ (wide_entries_inside R c.args.place c.args.level t _ p _ e (some_entries f xs (sym c.if-is_empty-2.ensures)) (shallow c.args.level (omega arith)) (sym c.in-Ok-false.ensures.ok)) c.put_line-in-Ok-false.ensures.adds
+    let h = λ (known : c.in-Ok-false.field-0 ≡ false). adds_as _ _ _ _ (wide_entries_inside R c.args.place c.args.level t _ p _ e (some_entries f xs (sym c.if-is_empty-2.ensures)) (shallow c.args.level (omega arith)) (sym c.in-Ok-false.ensures.ok ∙ known)) c.put_line-in-Ok-false.ensures.adds in
+    search (rules, h)
 
 pub put_inside-returns-in-Err-clause-adds : goal.put_inside-returns-in-Err-clause-adds
 put_inside-returns-in-Err-clause-adds g w c =

@@ -1,4 +1,4 @@
-use Rattle.std.proofs.Common.{◌≡◌, ℕ, ◌+◌, ◌*◌, ◌<◌, List, [], ◌∷◌, ◌++◌, refl, sym, ◌∙◌, ap, rules, arith}
+use Rattle.std.proofs.Common.{◌≡◌, ℕ, ◌+◌, ◌*◌, ◌<◌, ◌&&◌, not, List, [], ◌∷◌, ◌++◌, refl, sym, ◌∙◌, ap, rules, arith}
 use Rattle.yaml_definitions.specs.model.Tree.{height, heights, heights_of_pairs}
 use Rattle.yaml_spell.specs.NamesView.{given_of}
 use Rattle.yaml_spell.specs.RankedNodes.{tree_of, pair_of, trees_of, pairs_of}
@@ -7,6 +7,7 @@ use Rattle.yaml_spell.proofs.NamesLaws.{still}
 use Rattle.yaml_spell.proofs.ShownLaws.{scalar-shown, sequence-shown, mapping-shown, items-within, entries-within, sequence-high, mapping-high, item-lower, key-lower, value-lower, item-in}
 use Rattle.yaml_spell.proofs.WalkLaws.{drop_item}
 use Rattle.yaml_spell.proofs.WriteLaws.{given_alias, given_anchored, given_plain, items_given, items_known, pairs_given, pairs_known}
+use Rattle.yaml_show.specs.Flow.{mark, colon}
 use Rattle.yaml_show.proofs.FlowLaws.{seq_own, map_own}
 use Rattle.yaml_show.proofs.DraftLaws.{adds_as, adds_then, adds_three, left_none, left_as, left_next, left_last}
 use Rattle.yaml_show.proofs.SharingLaws.{is_one_alias, anchored_is_none, plain_is_none, flow_by_alias, flow_by_anchor, flow_by_plain, flow_scalar, flow_sequence, flow_mapping, flow_items_split, flow_items_end, flow_entries_split, flow_entries_end, scalar_given, sequence_given, mapping_given}
@@ -244,7 +245,7 @@ put_items-loop-place-preserved g w c =
     record {
       known = items_given R f xs i x _ _ _ l c.put_shared_flow.ensures.known c.loop-place.invariant.known;
       long = c.put_shared_flow.ensures.long ∙ c.loop-place.invariant.long;
-      left = left_next _ _ _ _ _ _ (left_next _ _ _ _ _ _ (left_as _ _ _ _ _ (flow_items_split R c.args.in_key f xs i x _ _ l c.put_shared_flow.ensures.known) c.loop-place.invariant.left) c.put-in-loop-place.ensures) c.put_shared_flow.ensures.adds;
+      left = left_next _ _ _ _ _ _ (left_next _ _ _ _ _ _ (left_as _ _ _ _ _ (flow_items_split R c.args.in_key f xs i x _ _ l c.put_shared_flow.ensures.known) c.loop-place.invariant.left) (adds_as _ _ _ _ c.separator.ensures c.put-in-loop-place.ensures)) c.put_shared_flow.ensures.adds;
     }
 
 pub put_items-returns-clause-known : goal.put_items-returns-clause-known
@@ -287,16 +288,17 @@ put_entries-loop-place-preserved g w c =
     let x = c.index-entries-place.result in
     let l = drop_item xs i x (omega arith) c.index-entries-place.is in
     let k = c.put_shared_flow-is_alias.ensures.known in
-    let m = c.put_shared_flow-in-loop-place.ensures.known in
+    let m = c.put_shared_flow.ensures.known in
     let a = left_as _ _ _ _ _ (flow_entries_split R c.args.in_key f xs i x _ _ _ l k m) c.loop-place.invariant.left in
-    let b = left_next _ _ _ _ _ _ a c.put-in-loop-place.ensures in
-    let d = left_next _ _ _ _ _ _ b c.put-in-loop-place-2.ensures in
+    let s = c.is_simple_key-is_simple.ensures in
+    let b = left_next _ _ _ _ _ _ a (adds_as _ _ _ _ c.separator.ensures c.put-in-loop-place.ensures) in
+    let d = left_next _ _ _ _ _ _ b (adds_as _ _ _ _ (c.mark.ensures ∙ ap mark s) c.put-in-loop-place-2.ensures) in
     let e = left_next _ _ _ _ _ _ d c.put_shared_flow-is_alias.ensures.adds in
-    let h = left_next _ _ _ _ _ _ e c.put-in-loop-place-3.ensures in
+    let h = left_next _ _ _ _ _ _ e (adds_as _ _ _ _ (c.colon.ensures ∙ (λ j. colon (s j && not (c.put_shared_flow-is_alias.ensures.alias j)))) c.put-in-loop-place-3.ensures) in
     record {
       known = pairs_given R f xs i x _ _ _ _ l k m c.loop-place.invariant.known;
-      long = c.put_shared_flow-in-loop-place.ensures.long ∙ (c.put_shared_flow-is_alias.ensures.long ∙ c.loop-place.invariant.long);
-      left = left_next _ _ _ _ _ _ h c.put_shared_flow-in-loop-place.ensures.adds;
+      long = c.put_shared_flow.ensures.long ∙ (c.put_shared_flow-is_alias.ensures.long ∙ c.loop-place.invariant.long);
+      left = left_next _ _ _ _ _ _ h c.put_shared_flow.ensures.adds;
     }
 
 pub put_entries-returns-clause-known : goal.put_entries-returns-clause-known
@@ -333,8 +335,8 @@ put_items-put_shared_flow-requires g w c =
     let lower : 3 * height (T (N x)) + 2 < 3 * heights (trees_of g.V.RankedNodes.tree N v xs) = omega (arith, low) in
     search rules
 
-pub put_entries-put_shared_flow-requires : goal.put_entries-put_shared_flow-requires
-put_entries-put_shared_flow-requires g w c =
+pub put_entries-put_shared_flow-is_alias-requires : goal.put_entries-put_shared_flow-is_alias-requires
+put_entries-put_shared_flow-is_alias-requires g w c =
     let N = g.V.RankedNodes.number in
     let v = c.args.view.now in
     let R = g.V.RankedNodes.rank v in
@@ -347,8 +349,8 @@ put_entries-put_shared_flow-requires g w c =
     let lower : 3 * height (T (N x.0)) + 2 < 3 * heights_of_pairs (pairs_of g.V.RankedNodes.tree N v xs) = omega (arith, low) in
     search rules
 
-pub put_entries-put_shared_flow-requires-in-loop-place : goal.put_entries-put_shared_flow-requires-in-loop-place
-put_entries-put_shared_flow-requires-in-loop-place g w c =
+pub put_entries-put_shared_flow-requires : goal.put_entries-put_shared_flow-requires
+put_entries-put_shared_flow-requires g w c =
     let N = g.V.RankedNodes.number in
     let v = c.args.view.now in
     let R = g.V.RankedNodes.rank v in
