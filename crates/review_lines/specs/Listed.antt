@@ -1,5 +1,5 @@
 -- What is listed of two streams.
-use Rattle.std.specs.Prelude.{◌≡◌, ◌==◌, ◌&&◌, ◌-◌, ℕ, false, length, List}
+use Rattle.std.specs.Prelude.{◌≡◌, ◌==◌, ◌&&◌, ◌-◌, ℕ, false, length, List, true}
 use Rattle.yaml_diff.specs.declared.difference.Found.{Found}
 use Rattle.review_text.specs.declared.options.Diff.{Diff}
 use Rattle.review_patterns.specs.declared.pattern.Pattern.{Pattern}
