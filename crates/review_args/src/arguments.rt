@@ -173,9 +173,7 @@ pub(crate) fn words<'a>(alloc: Global) -> Arg<'a>
         .num_args(1..)
         .action(ArgAction::Append)
         .trailing_var_arg(true)
-        .help(
-            "1, 7 or 9 words, as git passes them; `--lines=show` before them prints changed lines of what `show` writes, `--color=WHEN` differences in colour",
-        )
+        .help("The 1, 7 or 9 arguments that git passes")
 }
 
 /// How many lines are printed around changed ones.
@@ -184,7 +182,7 @@ pub(crate) fn unified<'a>(alloc: Global) -> Arg<'a>
     ensures local { result.global ≡ false }
 {
     let help =
-        "Of strings that have several lines, print N lines before and behind each changed line";
+        "Of strings that have several lines, print N lines before and after each changed line";
     number(alloc, "unified", 1_000, help)
         .short('U')
         .default_value("0")
@@ -230,7 +228,7 @@ pub(crate) fn most<'a>(alloc: Global) -> Arg<'a>
     ensures local { result.global ≡ false }
 {
     let help =
-        "Print at most N lines (1000), and then `...` if there are more; 0 for the status alone";
+        "Print at most N lines, and then `...` if there are more; 0 for the status alone [default: 1000]";
     number(alloc, "lines", 1_000_000, help)
 }
 
@@ -239,7 +237,7 @@ pub(crate) fn quiet<'a>(alloc: Global) -> Arg<'a>
     ensures rule { rule_of result ≡ letter (codes "quiet") 113 }
     ensures local { result.global ≡ false }
 {
-    let help = "Print nothing; the status tells the result";
+    let help = "Print nothing; the status reports the result";
     letter(alloc, "quiet", 'q', help)
 }
 
@@ -249,7 +247,7 @@ pub(crate) fn stat<'a>(alloc: Global) -> Arg<'a>
     ensures local { result.global ≡ false }
 {
     let help =
-        "Print how many differences there are: `+` only right, `-` only left, `~` changed, `>` moved";
+        "Print how many differences there are: `+` only right, `-` only left, `~` changed, `>` moved; for --format=line or json";
     flag(alloc, "stat", help)
 }
 
@@ -258,7 +256,7 @@ pub(crate) fn by_position<'a>(alloc: Global) -> Arg<'a>
     ensures rule { rule_of result ≡ flag (codes "by-position") }
     ensures local { result.global ≡ false }
 {
-    let help = "Pair items by their places, so that none moves";
+    let help = "Pair items in their order, so that none moves";
     flag(alloc, "by-position", help)
 }
 
@@ -268,7 +266,7 @@ pub(crate) fn by<'a>(alloc: Global) -> Arg<'a>
     ensures local { result.global ≡ false }
 {
     let help =
-        "Pair items first by the values of these keys, parted by commas: `host,spec.id`; repeatable";
+        "Pair items first by the values of these keys, separated by commas: `host,spec.id`; repeatable";
     repeated(alloc, "by", "KEYS", help)
 }
 
@@ -278,7 +276,7 @@ pub(crate) fn no_fold<'a>(alloc: Global) -> Arg<'a>
     ensures local { result.global ≡ false }
 {
     let help =
-        "Print a line for each place at which aliases show one change, and for each pair that moved";
+        "Print a line for each path at which aliases show one change, and for each pair that moved";
     flag(alloc, "no-fold", help)
 }
 

@@ -27,7 +27,10 @@ use clap::{Arg, Command};
 use std::alloc::{AllocError, Global};
 
 const DIFF_STATUSES: &str =
-    "Items of two lists are pairs if they are equal, or by the first of these names that stands once on each side:
+    "A and B are two files, or two folders whose files are compared by their names. One file may be `-`, standard input. In two folders,
+files with the same bytes are the same, even if they are rejected.
+
+Items of two lists are pairs if they are equal, or by the first of these names that occurs once on each side:
   apiVersion (without its version), kind, metadata.namespace, metadata.name
   name, id, key, alert, uid, containerPort, path (not of documents)
 Then by what they have in common, and then in turn. A pair that moved has a line `>` with its name or its text. Neighbours
@@ -39,52 +42,57 @@ key that is not a string, has more than 65536 bytes, or has a character that a t
 and the path of --paths=plain. JSON and pages have plain paths.
 
 Exit status:
-  0  the streams are the same, or differ only at or below paths that are ignored
+  0  the files mean the same, or differ only at or below ignored paths
   1  they differ
-  2  a file is rejected
-  3  the arguments, a file or a stream cannot be used";
+  2  a file is rejected, or memory runs out
+  3  the arguments are wrong, a file cannot be read, or standard input or output fails";
 
 const FAULTS_STATUSES: &str = "Exit status (of several files the greatest):
   0  no file is rejected
-  2  a file is rejected
-  3  the arguments, a file or a stream cannot be used";
+  2  a file is rejected, or memory runs out
+  3  the arguments are wrong, a file cannot be read, or standard input or output fails";
 
 const WARN_STATUSES: &str = "There is a warning for each
-  plain scalar that YAML 1.1 reads otherwise, and for a float such as 3.10, which is 3.1
+  plain scalar that YAML 1.1 reads differently, and for a float such as 3.10, which is 3.1
   plain scalar in a flow collection that begins with `?` or `:`
   anchor or alias whose name has another character than A to Z, a to z, 0 to 9, `-` and `_`
-  key that is equal to an earlier key of its mapping in Python, as true and 1, or in JavaScript, as 1 and \"1\"
-  int with the tag `!!int` that YAML 1.1 reads by base 8, as `!!int 010`
+  key that is equal to an earlier key of its mapping in Python, such as true and 1, or in JavaScript, such as 1 and \"1\"
+  int with the tag `!!int` that YAML 1.1 reads as octal, such as `!!int 010`
   slip: `{{ x }}`, `{type:string}`, `data:{}`, `<<` that is no key, typographic quotes around a text, a no-break space
-    or a space of no width in it, stops and commas alone, `// x` or a key `x \"b\"` in brackets or braces,
-    lines as `-a` and `-b` below each other, which are one text
+    or a zero-width space in it, full stops and commas alone, `// x` or a key `x \"b\"` in brackets or braces,
+    lines such as `-a` and `-b` below each other, which are one text
 The first three were compared with PyYAML, libyaml and yaml.v3. Tags and characters that end a line in YAML 1.1 alone are not looked at.
 
 Exit status (of several files the greatest):
   0  no file is rejected, and with --strict there is no warning
   1  with --strict: there is a warning
-  2  a file is rejected
-  3  the arguments, a file or a stream cannot be used";
+  2  a file is rejected, or memory runs out
+  3  the arguments are wrong, a file cannot be read, or standard input or output fails";
 
 const SHOW_STATUSES: &str =
     "What `yamlreview warn` lists of a file is printed on standard error, unless --check or --textconv is given.
 
-Exit status (of several files the greatest):
-  0  each file is shown, or with --check as `show` writes it; with --textconv also if one is rejected
-  1  with --check: a file is not as `show` writes it; with --strict: a file has a warning, and is not shown
-  2  a file is rejected, or JSON cannot express it
-  3  the arguments, a file or a stream cannot be used";
+Give only one of --check, --strict and --textconv, and only one of --keep-order, --sharing and --format=json.
 
-const SUM_STATUSES: &str = "Exit status (of several files the greatest):
-  0  each file has a digest, or the one that LIST has
-  1  a file has another digest than LIST has; with --strict: a line of LIST is not one of a digest; with --ignore-missing: no file has
-     its digest
-  2  a file is rejected
-  3  the arguments, a file, LIST or a stream cannot be used";
+Exit status (of several files the greatest):
+  0  each file is shown, or with --check is as `show` writes it; with --textconv also if one is rejected
+  1  with --check: a file is not as `show` writes it; with --strict: a file has a warning, and is not shown
+  2  a file is rejected, JSON cannot express it, or memory runs out
+  3  the arguments are wrong, a file cannot be read, or standard input or output fails";
+
+const SUM_STATUSES: &str =
+    "Give only one of FILE, --files-from and --check. --check takes LIST as its value: write `sum --quiet --check LIST`.
+
+Exit status (of several files the greatest):
+  0  each file has a checksum, or with --check the one that LIST has
+  1  with --check: a file has another checksum than LIST has; with --strict: a line of LIST is not a checksum line;
+     with --ignore-missing: no file has its checksum
+  2  a file is rejected, or memory runs out
+  3  the arguments are wrong, a file or LIST cannot be read, LIST has no checksum line, or standard input or output fails";
 
 const MERGE_STATUSES: &str =
     "Each conflict has a line: `!`, the path, what BASE, OURS and THEIRS have there, and where. With RESULT there is a line `~` for each path
-at which it is not the merge.
+at which it is not the merge. One of the files may be `-`, standard input.
 
 Where one side is as BASE, the merge has what the other side has. Where both sides are the same, it has that. Otherwise mappings are
 merged by their keys. All else is one value: if both sides changed it, they conflict. A list is one value, and so is each of several
@@ -93,13 +101,17 @@ documents.
 Exit status:
   0  both changes can be merged; with RESULT: it is the merge
   1  they conflict, or RESULT is not the merge
-  2  a file is rejected, or aliases make too many paths to look at
-  3  the arguments, a file or a stream cannot be used";
+  2  a file is rejected, aliases make too many paths to look at, or memory runs out
+  3  the arguments are wrong, a file cannot be read, or standard input or output fails";
 
-const GIT_STATUSES: &str = "Exit status:
+const GIT_STATUSES: &str = "One of these options may be before the arguments of git:
+  --lines=show    Print changed lines of what `show` writes
+  --color=<WHEN>  Print differences in colour [possible values: auto, always, never]
+
+Exit status:
   0  whatever is found, since git stops at any other status
-  2  memory is refused
-  3  the arguments or the output cannot be used";
+  2  memory runs out
+  3  the arguments are wrong, or the output fails";
 
 /// A command with its arguments.
 fn command<'a>(
@@ -124,8 +136,8 @@ fn diff<'a>(alloc: Global, choices: &Choices<'a>) -> Result<Command<'a>, AllocEr
     ensures local { IfOk result IsLocal }
 {
     let args = vec![in alloc;
-        file(alloc, "A", true, "The left file; `-` is standard input"),
-        file(alloc, "B", true, "The right file"),
+        file(alloc, "A", true, "The left file or folder"),
+        file(alloc, "B", true, "The right file or folder"),
         no_places(alloc),
         whole(alloc),
         most(alloc),
@@ -144,7 +156,7 @@ fn diff<'a>(alloc: Global, choices: &Choices<'a>) -> Result<Command<'a>, AllocEr
     command(
         alloc,
         "diff",
-        "Prints where two streams differ",
+        "Prints where two files differ",
         DIFF_STATUSES,
         args,
     )
@@ -177,7 +189,7 @@ fn warn<'a>(alloc: Global, choices: &Choices<'a>) -> Result<Command<'a>, AllocEr
             alloc,
             "allow",
             "WORD",
-            "Do not warn of WORD: a scalar, as `on`, or a name with its `&` or `*`; repeatable"
+            "Do not warn of WORD: a scalar, such as `on`, or a name with its `&` or `*`; repeatable"
         ),
         lines(
             alloc,
@@ -188,7 +200,7 @@ fn warn<'a>(alloc: Global, choices: &Choices<'a>) -> Result<Command<'a>, AllocEr
     command(
         alloc,
         "warn",
-        "Prints what other tools read otherwise",
+        "Prints what other tools read differently",
         WARN_STATUSES,
         args,
     )
@@ -210,12 +222,12 @@ fn show<'a>(alloc: Global, choices: &Choices<'a>) -> Result<Command<'a>, AllocEr
         flag(
             alloc,
             "keep-order",
-            "Write entries in the order of the source; files that mean the same may then have different texts"
+            "Write entries in the order of the file; files that mean the same may then have different texts"
         ),
         flag(
             alloc,
             "sharing",
-            "Write a node that comes again as an alias, with the anchors of the canonical text"
+            "Write a repeated node as an alias, with the anchors of the canonical text"
         ),
         flag(
             alloc,
@@ -231,7 +243,7 @@ fn show<'a>(alloc: Global, choices: &Choices<'a>) -> Result<Command<'a>, AllocEr
     command(
         alloc,
         "show",
-        "Prints streams as readable YAML, or as JSON",
+        "Prints files as readable YAML, or as JSON",
         SHOW_STATUSES,
         args,
     )
@@ -252,27 +264,27 @@ fn sum<'a>(alloc: Global) -> Result<Command<'a>, AllocError>
         list(
             alloc,
             "check",
-            "Check the digests of LIST, which `sum` or `sha256sum` wrote"
+            "Check files against the checksums of LIST, which `sum` or `sha256sum` wrote"
         ),
         flag(
             alloc,
             "ignore-missing",
-            "With --check: leave out files that are not there, if one file has its digest"
+            "With --check: leave out files that are not there, if one file has its checksum"
         ),
         flag(
             alloc,
             "quiet",
-            "With --check: print no line for a file that has its digest"
+            "With --check: print no line for a file that has its checksum"
         ),
         flag(
             alloc,
             "status",
-            "With --check: print nothing of files and lines; the status tells the result"
+            "With --check: print nothing about files and lines; the status reports the result"
         ),
         flag(
             alloc,
             "strict",
-            "With --check: end with status 1 if a line of LIST is not one of a digest"
+            "With --check: end with status 1 if a line of LIST is not a checksum line"
         ),
     ]?;
     command(
@@ -290,12 +302,7 @@ fn merge3<'a>(alloc: Global, choices: &Choices<'a>) -> Result<Command<'a>, Alloc
     ensures local { IfOk result IsLocal }
 {
     let args = vec![in alloc;
-        file(
-            alloc,
-            "BASE",
-            true,
-            "The file that both sides changed; `-` is standard input"
-        ),
+        file(alloc, "BASE", true, "The file that both sides changed"),
         file(alloc, "OURS", true, "What one side made of it"),
         file(alloc, "THEIRS", true, "What the other side made of it"),
         file(
@@ -316,7 +323,7 @@ fn merge3<'a>(alloc: Global, choices: &Choices<'a>) -> Result<Command<'a>, Alloc
     command(
         alloc,
         "merge3",
-        "Prints where two changes of a stream conflict, or where RESULT is not their merge",
+        "Prints where two changes of a file conflict, or where RESULT is not their merge",
         MERGE_STATUSES,
         args,
     )
@@ -359,7 +366,7 @@ pub(crate) fn grammar<'a>(alloc: Global) -> Result<Command<'a>, AllocError>
     let commands = commands(alloc, &choices)?;
     Command::new(alloc, "yamlreview")
         .version("1.1.0 (yamlcanon-form-1)")
-        .about("Prints where two YAML streams differ, and where in a file a fault is")
+        .about("Prints where two YAML files differ, and where and why a file is rejected")
         .bin_name("yamlreview")?
         .no_binary_name(true)
         .subcommand_required(true)
