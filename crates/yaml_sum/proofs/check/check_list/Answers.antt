@@ -14,4 +14,4 @@ returns-in-Ok-close-clause-ok g c =
 pub returns-clause-err : goal.returns-clause-err
 returns-clause-err g c =
     list_cut (g.S.Shelf.holds c.args.shelf.now) g.R.Read.remaining g.W.Write.contents g.E.Write.contents c.args.rules c.manner_of-manner.result c.args.list.now c.read_list.new.bytes.items c.as_slice-text.result.now c.args.input.now c.read_list.new.input c.check_lines.new.input c.args.out.now c.check_lines.new.out c.args.err.now
-    c.check_lines.new.err c.close.new.err c.in-Ok.told c.in-Err-close.fault c.manner_of-manner.ensures.rules c.manner_of-manner.ensures.form c.as_slice-text.ensures.value c.in_ok-read_list.ensures.ok c.in-Ok.ensures.ok c.in-Err-close.ensures.only c.in-Err-close.ensures.quiet
+    c.check_lines.new.err c.close.new.err c.in-Ok.told c.into.result c.manner_of-manner.ensures.rules c.manner_of-manner.ensures.form c.as_slice-text.ensures.value c.in_ok-read_list.ensures.ok c.in-Ok.ensures.ok c.into.ensures c.in-Err-close.ensures.quiet
