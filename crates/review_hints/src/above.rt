@@ -25,6 +25,24 @@ impl Sought {
     }
 }
 
+/// The offset of the first of the comments at the end of a text that is indented by fewer spaces than these.
+pub fn comment_above(text: &str, indent: usize) -> Option<usize> {
+    let mut end = text.len();
+    let mut found = None;
+    for line in text.rsplit('\n') {
+        let start = end.saturating_sub(line.len());
+        let is_comment = line.trim_start().starts_with('#');
+        if !is_comment && !line.trim().is_empty() {
+            return found;
+        }
+        if is_comment && indent_of(line) < indent {
+            found = Some(start.saturating_add(indent_of(line)));
+        }
+        end = start.saturating_sub(1);
+    }
+    found
+}
+
 /// The offset of the first character of the last such line, if it is near.
 pub fn find_above(text: &str, sought: Sought) -> Option<usize> {
     let mut end = text.len();

@@ -9,7 +9,9 @@ pub fn alias_words(before: &str, behind: &str) -> &'static str
     ensures { is_plain result.now ≡ true }
 {
     let name = word_of(behind).strip_prefix('*').unwrap_or("");
-    if !is_name(name) {
+    if has_colon(before, name) {
+        colon_words(before)
+    } else if !is_name(name) {
         "quote a value that starts with `*`: as an alias it names no anchor before it"
     } else if before.split('\n').any(|line| is_colon(line, name)) {
         "the anchor above has a colon at its end, which is part of its name: remove the colon"
@@ -21,6 +23,27 @@ pub fn alias_words(before: &str, behind: &str) -> &'static str
         "no anchor of this name comes before it, but one of nearly this name: write the name of that, or quote the value"
     } else {
         "no anchor of this name comes before it in its document: define it first, or quote the value"
+    }
+}
+
+/// Whether a name ends with a colon, and its document has an anchor of this name without the colon before it.
+fn has_colon(before: &str, name: &str) -> bool {
+    let document = before.rsplit("\n---").next().unwrap_or("");
+    match name.strip_suffix(':') {
+        Some(name) => is_name(name) && has_anchor(document, name),
+        None => false,
+    }
+}
+
+/// Of an alias whose name is read with a colon, by what is before it: where it may be a key, that may be meant.
+fn colon_words(before: &str) -> &'static str
+    ensures { is_plain result.now ≡ true }
+{
+    let line = before.rsplit('\n').next().unwrap_or("").trim();
+    if line.is_empty() || line.ends_with(['{', ',', '?', '-']) {
+        "the colon is read as part of the alias's name: remove it, or put a space before it if the alias is a key"
+    } else {
+        "the colon is read as part of the alias's name: remove it"
     }
 }
 

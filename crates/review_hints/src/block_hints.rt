@@ -2,7 +2,8 @@
 ghost use Rattle.std.specs.Prelude.{◌≡◌, true, IfSome};
 ghost use Rattle.review_hints.specs.Hinted.{is_plain};
 
-use crate::spot::{Spot, depth, indent_of, is_entry, is_header, uncommented};
+use crate::above::comment_above;
+use crate::spot::{Spot, depth, indent_of, is_entry, is_header, last_within, uncommented};
 
 /// What is wrong with a block scalar's header, or with the line after it.
 pub fn block_words(spot: &Spot<'_>) -> Option<&'static str>
@@ -16,8 +17,7 @@ pub fn block_words(spot: &Spot<'_>) -> Option<&'static str>
             "put the `|` or `>` of a block scalar on the line of its key, or indent it more than the key",
         );
     }
-    let is_below = is_header(spot.above) && indent_of(spot.whole) <= depth(spot.above);
-    if is_below && !is_entry(spot.whole) {
+    if is_below(spot) && !is_entry(spot.whole) {
         return Some("indent the text of a block scalar more than its key");
     }
     if spot.is_first() && is_header(spot.above) && has_digit(spot.above) {
@@ -34,6 +34,36 @@ pub fn block_words(spot: &Spot<'_>) -> Option<&'static str>
         return Some("indent each line of a block scalar at least as its first line");
     }
     None
+}
+
+/// Whether the line of the fault is right below a header, and indented too little to be of its block scalar.
+fn is_below(spot: &Spot<'_>) -> bool {
+    let is_root = spot.above.starts_with("---");
+    is_header(spot.above) && !is_root && indent_of(spot.whole) <= column_of(spot.above)
+}
+
+/// The column, from 0, of the key of a block scalar's header, or else of its dash. The text is indented more.
+fn column_of(header: &str) -> usize {
+    let depth = depth(header);
+    let dashes = header.get(..depth).unwrap_or("").trim_end();
+    let node = header.get(depth..).unwrap_or("");
+    if dashes.is_empty() || node.contains(": ") || node.starts_with("? ") {
+        depth
+    } else {
+        dashes.len().saturating_sub(1)
+    }
+}
+
+/// The offset of the comment that ended a block scalar above, where the line of the fault is indented like the text.
+pub fn ended_above(spot: &Spot<'_>) -> Option<usize> {
+    let indent = indent_of(spot.whole);
+    let last = last_within(spot.lines_above(), usize::MAX);
+    let is_text = indent_of(spot.host()) == indent || is_header(last);
+    if spot.is_first() && is_text && is_header(spot.parent()) {
+        comment_above(spot.lines_above(), indent)
+    } else {
+        None
+    }
 }
 
 /// Whether a header has a digit.

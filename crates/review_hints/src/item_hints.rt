@@ -2,7 +2,7 @@
 ghost use Rattle.std.specs.Prelude.{◌≡◌, true};
 ghost use Rattle.review_hints.specs.Hinted.{is_plain};
 
-use crate::spot::{Spot, depth, indent_of, is_entry, uncommented};
+use crate::spot::{Spot, depth, indent_of, is_entry, is_item, uncommented};
 use crate::stray_hints::{is_diff, is_section};
 
 /// Of an item, an entry or another text at the start of a line, by the lines above.
@@ -49,11 +49,23 @@ fn item_words(spot: &Spot<'_>, host: &str) -> &'static str
     ensures { is_plain result.now ≡ true }
 {
     if is_entry(host) && depth(host) == indent_of(host) && depth(host) == indent_of(spot.whole) {
-        "this item is in a mapping: put it below a key without a value, or put `- ` before the key above too"
+        mapping_words(spot)
     } else if has_closed_value(spot) {
         "the key above has a value already: remove that value, or put this item below another key"
     } else {
         "indent this `-` like the items above, or deeper than its key"
+    }
+}
+
+/// Of an item at the column of the keys above.
+fn mapping_words(spot: &Spot<'_>) -> &'static str
+    ensures { is_plain result.now ≡ true }
+{
+    let first = spot.parent();
+    if is_item(first) && depth(first) == indent_of(spot.whole) {
+        "this item is in the mapping of an item: indent this `-` like the items above, or put it below a key without a value"
+    } else {
+        "this item is in a mapping: put it below a key without a value, write it as `key: value`, or put `- ` before each entry of the mapping"
     }
 }
 

@@ -4,7 +4,7 @@ ghost use Rattle.review_hints.specs.Hinted.{is_line};
 ghost use Rattle.review_hints.specs.Hints.{IsTrue};
 
 use crate::above::{Sought, find_above};
-use crate::block_hints::block_words;
+use crate::block_hints::{block_words, ended_above};
 use crate::foreign_hints::{foreign_words, is_template_below};
 use crate::hints::Hint;
 use crate::spot::{
@@ -18,6 +18,11 @@ const HIDDEN_SPACE: &str = "has a no-break space (U+00A0): write a space";
 const NO_ENTRY: &str = "is no entry of a mapping: write `key: value`";
 
 const TIGHT_COLON: &str = "has no space after its colon: write `: `";
+
+const ENDED: &str =
+    "has a comment, which ends the block scalar above: indent it like the text there if more of the text follows";
+
+const QUOTED: &str = "has its key and its value in one pair of quotes: close them before the colon";
 
 const TWO_DASHES: &str = "has a dash too many: an item begins with `- `, and a comment with `#`";
 
@@ -49,6 +54,12 @@ pub fn tool_hint(spot: &Spot<'_>) -> Option<Hint>
 pub fn line_hint(spot: &Spot<'_>) -> Option<Hint>
     ensures { (text : List ℕ) → spot.now.above_at ≤ spot.now.at → IfSome result (IsTrue text spot.now.at) }
 {
+    if is_open(spot) {
+        return None;
+    }
+    if let Some(at) = ended_above(spot) {
+        return Some(Hint::Line(at.min(spot.at), ENDED));
+    }
     if is_inside(spot) {
         return None;
     }
@@ -62,11 +73,15 @@ pub fn line_hint(spot: &Spot<'_>) -> Option<Hint>
     Some(Hint::Line(at.min(spot.at), NO_ENTRY))
 }
 
-/// Whether the fault is in quotes or brackets, in a block scalar's header, or below the head of a section of TOML.
+/// Whether the fault is in quotes or brackets.
+fn is_open(spot: &Spot<'_>) -> bool {
+    spot.scan.quote().is_some() || spot.scan.bracket().is_some()
+}
+
+/// Whether the fault is in a block scalar's header, or below the head of a section of TOML.
 fn is_inside(spot: &Spot<'_>) -> bool {
-    let is_open = spot.scan.quote().is_some() || spot.scan.bracket().is_some();
     let is_block = block_words(spot).is_some() && !is_conflict(spot.whole);
-    is_open || is_block || (is_section(spot.above) && spot.whole.contains('='))
+    is_block || (is_section(spot.above) && spot.whole.contains('='))
 }
 
 /// What the line of the fault shows.
@@ -84,6 +99,9 @@ fn own_words(spot: &Spot<'_>) -> Option<&'static str>
     if spot.is_first() || is_in_block(spot.lines_above()) {
         return None;
     }
+    if spot.rest.is_empty() && is_quoted_entry(spot.whole.trim()) {
+        return Some(QUOTED);
+    }
     assign_fault(spot.whole.trim())
 }
 
@@ -96,10 +114,30 @@ fn upper_words(spot: &Spot<'_>) -> Option<&'static str>
             "is an alias alone, and no entry: write `key: *name`, as `<<: *name` where it is merged",
         );
     }
+    if is_below_quoted(spot) {
+        return Some(QUOTED);
+    }
     if let Some(words) = comment_words(spot) {
         return Some(words);
     }
     above_words(spot)
+}
+
+/// Whether a line is quoted as a whole, with a colon inside, as `"a: b"`.
+fn is_quoted_entry(text: &str) -> bool {
+    let quote = if text.starts_with('"') { '"' } else { '\'' };
+    let inner = match text.strip_prefix(quote) {
+        Some(rest) => rest.strip_suffix(quote).unwrap_or(""),
+        None => "",
+    };
+    inner.contains(": ") && !inner.contains(['"', '\''])
+}
+
+/// Whether the fault begins an entry at the column of a quoted text above that has a colon inside.
+fn is_below_quoted(spot: &Spot<'_>) -> bool {
+    let text = spot.above.trim_start_matches([' ', '-']);
+    let is_level = depth(spot.above) == indent_of(spot.whole) && !is_item(spot.whole);
+    spot.is_first() && is_level && is_entry(spot.whole) && is_quoted_entry(text)
 }
 
 /// The offset of a line above that begins a here-document, and is in no block scalar.
@@ -288,6 +326,8 @@ fn line_fault(line: &str) -> Option<&'static str>
     let text = line.trim();
     if is_conflict(line) {
         Some("is a merge conflict marker: resolve the conflict first")
+    } else if line.starts_with(' ') && uncommented(line) == "---" {
+        Some("has an indented `---`, which is no document marker: put it at the first column")
     } else if let Some(words) = stray_words(line) {
         Some(words)
     } else if has_hidden_space(text) {

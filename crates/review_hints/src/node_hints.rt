@@ -217,6 +217,7 @@ fn next_words(spot: &Spot<'_>) -> &'static str
         Some(']' | '}' | ',') => closing_words(spot),
         Some('?') => MARKED_KEY,
         Some(_) if is_ended(spot) => after_words(spot),
+        Some(next) if is_tight(spot) => tight_words(next),
         Some('@' | '`' | '%') => plain_words(spot),
         Some('*') if spot.value().starts_with(['&', '!']) => {
             "remove the anchor and the tag before this alias"
@@ -234,6 +235,29 @@ fn is_alone(spot: &Spot<'_>) -> bool {
 /// Whether a quote or a closing bracket is before the fault.
 fn is_ended(spot: &Spot<'_>) -> bool {
     spot.line.trim_end().ends_with(['"', '\'', ']', '}'])
+}
+
+/// Whether the fault is right after a colon, and a quoted key is before that at the start of its line.
+fn is_tight(spot: &Spot<'_>) -> bool {
+    let text = spot.line.trim_start_matches([' ', '-']);
+    match text.strip_suffix(':') {
+        Some(key) => {
+            let key = key.trim_end();
+            key.starts_with(['"', '\'']) && key.ends_with(['"', '\'']) && !key.contains(": ")
+        }
+        None => false,
+    }
+}
+
+/// Of what is right after the colon of a quoted key.
+fn tight_words(next: char) -> &'static str
+    ensures { is_plain result.now ≡ true }
+{
+    if next == '"' || next == '\'' {
+        "put a space after the colon"
+    } else {
+        "put a space after the colon, or the closing quote at the end of the value"
+    }
 }
 
 /// Of what follows a quoted scalar or a flow collection.
