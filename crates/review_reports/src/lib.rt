@@ -3,17 +3,17 @@
 
 mod entry;
 pub mod findings;
-mod folder_lines;
 mod folder_names;
-mod folder_page;
+mod folder_pages;
+mod folder_text;
 mod host;
 pub mod pages;
 mod parts;
 pub mod reports;
 
 pub use entry::{Entry, Has};
-pub use folder_lines::folder_lines;
 pub use folder_names::{are_folders, names_of};
-pub use folder_page::folder_page;
+pub use folder_pages::folder_page;
+pub use folder_text::folder_lines;
 pub use host::Host;
 pub use parts::{lines_shown, list_found, parts_text};

@@ -1,7 +1,7 @@
 use Rattle.std.proofs.Common.{◌≡◌, ◌++◌, ◌∙◌, ap, string_bytes}
 use Rattle.review_files.specs.declared.rejected.Named.{Named}
 use Rattle.review_reports.proofs.StatusLaws.{new_told}
-use Rattle.review_reports.proofs.folder_lines.new_told.Goals as goal
+use Rattle.review_reports.proofs.folder_text.new_told.Goals as goal
 
 pub returns-clause-told : goal.returns-clause-told
 returns-clause-told g c =

@@ -3,7 +3,7 @@ use Rattle.review_formats.specs.declared.finding.Sign.TheVariants as signs
 use Rattle.review_files.specs.declared.rejected.Named.{Named}
 use Rattle.review_reports.specs.FolderPages.{IsAlone, IsList}
 use Rattle.review_reports.proofs.StatusLaws.{new_told}
-use Rattle.review_reports.proofs.folder_page.new_found.Goals as goal
+use Rattle.review_reports.proofs.folder_pages.new_found.Goals as goal
 
 pub returns-clause-ok : goal.returns-clause-ok
 returns-clause-ok g c =

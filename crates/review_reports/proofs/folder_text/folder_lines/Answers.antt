@@ -1,6 +1,6 @@
 use Rattle.std.proofs.Common.{get_or, arith}
 use Rattle.review_reports.proofs.LineLaws.{begins, entry_kept, one_more_at, stops_at, all_printed}
-use Rattle.review_reports.proofs.folder_lines.folder_lines.Goals as goal
+use Rattle.review_reports.proofs.folder_text.folder_lines.Goals as goal
 
 pub entries-init : goal.entries-init
 entries-init g c = record {

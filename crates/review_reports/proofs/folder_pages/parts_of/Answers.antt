@@ -1,6 +1,6 @@
 use Rattle.std.proofs.Common.{arith}
 use Rattle.review_reports.proofs.PartLaws.{begins, one_more_at, all_found}
-use Rattle.review_reports.proofs.folder_page.parts_of.Goals as goal
+use Rattle.review_reports.proofs.folder_pages.parts_of.Goals as goal
 
 pub entries-init : goal.entries-init
 entries-init g c = begins (g.S.Shelf.holds c.args.shelf.now) g.E.Write.contents c.args.asked.now c.args.ignored.now c.args.page c.args.entries.now c.args.err.now _ c.new-parts.ensures.items

@@ -1,6 +1,6 @@
 use Rattle.std.proofs.Common.{[], ◌∷◌, ◌++◌, refl, ◌∙◌, ap, subst, string_bytes}
 use Rattle.review_reports.specs.FolderPages.{IsList}
-use Rattle.review_reports.proofs.folder_page.deleted_found.Goals as goal
+use Rattle.review_reports.proofs.folder_pages.deleted_found.Goals as goal
 
 pub returns : goal.returns
 returns g c = record {

@@ -1,7 +1,7 @@
 use Rattle.std.proofs.Common.{◌≡◌, ◌++◌, inl, inr, ◌∙◌, ap, string_bytes, sym}
 use Rattle.review_reports.proofs.StatusLaws.{answers_differ, are_equal, read_is, left_unread, right_unread, not_read, not_compared, lines_compared}
-use Rattle.review_reports.proofs.folder_lines.both_told.Goals.{in_default-via-in-Ok+in_default, in_default-via-in_default}
-use Rattle.review_reports.proofs.folder_lines.both_told.Goals as goal
+use Rattle.review_reports.proofs.folder_text.both_told.Goals.{in_default-via-in-Ok+in_default, in_default-via-in_default}
+use Rattle.review_reports.proofs.folder_text.both_told.Goals as goal
 
 pub returns-in_default-clause-ok : goal.returns-in_default-clause-ok
 returns-in_default-clause-ok g c =

@@ -1,6 +1,6 @@
 use Rattle.std.proofs.Common.{◌<◌, length, Some, [], ◌∷◌, inr, refl, ap, arith}
 use Rattle.review_formats.specs.declared.finding.Part.{Part}
-use Rattle.review_reports.proofs.folder_page.add_part.Goals as goal
+use Rattle.review_reports.proofs.folder_pages.add_part.Goals as goal
 
 pub returns : goal.returns
 returns c = record {

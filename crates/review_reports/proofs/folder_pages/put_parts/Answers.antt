@@ -1,6 +1,6 @@
 use Rattle.std.proofs.Common.{◌<◌, inl, inr, refl, arith, string_bytes}
 use Rattle.review_reports.proofs.PartLaws.{parts_cut}
-use Rattle.review_reports.proofs.folder_page.put_parts.Goals as goal
+use Rattle.review_reports.proofs.folder_pages.put_parts.Goals as goal
 
 pub returns-in-Ok-write_out : goal.returns-in-Ok-write_out
 returns-in-Ok-write_out g c =

@@ -1,7 +1,7 @@
 use Rattle.std.proofs.Common.{◌++◌, codes, string_bytes}
 use Rattle.review_text.specs.Terminal.{terminal}
 use Rattle.review_text.proofs.Pieces.{then_more}
-use Rattle.review_reports.proofs.folder_lines.put_name_line.Goals as goal
+use Rattle.review_reports.proofs.folder_text.put_name_line.Goals as goal
 
 pub returns : goal.returns
 returns c = record {

@@ -1,7 +1,7 @@
 use Rattle.std.proofs.Common.{◌<◌, ◌-◌, ◌^◌, drop}
 use Rattle.yaml_text.specs.CountedModel.{faults_of}
 use Rattle.review_reports.proofs.LineLaws.{GoesOn}
-use Rattle.review_reports.proofs.folder_lines.folder_lines.Given as goal
+use Rattle.review_reports.proofs.folder_text.folder_lines.Given as goal
 
 abbrev pub invariant-entries : goal.invariant-entries
 invariant-entries g l = record {

@@ -1,5 +1,5 @@
 use Rattle.review_reports.proofs.LineLaws.{entry_printed, entry_cut}
-use Rattle.review_reports.proofs.folder_lines.tell_of.Goals as goal
+use Rattle.review_reports.proofs.folder_text.tell_of.Goals as goal
 
 pub returns-in-Ok-clause-ok : goal.returns-in-Ok-clause-ok
 returns-in-Ok-clause-ok g c =
