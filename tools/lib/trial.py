@@ -1,6 +1,4 @@
 """What the tools share that try a program: files in a folder, a run, many at a time, and how what is wrong is told."""
-from __future__ import annotations
-
 import argparse
 import concurrent.futures
 import os

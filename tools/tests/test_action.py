@@ -104,7 +104,3 @@ class Action(unittest.TestCase):
         self.assertEqual(status, 3)
         self.assertIn("::error title=yamlreview::the archive has another SHA-256", said)
         self.assertEqual(self.run_action(ARCHIVE="nothing.tar.gz")[0], 3)
-
-
-if __name__ == "__main__":
-    unittest.main()

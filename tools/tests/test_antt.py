@@ -64,7 +64,3 @@ abbrev pub ◌▸◌ : ℕ → ℕ → ℕ
         self.assertEqual(names.find("◆"), ("Rattle.a.specs.B", "◌◆◌"))
         self.assertEqual(names.find("c.far"), ("Rattle.a.specs.C", "far"))
         self.assertIsNone(names.find("far"))
-
-
-if __name__ == "__main__":
-    unittest.main()

@@ -63,7 +63,3 @@ class Left(unittest.TestCase):
             [line for line in lines if "was not proved" in line],
             [f"yamlcanon: yaml_text was not proved and built: {self.build.log} says why"],
         )
-
-
-if __name__ == "__main__":
-    unittest.main()

@@ -195,7 +195,3 @@ class Repository(unittest.TestCase):
         for path in table.paths():
             self.assertLess(read(path).count("\n"), 550, path)
             self.assertFalse(re.search(r"[ \t]$", read(path), re.M), path)
-
-
-if __name__ == "__main__":
-    unittest.main()

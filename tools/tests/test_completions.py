@@ -98,7 +98,3 @@ class Shells(unittest.TestCase):
             self.skipTest("zsh is not installed")
         for name in "_yamlcanon", "_yamlreview":
             subprocess.run(["zsh", "-n", f"{TOP}/{SHELLS}/{name}"], check=True)
-
-
-if __name__ == "__main__":
-    unittest.main()

@@ -104,7 +104,3 @@ class Arguments(unittest.TestCase):
             for words in wrong:
                 self.assertEqual(run(CONFORMANCE.main, *words.split())[0], 2, words)
             self.assertEqual(run(CONFORMANCE.main, "suite", "--gate")[0], 0)
-
-
-if __name__ == "__main__":
-    unittest.main()

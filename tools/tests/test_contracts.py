@@ -135,7 +135,3 @@ class OfTheTree(unittest.TestCase):
             ]
             self.assertTrue(wanted)
             self.assertEqual(taken, wanted)
-
-
-if __name__ == "__main__":
-    unittest.main()

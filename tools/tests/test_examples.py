@@ -191,7 +191,3 @@ class Arguments(unittest.TestCase):
                 self.assertEqual(run(EXAMPLES.main, "FORM")[0], 1)
                 self.assertEqual(run(EXAMPLES.main, "--write", "FORM")[0], 0)
                 self.assertEqual(run(EXAMPLES.main, "FORM")[0], 0)
-
-
-if __name__ == "__main__":
-    unittest.main()

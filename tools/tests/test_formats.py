@@ -81,7 +81,3 @@ class Formats(unittest.TestCase):
         for one in ("`", "|", "<b>", "@octocat", "[x](y)", "*", "https://x", "&amp;"):
             with self.subTest(one):
                 self.assertNotEqual(markdown_faults(TABLE.replace("<code>y", "<code>y" + one), 1), [])
-
-
-if __name__ == "__main__":
-    unittest.main()

@@ -98,7 +98,3 @@ class Help(unittest.TestCase):
             for line, ran in pool.map(status, NOTHING):
                 with self.subTest(line):
                     self.assertEqual((ran.returncode, b"Traceback" in ran.stderr), (2, False))
-
-
-if __name__ == "__main__":
-    unittest.main()

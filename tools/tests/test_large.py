@@ -95,7 +95,3 @@ class Large(unittest.TestCase):
         from bench.lib.shapes import SHAPES
 
         self.assertEqual([name for name in large.table()["growth"]["shapes"] if name not in SHAPES], [])
-
-
-if __name__ == "__main__":
-    unittest.main()

@@ -56,7 +56,3 @@ class Links(unittest.TestCase):
 
     def test_page_that_no_page_links_to(self):
         self.assertEqual(self.faults(README="x\n", docs__b="[own](b.md)\n"), ["docs/b.md:1: no other page links to this one"])
-
-
-if __name__ == "__main__":
-    unittest.main()

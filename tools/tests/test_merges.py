@@ -43,7 +43,3 @@ class Merges(unittest.TestCase):
         self.assertEqual(merges.merged_by_place(BASE, SWAPPED, CHANGED), MIXED)
         self.assertTrue(merges.is_mixed(MIXED))
         self.assertFalse(any(merges.is_mixed(value) for value in (BASE, SWAPPED, CHANGED)))
-
-
-if __name__ == "__main__":
-    unittest.main()

@@ -92,7 +92,3 @@ class Aliases(unittest.TestCase):
         lines = [line("changed", "x", "k"), line("changed", "y", "k")]
         copies = [{"x": {"k": "a2"}, "y": {"k": "".join(["a", "2"])}, "z": [{"k": "".join(["a", "2"])}]}]
         self.assertEqual(aliases.counts_of(lines, stream({"k": "a1"}), copies), [1, 1])
-
-
-if __name__ == "__main__":
-    unittest.main()

@@ -345,7 +345,3 @@ class Arguments(unittest.TestCase):
             [],
         ):
             self.assertEqual(run(MUTANTS.main, *words)[0], 2, words)
-
-
-if __name__ == "__main__":
-    unittest.main()

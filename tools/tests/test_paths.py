@@ -61,7 +61,3 @@ class Paths(unittest.TestCase):
     def test_one_side(self):
         self.assertEqual(self.columns("jq", {"a": "x"}, {"b": "y"}), [["-", ".a", "-", '"x"', ""], ["+", "-", ".b", "", '"y"']])
         self.assertEqual(self.columns("jsonpointer", {"a": "x"}, {"b": "y"}), [["-", "/a", "-", '"x"', ""], ["+", "-", "/b", "", '"y"']])
-
-
-if __name__ == "__main__":
-    unittest.main()

@@ -38,7 +38,3 @@ class Plain(unittest.TestCase):
         with tempfile.TemporaryDirectory() as folder:
             write(folder, README="x", OTHER="x", docs__proof__STATEMENT="x", docs__proof__PROVED="x")
             self.assertEqual(PLAIN.pages_by_hand(folder), ["README.md", "docs/proof/PROVED.md"])
-
-
-if __name__ == "__main__":
-    unittest.main()

@@ -141,7 +141,3 @@ class Arguments(unittest.TestCase):
             status, said = run(RELEASE.main, folder)
             self.assertEqual(status, 1)
             self.assertIn("is not empty", said)
-
-
-if __name__ == "__main__":
-    unittest.main()

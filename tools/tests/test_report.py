@@ -120,7 +120,3 @@ class Report(unittest.TestCase):
         self.put("ci", "gate: 40.1 minutes, 152.2 of processor\n")
         with self.assertRaises(REPORT.LeftOut):
             list(REPORT.PARTS["minutes"](asked))
-
-
-if __name__ == "__main__":
-    unittest.main()

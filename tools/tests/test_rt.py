@@ -44,7 +44,3 @@ class Rt(unittest.TestCase):
 
     def test_another_kit_is_called_as_it_is(self):
         self.assertEqual(self.run_over('#!/bin/sh\necho "$@"\nexit 5\n', "ci"), (5, ["ci"]))
-
-
-if __name__ == "__main__":
-    unittest.main()

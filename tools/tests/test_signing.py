@@ -137,7 +137,3 @@ class Arguments(unittest.TestCase):
         self.assertGreater(len(names), 200)
         for what in ("file", "folder", "sign"):
             self.assertTrue(any(it.in_all_ways for it in signing.attacks() if it.name.startswith(what)))
-
-
-if __name__ == "__main__":
-    unittest.main()

@@ -229,7 +229,3 @@ def blocks_of(text):
     """The definitions of a page that stand at the margin or in a module, not in a `mutual` or a type."""
     end = r"(?= *(?:abbrev|unfoldable|pub|--|module|mutual)|```)"
     return re.findall(rf"^ *(?:abbrev|unfoldable) pub [^\n]*\n(?: *[^\n-][^\n]*\n)*?{end}", text, re.M)
-
-
-if __name__ == "__main__":
-    unittest.main(verbosity=0)

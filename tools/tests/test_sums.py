@@ -44,7 +44,3 @@ class Sums(unittest.TestCase):
 
     def test_digests(self):
         self.assertEqual(sums.filled("%A %UA"), sums.A + b" " + sums.A.upper())
-
-
-if __name__ == "__main__":
-    unittest.main()

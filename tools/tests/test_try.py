@@ -87,7 +87,3 @@ class Try(unittest.TestCase):
     def test_names_that_lead_out(self):
         inside = {"a.yaml": True, "./b/a.yaml": True, "../a.yaml": False, "b/../../a": False, "/a": False, "stdin": False, "a=b": False}
         self.assertEqual({name: TRY.is_inside(name) for name in inside}, inside)
-
-
-if __name__ == "__main__":
-    unittest.main()

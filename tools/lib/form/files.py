@@ -1,6 +1,4 @@
 """Files of YAML: how the program reads them beside PyYAML's parser, and what it makes of them beside the companion of the form."""
-from __future__ import annotations
-
 import collections
 from collections.abc import Iterable, Iterator
 from typing import Any

@@ -1,6 +1,4 @@
 """made.py: made streams, the same for the same seed: small trees whose parts come again, each time spelled in another way."""
-from __future__ import annotations
-
 import random
 import tomllib
 from typing import Any

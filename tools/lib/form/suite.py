@@ -1,6 +1,4 @@
 """The cases of yaml-test-suite, each sorted by what the program does with it, and tools/data/suite.cases, which says where each belongs."""
-from __future__ import annotations
-
 import functools
 import os
 import pathlib

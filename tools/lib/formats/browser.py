@@ -1,6 +1,4 @@
 """A page in headless Chromium: whether it runs, asks for nothing, and is as wide as the window."""
-from __future__ import annotations
-
 import json
 import os
 import re

@@ -1,6 +1,4 @@
 """What is wrong with a log of SARIF 2.1.0, with GitHub's commands and with a table in Markdown."""
-from __future__ import annotations
-
 import json
 import re
 import urllib.parse

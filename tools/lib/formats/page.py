@@ -1,6 +1,4 @@
 """Whether a page of HTML is whole, runs nothing, loads nothing, and each link leads to a node of it."""
-from __future__ import annotations
-
 import html.parser
 from collections.abc import Iterable
 

@@ -1,6 +1,4 @@
 """What is wrong with the values in the lines of `diff --format=json`, beside those that PyYAML reads of the same text (values.toml)."""
-from __future__ import annotations
-
 import json
 import tomllib
 from typing import Any

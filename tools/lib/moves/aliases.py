@@ -2,8 +2,6 @@
 
 A part of a document that is one object at several places is written once, with an anchor, and as an alias at the others.
 """
-from __future__ import annotations
-
 import json
 import random
 from collections import Counter

@@ -1,6 +1,4 @@
 """The gate, `rt ci`, while the mutants of what it has proved are tried beside it."""
-from __future__ import annotations
-
 import os
 import re
 import subprocess

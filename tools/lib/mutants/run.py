@@ -1,6 +1,4 @@
 """A run of mutants: which are tried, how many crates at a time, and what is printed."""
-from __future__ import annotations
-
 import glob
 import os
 import re

@@ -1,6 +1,4 @@
 """What the parts of tools/release share: what is said, commands, files, the version, and pages whose links lead to what is packed."""
-from __future__ import annotations
-
 import gzip
 import hashlib
 import os

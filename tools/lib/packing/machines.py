@@ -1,6 +1,4 @@
 """machines.py: the machines that the library is built for, and what each needs to be built and tried here."""
-from __future__ import annotations
-
 import shutil
 from typing import NamedTuple
 

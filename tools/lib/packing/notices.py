@@ -1,7 +1,5 @@
 """The kit's crates that are linked into the products: where, after which crates of Rust, by whom, and under which licences. What NOTICE
 says of them."""
-from __future__ import annotations
-
 import functools
 import glob
 import os

@@ -1,6 +1,4 @@
 """The public functions of the crates, each with its comment, its head and its clauses as they are in the source."""
-from __future__ import annotations
-
 import glob
 import os
 import re

@@ -1,6 +1,4 @@
 """Of the code only what a contract shows: the head of a function with its clauses, and types as they are declared."""
-from __future__ import annotations
-
 import glob
 import os
 import re

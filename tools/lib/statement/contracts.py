@@ -4,8 +4,6 @@ It begins with the main calls and theorems (MAIN, below); then come the others, 
 first sentence of its comment, its head and its clauses. Functions without a clause are listed at the end. Programs and crates of tests
 are left out.
 """
-from __future__ import annotations
-
 import itertools
 
 from lib.paths import TOP

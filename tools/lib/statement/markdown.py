@@ -1,6 +1,4 @@
 """A statement's page as it is printed."""
-from __future__ import annotations
-
 import re
 
 from lib.antt import Block

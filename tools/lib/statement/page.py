@@ -1,6 +1,4 @@
 """A statement as a page: a contract, and each definition that it rests on, once, before its use, by the standard's chapters."""
-from __future__ import annotations
-
 import re
 from collections.abc import Sequence
 from typing import Union
