@@ -5,12 +5,11 @@ import tempfile
 import unittest
 from unittest import mock
 
-from scripts import load, run
+from scripts import run
 from lib import trial
 from lib.form import companion, files, suite
 from lib.form.scalars import scalars
 
-CONFORMANCE = load("tools/conformance")
 # A program that reads `a` and rejects everything else at its first byte.
 FAKE = """\
 #!/bin/sh
@@ -95,12 +94,3 @@ class Files(unittest.TestCase):
         self.assertEqual(self.wrong('--- "a"\n'), [])
         self.assertEqual(len(self.wrong('--- "b"\n')), 1)
         self.assertEqual(self.wrong('--- "a"\n', '--- "c"\n'), ["its canonical text is not its own"])
-
-
-class Arguments(unittest.TestCase):
-    def test_arguments_that_are_wrong(self):
-        wrong = ["", "vector", "suite", "suite /no/such/place", "vectors /no/such/program", "vectors --add --release"]
-        with mock.patch.dict(os.environ, YAML_TEST_SUITE=""):
-            for words in wrong:
-                self.assertEqual(run(CONFORMANCE.main, *words.split())[0], 2, words)
-            self.assertEqual(run(CONFORMANCE.main, "suite", "--gate")[0], 0)

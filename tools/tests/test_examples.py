@@ -171,10 +171,6 @@ class Pages(WithAProgram):
 
 
 class Arguments(unittest.TestCase):
-    def test_names_of_nothing(self):
-        for words in (["TYPO"], ["GUIDE", "TYPO"], ["--section", "no such section"], ["--section", "git", "YAML"], ["--writes"]):
-            self.assertEqual(run(EXAMPLES.main, *words)[0], 2, words)
-
     def test_page_without_examples_is_a_fault(self):
         self.assertTrue(run(lambda _: EXAMPLES.report("page", Checked("page")))[0])
         with mock.patch.dict(EXAMPLES.PAGES, {"FORM": ("page", lambda checked, _: None)}), mock.patch.object(EXAMPLES, "want_built"):

@@ -2,6 +2,7 @@
 import concurrent.futures
 import glob
 import os
+import shlex
 import subprocess
 import sys
 import tempfile
@@ -13,34 +14,31 @@ FOLDERS = ("tools", "bench", "fuzz", "bindings", "packages/signing")
 LEFT_OUT = ("target", "__pycache__", "found", "out")
 
 
-def executables():
-    """The executables of the repository but for the two launchers, whose arguments are the programs'."""
+def commands():
+    """The executables but for the two launchers, whose arguments are the programs', and the scripts that are run by `python3 PATH`."""
     for folder in FOLDERS:
         for at, folders, names in os.walk(f"{TOP}/{folder}"):
             folders[:] = [it for it in folders if it not in LEFT_OUT]
             yield from ([f"{at}/{name}"] for name in names if os.access(f"{at}/{name}", os.X_OK))
-
-
-def scripts():
-    """The scripts that are run by `python3 PATH`."""
-    for path in sorted(glob.glob(f"{TOP}/tools/definitions/*.py") + glob.glob(f"{TOP}/tools/oracle/*.py")):
+    for path in glob.glob(f"{TOP}/tools/definitions/*.py") + glob.glob(f"{TOP}/tools/oracle/*.py"):
         with open(path, encoding="utf-8") as file:
             if '__name__ == "__main__"' in file.read():
                 yield [sys.executable, path]
 
 
-def ended(command, word, folder):
-    ran = subprocess.run([*command, word], cwd=folder, stdin=subprocess.DEVNULL, capture_output=True, text=True, timeout=600, check=False)
-    return command[-1], ran.returncode, ran.stdout, ran.stderr
-
-
-# Names of what is not there.
-NOTHING = (
-    "tools/examples TYPO",
-    "tools/examples --section no-such-section",
-    "tools/mutants run --only no_such_mutant",
-    "tools/mutants check yaml_nothing",
-    "tools/conformance suite /no/such/place",
+# Arguments that are wrong: names of what is not there, and options that do not go together. Words in quotes are one.
+WRONG = (
+    *(
+        "tools/examples TYPO",
+        "tools/examples GUIDE TYPO",
+        "tools/examples --section 'no such section'",
+        "tools/examples --section git YAML",
+    ),
+    *("tools/mutants", "tools/mutants record", "tools/mutants gate yaml_text", "tools/mutants run yaml_nothing"),
+    *("tools/mutants run --only 'nothing at all'", "tools/mutants check yaml_nothing"),
+    *("tools/conformance", "tools/conformance vector", "tools/conformance suite", "tools/conformance suite /no/such/place"),
+    *("tools/conformance vectors /no/such/program", "tools/conformance vectors --add --release"),
+    "tools/signing 'no such attack'",
     "tools/check-headline yaml_nothing",
     "tools/build yaml_nothing name",
     "tools/fuzz /no/such/folder",
@@ -48,53 +46,39 @@ NOTHING = (
     "tools/abi /no/such/folder",
     "tools/bindings --library /no/such/folder",
     "tools/many --library /no/such/folder",
-    "tools/release --try /no/such/folder",
+    *("tools/release", "tools/release --source folder", "tools/release --try", "tools/release --try /no/such/folder"),
+    *("tools/release --try --gate log folder", "tools/release --try --key key folder", "tools/release a b"),
     "tools/links /no/such/folder",
     "tools/plain no-such-page.md",
-    "tools/pages",
-    "tools/pages --check no-such-page.md",
-    "bench/report no-such-part",
-    "bench/hostile no-such-shape",
-    "bench/hostile --growth no-such-shape",
-    "bench/hostile --prefix no-such-shape",
-    "bench/texts no-such-shape",
-    "bench/peers --shape no-such-shape",
-    "bench/many /no/such/folder",
-    "bench/joined /no/such/folder",
+    *("tools/pages", "tools/pages --check no-such-page.md", "tools/pages --check --write"),
+    *("bench/report no-such-part", "bench/hostile no-such-shape", "bench/hostile --growth no-such-shape"),
+    *("bench/hostile --prefix no-such-shape", "bench/texts no-such-shape", "bench/peers --shape no-such-shape"),
+    *("bench/many /no/such/folder", "bench/joined /no/such/folder"),
 )
 
 
 class Help(unittest.TestCase):
-    def each(self, word):
-        """How each executable ended with this one argument. It writes nothing into the folder where it is run."""
+    def each(self, calls):
+        """How each call ended, with its words. It writes nothing into the folder where it is run."""
+        streams = {"stdin": subprocess.DEVNULL, "capture_output": True, "text": True, "env": {**os.environ, "YAML_TEST_SUITE": ""}}
         with tempfile.TemporaryDirectory() as folder, concurrent.futures.ThreadPoolExecutor(4) as pool:
-            ends = list(pool.map(lambda command: ended(command, word, folder), [*sorted(executables()), *scripts()]))
+            ends = pool.map(lambda words: subprocess.run(words, cwd=folder, timeout=600, check=False, **streams), calls)
+            for ran in ends:
+                self.assertNotIn("Traceback", ran.stderr, ran.args)
+                yield ran
             self.assertEqual(os.listdir(folder), [])
-        self.assertGreater(len(ends), 50)
-        return ends
 
     def test_help(self):
-        for path, status, said, errors in self.each("--help"):
-            with self.subTest(path):
-                self.assertEqual((status, errors), (0, ""))
-                self.assertGreater(len(said), 80)
+        found = list(self.each([*command, "--help"] for command in commands()))
+        self.assertGreater(len(found), 50)
+        for ran in found:
+            self.assertEqual((ran.returncode, ran.stderr), (0, ""), ran.args)
+            self.assertGreater(len(ran.stdout), 80, ran.args)
 
     def test_option_that_is_not_known(self):
-        for path, status, said, errors in self.each("--no-such-option"):
-            with self.subTest(path):
-                self.assertIn(status, (2, 3))
-                self.assertTrue(errors)
-                self.assertNotIn("Traceback", errors)
-                self.assertEqual(said, "")
+        for ran in self.each([*command, "--no-such-option"] for command in commands()):
+            self.assertEqual((ran.returncode in (2, 3), ran.stdout, bool(ran.stderr)), (True, "", True), ran.args)
 
-    def test_name_of_what_is_not_there(self):
-        def status(line):
-            command, *words = line.split()
-            return line, subprocess.run(
-                [f"{TOP}/{command}", *words], stdin=subprocess.DEVNULL, capture_output=True, timeout=600, check=False
-            )
-
-        with concurrent.futures.ThreadPoolExecutor(4) as pool:
-            for line, ran in pool.map(status, NOTHING):
-                with self.subTest(line):
-                    self.assertEqual((ran.returncode, b"Traceback" in ran.stderr), (2, False))
+    def test_arguments_that_are_wrong(self):
+        for ran in self.each([f"{TOP}/{line[0]}", *line[1:]] for line in map(shlex.split, WRONG)):
+            self.assertEqual(ran.returncode, 2, ran.args)

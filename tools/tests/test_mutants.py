@@ -5,14 +5,13 @@ import tempfile
 import unittest
 import unittest.mock
 
-from scripts import TOP, load, run
+from scripts import TOP
 from lib.crates import crates_of
 from lib.mutants import judging
 from lib.mutants.mutant import Mutant, faults_of, mutants_of, texts_of
 from lib.mutants.run import changed_crates, known_mutants, landed, one_of_each_function
 from lib.mutants.said import Refusal, Said
 
-MUTANTS = load("tools/mutants")
 SOURCE = """\
 /// One.
 pub fn one(n: u32) -> u32
@@ -331,17 +330,3 @@ class OneOfEachFunction(unittest.TestCase):
     def test_one_of_each_function_and_what_cannot_be_tried(self):
         given = [self.mutant("a", {"f"}), self.mutant("b", {"f"}), self.mutant("c", {"f", "g"}), self.mutant("d", set(), "no text")]
         self.assertEqual([it.name for it in one_of_each_function(given)], ["a", "c", "d"])
-
-
-class Arguments(unittest.TestCase):
-    def test_names_of_nothing(self):
-        for words in (
-            ["run", "yaml_nothing"],
-            ["run", "--only", "nothing at all"],
-            ["check", "yaml_nothing"],
-            ["gate", "yaml_text"],
-            ["record"],
-            ["try"],
-            [],
-        ):
-            self.assertEqual(run(MUTANTS.main, *words)[0], 2, words)

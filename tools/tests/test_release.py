@@ -120,21 +120,6 @@ class Links(unittest.TestCase):
 
 
 class Arguments(unittest.TestCase):
-    def test_what_does_not_go_together(self):
-        for words in (
-            [],
-            ["--source", "folder"],
-            ["--try"],
-            ["--try", "--gate", "log", "folder"],
-            ["--try", "--key", "key", "folder"],
-            ["a", "b"],
-        ):
-            self.assertEqual(run(RELEASE.main, *words)[0], 2, words)
-
-    def test_folder_without_packages(self):
-        with tempfile.TemporaryDirectory() as folder:
-            self.assertEqual(run(RELEASE.main, "--try", folder)[0], 2)
-
     def test_folder_that_is_not_empty(self):
         with tempfile.TemporaryDirectory() as folder:
             os.mkdir(f"{folder}/something")

@@ -9,11 +9,10 @@ import tempfile
 import unittest
 from unittest import mock
 
-from scripts import TOP, load, run
+from scripts import TOP
 from lib import signing
 from lib.signing import APP, VERIFY, Room
 
-TOOL = load("tools/signing")
 YAMLCANON = """\
 #!/bin/sh
 case $(cat "$2") in *'['1*) echo "yaml: 4 Syntax" >&2; exit 2 ;; esac
@@ -127,9 +126,6 @@ class Signing(unittest.TestCase):
 
 
 class Arguments(unittest.TestCase):
-    def test_no_attack_has_the_word(self):
-        self.assertEqual(run(TOOL.main, "no such attack")[0], 2)
-
     def test_names(self):
         """No two attacks on one thing have one name, so that each can be tried alone."""
         names = [it.name for it in signing.attacks()]

@@ -68,26 +68,20 @@ class Closure:
         return sum(len(self.of(path)) for path in self.files), sum(sum(self.of(path).values()) for path in self.files)
 
 
-def table(crates: str, text: str) -> str:
-    """The page's table with the numbers that are found."""
-
-    def put(at: re.Match[str]) -> str:
-        definitions, lines = Closure(crates).claim(at[2]).counts()
-        return f"| {at[1]} | `{at[2]}` | {definitions:,} | {lines:,} |"
-
-    return ROW.sub(put, text)
+def put(at: re.Match[str]) -> str:
+    """A row of the table with the numbers that are found."""
+    definitions, lines = Closure(CRATES).claim(at[2]).counts()
+    return f"| {at[1]} | `{at[2]}` | {definitions:,} | {lines:,} |"
 
 
-def pages() -> dict[str, str]:
-    """The pages with numbers of definitions, as they should be: the table of claims, and the number of the first claim."""
+def page(name: str) -> str:
+    """A page with numbers of definitions, as it should be: that of the table of claims, or one with the number of the first claim."""
     texts = {name: read(f"{TOP}/{name}") for name in (PAGE, TRUST, README)}
-    found = {PAGE: table(CRATES, texts[PAGE])}
-    first = ROW.search(found[PAGE])
+    made = ROW.sub(put, texts[PAGE])
+    first = ROW.search(made)
     if first is None or not SAID.search(texts[TRUST]):
         sys.exit(f"pages: {PAGE} has no table of claims, or {TRUST} gives no number of definitions")
-    for name in TRUST, README:
-        found[name] = SAID.sub(f"{first[3]} definitions in {first[4]} lines", texts[name], count=1)
-    return found
+    return made if name == PAGE else SAID.sub(f"{first[3]} definitions in {first[4]} lines", texts[name], count=1)
 
 
 def tell(claims: list[str], lists: bool) -> None:

@@ -1,13 +1,129 @@
-"""The page of contracts: the public functions of the libraries with their contracts, as they are in the source.
+"""The pages that say what the crates have, of their sources: the public functions of the libraries with their contracts, and the tables of
+the page of crates.
 
-It begins with the main calls and theorems (MAIN, below); then come the others, crate by crate in the order of crates.txt. Each has the
-first sentence of its comment, its head and its clauses. Functions without a clause are listed at the end. Programs and crates of tests
-are left out.
+The page of contracts begins with the main calls and theorems (MAIN, below); then come the others, crate by crate in the order of crates.txt.
+Each has the first sentence of its comment, its head and its clauses. Functions without a clause are listed at the end. Programs and crates
+of tests are left out.
 """
+import glob
 import itertools
+import os
+import re
+from collections.abc import Iterator
+from typing import NamedTuple
 
-from lib.paths import TOP
-from lib.statement.calls import Call, calls_of, libraries_of, summary_of
+from lib.crates import groups_of, lines_of
+from lib.paths import CRATES, TOP, read
+
+MODULE = re.compile(r"^(pub )?mod (\w+);", re.M)
+REEXPORT = re.compile(r"^pub use ([\w:]+?)(?:::\{([^}]*)\})?;", re.M)
+OWNER = re.compile(r"(pub trait|trait|impl)\b(?:<[^>]*>)? *([^{]*?)(?: where [^{]*)?\{$")
+HEAD = re.compile(r"( *)(pub )?(?:extern \"C\" )?fn (\w+)")
+CLAUSE = re.compile(r" *(requires|ensures)\b")
+SENTENCE = re.compile(r"(.*?[.!?])(?= +[A-Z`(]|$)", re.S)
+
+
+class Call(NamedTuple):
+    """A public function: its crate and file, the line that opens its type or trait, its comment, its lines up to its body."""
+
+    crate: str
+    path: str
+    opening: str | None
+    name: str
+    comment: list[str]
+    lines: list[str]
+
+    def owner(self) -> str:
+        """The type or the trait that it belongs to, without parameters, or nothing."""
+        found = OWNER.match(self.opening or "")
+        return re.split(r"\W", found[2].split(" for ")[-1].strip())[0] if found else ""
+
+    def title(self) -> str:
+        return f"{self.owner()}::{self.name}" if self.opening else self.name
+
+    def has_clauses(self) -> bool:
+        return any(CLAUSE.match(line) for line in self.lines)
+
+    def sentence(self) -> str:
+        """The first sentence of its comment."""
+        return first_sentence(" ".join(self.comment))
+
+
+def first_sentence(text: str) -> str:
+    found = SENTENCE.match(text)
+    return found[1] if found else text
+
+
+def module_files(path: str, folder: str, is_public: bool = True) -> Iterator[tuple[str, bool]]:
+    """(the file, whether other crates see it) of a module and of those in its folder, in the order in which they are declared."""
+    yield path, is_public
+    for at in MODULE.finditer(read(path)):
+        if os.path.isfile(f"{folder}/{at[2]}.rt"):
+            yield from module_files(f"{folder}/{at[2]}.rt", f"{folder}/{at[2]}", is_public and bool(at[1]))
+
+
+def comment_above(lines: list[str], at: int) -> list[str]:
+    """The comment above a line, up to its first empty line."""
+    first = at
+    while first and re.match(r" *(///|#\[)", lines[first - 1]):
+        first -= 1
+    said = [line.strip()[3:].strip() for line in lines[first:at] if line.strip().startswith("///")]
+    return said[: said.index("")] if "" in said else said
+
+
+def head_of(lines: list[str], at: int) -> list[str]:
+    """The lines of a function up to its body, or with the `;` of a trait's function that has none."""
+    last = at
+    while True:
+        text = lines[last].rstrip()
+        if text.strip() in ("{", "{}"):
+            return lines[at:last]
+        if text.endswith((" {", " {}")):
+            return [*lines[at:last], text.rsplit(" {", 1)[0]]
+        if text.endswith(";"):
+            return [*lines[at:last], text]
+        last += 1
+
+
+def calls_in(crates: str, crate: str, path: str) -> Iterator[Call]:
+    """The functions of a file that are public in it, with those of its public traits."""
+    lines, opening, is_trait = read(path).split("\n"), None, False
+    for at, line in enumerate(lines):
+        if OWNER.match(line):
+            opening, is_trait = line, line.startswith("pub trait")
+        elif line == "}":
+            opening, is_trait = None, False
+        found = HEAD.match(line)
+        if found and (found[2] or is_trait and found[1] == "    "):
+            yield Call(crate, os.path.relpath(path, crates), opening, found[3], comment_above(lines, at), head_of(lines, at))
+
+
+def calls_of(crates: str, crate: str) -> Iterator[Call]:
+    """The public functions of a crate, in the order of its modules."""
+    root, passed_on = f"{crates}/{crate}/src/lib.rt", set[str]()
+    for at in REEXPORT.finditer(read(root)):
+        passed_on |= set(re.split(r",\s*", at[2].strip(", \n"))) if at[2] else {at[1].rsplit("::", 1)[-1]}
+    for path, is_public in module_files(root, os.path.dirname(root)):
+        for call in calls_in(crates, crate, path):
+            if is_public or {call.name, call.owner()} & passed_on:
+                yield call
+
+
+def summary_of(crates: str, crate: str) -> str:
+    """What the crate's root file says of it in its first sentence."""
+    path = next(path for name in ("lib", "main") if os.path.isfile(path := f"{crates}/{crate}/src/{name}.rt"))
+    said = re.findall(r"\A((?://!.*\n)*)", read(path))[0]
+    if not said:
+        raise SystemExit(f"pages: {path} does not begin with a //! comment")
+    return first_sentence(" ".join(line.removeprefix("//!").strip() for line in said.splitlines()))
+
+
+def libraries_of(top: str) -> list[str]:
+    """The crates of crates.txt in their order, but for programs and crates of tests."""
+    names = [name for name, _ in lines_of(top)]
+    is_test = re.compile(r"rows_|yaml_vectors$")
+    return [name for name in names if not is_test.match(name) and not glob.glob(f"{top}/crates/{name}/src/main.rt")]
+
 
 MAIN = {
     "Canonical text and comparison": "canonical canonical_into canonical_len run_canonical same",
@@ -20,7 +136,7 @@ MAIN = {
     "yaml_c_sha256 yaml_c_values yaml_c_message yaml_c_position",
     "The programs": "yaml_command::command_over differences diff diff_json show show_json sum",
 }
-HEAD = """\
+INTRODUCTION = """\
 # Contracts
 
 `tools/pages` writes this page from the sources. It lists {count} public functions of {crates} crates; {clauses} of them have a contract.
@@ -54,11 +170,6 @@ def main_calls(calls: list[Call]) -> list[tuple[str, list[Call]]]:
     return groups
 
 
-def shown_alone(call: Call) -> list[str]:
-    """A main call with a heading of its own."""
-    return [f"### `{call.name}`", "", f"{link_to(call)}. {call.sentence()}", "", "```", *call.lines, "```", ""]
-
-
 def shown_together(calls: list[Call]) -> list[str]:
     """The calls of one file in one block, each behind the first sentence of its comment, inside their types and traits."""
     lines: list[str] = []
@@ -72,21 +183,6 @@ def shown_together(calls: list[Call]) -> list[str]:
     return [link_to(calls[0]), "", "```", *lines[:-1], "```", ""]
 
 
-def shown_by_crate(crate: str, calls: list[Call]) -> list[str]:
-    lines = [f"### {crate}", "", summary_of(f"{TOP}/crates", crate), ""]
-    for _, group in itertools.groupby(calls, key=lambda it: it.path):
-        lines += shown_together(list(group))
-    return lines
-
-
-def without_clauses(calls: list[Call]) -> list[str]:
-    """The functions that have no clause, by crate."""
-    lines = ["## Public functions without a contract", "", "The check proves that these are safe and that they end, and nothing more.", ""]
-    for crate, group in itertools.groupby((it for it in calls if not it.has_clauses()), key=lambda it: it.crate):
-        lines.append(f"- {crate}: {', '.join(f'`{it.title()}`' for it in group)}")
-    return lines
-
-
 def page() -> str:
     crates = libraries_of(TOP)
     calls = {crate: list(calls_of(f"{TOP}/crates", crate)) for crate in crates}
@@ -94,13 +190,35 @@ def page() -> str:
     groups = main_calls(everything)
     shown = {id(it) for _, group in groups for it in group}
     rest = {crate: [it for it in calls[crate] if it.has_clauses() and id(it) not in shown] for crate in crates}
-    lines = HEAD.format(
+    lines = INTRODUCTION.format(
         count=len(everything), crates=sum(map(bool, calls.values())), clauses=sum(it.has_clauses() for it in everything)
     ).splitlines()
     for title, group in groups:
-        lines += ["", f"## {title}", ""]
-        lines += list(itertools.chain(*map(shown_alone, group)))[:-1]
+        lines += ["", f"## {title}"]
+        for it in group:
+            lines += ["", f"### `{it.name}`", "", f"{link_to(it)}. {it.sentence()}", "", "```", *it.lines, "```"]
     lines += ["", "## The other functions, by crate", "", ", ".join(f"[{it}](#{it})" for it in crates if rest[it]), ""]
-    for crate in crates:
-        lines += shown_by_crate(crate, rest[crate]) if rest[crate] else []
-    return "\n".join([*lines, *without_clauses(everything)]) + "\n"
+    for crate in filter(rest.get, crates):
+        lines += [f"### {crate}", "", summary_of(CRATES, crate), ""]
+        for _, of_file in itertools.groupby(rest[crate], key=lambda it: it.path):
+            lines += shown_together(list(of_file))
+    lines += ["## Public functions without a contract", ""]
+    lines += ["The check proves that these are safe and that they end, and nothing more.", ""]
+    for crate, bare in itertools.groupby((it for it in everything if not it.has_clauses()), key=lambda it: it.crate):
+        lines.append(f"- {crate}: {', '.join(f'`{it.title()}`' for it in bare)}")
+    return "\n".join(lines) + "\n"
+
+
+TABLE = re.compile(r"(?<=<!-- crates: tools/pages --write -->\n).*?(?=<!-- end of crates -->)", re.S)
+
+
+def page_of_crates(text: str) -> str:
+    """The page with the tables as they should be: the headings of crates.txt, and what each crate says of itself in its first sentence."""
+    if not TABLE.search(text):
+        raise SystemExit("pages: the page of crates has no place for the table")
+    rows = []
+    for heading, lines in groups_of():
+        rows += ["", f"**{heading}**", "", "| crate | what it holds |", "|---|---|"]
+        for crate in (line.partition(":")[0].split()[0] for line in lines):
+            rows.append(f"| `{crate}` | {summary_of(CRATES, crate)} |")
+    return TABLE.sub(lambda _: "\n".join(rows) + "\n\n", text)

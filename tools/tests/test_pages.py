@@ -1,31 +1,26 @@
-#!/usr/bin/env python3
-"""Tests of tools/pages --statement. What a page prints and what it cites is found here from the page and from the `use` lines alone,
-by other means than the tool's own."""
+"""tools/pages. What a statement prints and what it cites is found here from the page and from the `use` lines alone, by other means than the
+tool's own. (What the readers of sources take is held by `tools/pages --check`: a page would be another one.)"""
 import functools
 import glob
 import os
 import re
 import unittest
+from unittest import mock
 
-from scripts import TOP
-from lib.statement.markdown import page_of, untied
-from lib.statement.page import Chapters, Statement
+from scripts import TOP, load, run
+from lib.paths import read
+from lib.statement.contracts import calls_of, libraries_of
+from lib.statement.page import untied
 
+PAGES = load("tools/pages")
 CALLS = ("canonical", "same", "run_canonical", "read_events")
 DEFINES = re.compile(r"^\s*(?:abbrev |unfoldable )?pub (?:data |record )?(\S+) .*?:(?: |$)")
 CASES = re.compile(r"^  ((?:[^\s:(){}]+ )+):(?: |$)")
 OWN = re.compile(r"use Rattle\.(\w+)\.specs\.([\w.]+?)(?:\.\{(.*?)\}| as (\w+));?$")
 
 
-def page(call):
-    chapters = Chapters(f"{TOP}/tools/data/chapters")
-    return page_of(Statement(f"{TOP}/crates", call, chapters), f"{TOP}/docs/proof/DEFINITIONS.md")
-
-
-@functools.lru_cache(maxsize=None)
-def source(path):
-    with open(f"{TOP}/crates/{path}", encoding="utf-8") as file:
-        return file.read()
+page = functools.cache(PAGES.statement)
+source = functools.cache(lambda path: read(f"{TOP}/crates/{path}"))
 
 
 def code(line):
@@ -72,7 +67,7 @@ def names_in(lines):
     return found
 
 
-@functools.lru_cache(maxsize=None)
+@functools.cache
 def words_of(text):
     """The words and signs of a text; of one with dots what stands before each dot too."""
     words = {word.strip(".") for word in re.findall(r"[^\s(){};,]+", text)}
@@ -88,14 +83,10 @@ def has(text, name):
     return name.strip("◌") in words_of(text)
 
 
-@functools.lru_cache(maxsize=None)
+@functools.cache
 def imports(path):
-    return list(imported(path))
-
-
-def imported(path):
     """(the name as it stands in this file, the file of its definition, its name there) of the tree's own names in use there."""
-    everywhere = source(path)
+    everywhere, names_used = source(path), []
     for line in everywhere.split("\n"):
         found = OWN.search(line.strip())
         if not found or found[1] == "std" or found[2].startswith("declared"):
@@ -104,10 +95,10 @@ def imported(path):
         for name in re.split(r", *", found[3] or ""):
             name, _, given = name.partition(" as ")
             if name:
-                yield given or name, there, name
+                names_used.append((given or name, there, name))
         if found[4]:
-            for name in set(re.findall(rf"\b{found[4]}\.([\w+\-]+)", everywhere)):
-                yield f"{found[4]}.{name}", there, name
+            names_used += ((f"{found[4]}.{name}", there, name) for name in set(re.findall(rf"\b{found[4]}\.([\w+\-]+)", everywhere)))
+    return names_used
 
 
 def faults(text):
@@ -166,13 +157,12 @@ class OfThePages(unittest.TestCase):
                 self.assertEqual(faults(page(call)), ([], []))
 
     def test_a_definition_left_out_is_missed(self):
-        text = page("canonical")
-        left_out = 0
-        for block in blocks_of(text)[::9]:
-            missing, _ = faults(text.replace(block, "\n", 1))
-            self.assertTrue(missing, block)
-            left_out += 1
-        self.assertGreater(left_out, 30)
+        text, end = page("canonical"), r"(?= *(?:abbrev|unfoldable|pub|--|module|mutual)|```)"
+        # those at the margin or in a module, not in a `mutual` or a type
+        blocks = re.findall(rf"^ *(?:abbrev|unfoldable) pub [^\n]*\n(?: *[^\n-][^\n]*\n)*?{end}", text, re.M)[::9]
+        self.assertGreater(len(blocks), 30)
+        for block in blocks:
+            self.assertTrue(faults(text.replace(block, "\n", 1))[0], block)
 
     def test_a_definition_too_many_is_told(self):
         text = page("canonical")
@@ -184,16 +174,14 @@ class OfThePages(unittest.TestCase):
         for call in CALLS:
             text = page(call)
             shown = Printed(text)
-            places = {}
-            path, count = None, 0
+            places, path = {}, None
             for at, line in enumerate(text.split("\n")):
                 path = line[3:] if re.match(r"-- \S+\.antt$", line) else path
                 defines = DEFINES.match(code(line))
                 if defines and (path, defines[1]) in shown.defined:
                     self.assertNotIn((path, defines[1]), places, line)
                     places[path, defines[1]] = at
-                    count += 1
-            self.assertGreater(count, 100)
+            self.assertGreater(len(places), 100)
             for user in {path for path, _ in places}:
                 for name, there, original in imports(user):
                     at = [place for (where, _), place in places.items() if where == user]
@@ -214,18 +202,29 @@ class OfThePages(unittest.TestCase):
         known = set()
         for path in glob.glob(f"{TOP}/crates/*/specs/**/*.antt", recursive=True):
             if "/out/" not in path and not path.endswith("/Lib.antt"):
-                known |= {
-                    os.path.basename(path).removesuffix(".antt"),
-                    *(name for name, _ in names_in(source(os.path.relpath(path, f"{TOP}/crates")).split("\n"))),
-                }
+                known |= {os.path.basename(path).removesuffix(".antt"), *(name for name, _ in names_in(read(path).split("\n")))}
         self.assertTrue(names)
         self.assertLessEqual(names, known)
 
     def test_a_statement_is_short(self):
         self.assertLessEqual(page("canonical").count("\n"), 1750)
 
+    def test_a_page_that_is_not_current_is_told(self):
+        stored = {"a.md": "made", "b.md": "changed"}
+        with mock.patch.object(PAGES, "PAGES", {"a.md": lambda: "made", "b.md": lambda: "made too"}):
+            with mock.patch.object(PAGES, "read", lambda path: stored[os.path.basename(path)]):
+                self.assertEqual(run(PAGES.main, "--check"), (1, "pages: b.md is not current: run tools/pages --write\n"))
+                self.assertEqual(run(PAGES.main, "--check", "a.md"), (0, ""))
 
-def blocks_of(text):
-    """The definitions of a page that stand at the margin or in a module, not in a `mutual` or a type."""
-    end = r"(?= *(?:abbrev|unfoldable|pub|--|module|mutual)|```)"
-    return re.findall(rf"^ *(?:abbrev|unfoldable) pub [^\n]*\n(?: *[^\n-][^\n]*\n)*?{end}", text, re.M)
+    def test_no_tests_and_no_programs_are_among_the_libraries(self):
+        names = libraries_of(TOP)
+        self.assertIn("yaml_definitions", names)
+        self.assertFalse([it for it in names if it.startswith("rows_") or it in ("yaml_vectors", "yaml_tool", "yaml_review")])
+
+    def test_each_clause_of_a_theorem_is_taken(self):
+        """The crates of theorems have public functions alone, so each line that begins a clause is taken."""
+        for crate in (it for it in libraries_of(TOP) if it.startswith("law_")):
+            is_clause = re.compile(r" *(?:ensures|requires)")
+            wanted = list(filter(is_clause.match, source(f"{crate}/src/laws.rt").split("\n")))
+            self.assertTrue(wanted)
+            self.assertEqual([line for it in calls_of(f"{TOP}/crates", crate) for line in it.lines if is_clause.match(line)], wanted)
