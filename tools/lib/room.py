@@ -12,7 +12,7 @@ from typing import Any
 
 from lib.crates import crates_below, crates_of, write_list
 from lib.paths import RT, read, write
-from lib.mutants.said import Said
+from lib.mutants.mutant import Said
 
 PARTS = ("src", "specs", "proofs")
 

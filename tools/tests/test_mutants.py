@@ -8,9 +8,8 @@ import unittest.mock
 from scripts import TOP
 from lib.crates import crates_of
 from lib.mutants import judging
-from lib.mutants.mutant import Mutant, faults_of, mutants_of, texts_of
+from lib.mutants.mutant import Mutant, Refusal, Said, faults_of, mutants_of, texts_of
 from lib.mutants.run import changed_crates, known_mutants, landed, one_of_each_function
-from lib.mutants.said import Refusal, Said
 
 SOURCE = """\
 /// One.

@@ -3,8 +3,7 @@ from __future__ import annotations
 
 from collections.abc import Sequence
 
-from lib.mutants.mutant import Change, Mutant
-from lib.mutants.said import Refusal, Said
+from lib.mutants.mutant import Change, Mutant, Refusal, Said
 from lib.room import Room
 
 Told = dict[str, "Refusal | None"]  # by the name of the mutant
@@ -143,10 +142,6 @@ def conclude(trial: Trial, told: Refusal | None, control: Sequence[Refusal | Non
         hold_beside(mutant, told, control[0])
 
 
-def clause(goal: str) -> str:
-    return goal.split("-clause-")[-1]
-
-
 def hold_beside(mutant: Mutant, told: Refusal, control: Refusal | None) -> None:
     """The verdict of a mutant whose control was tried."""
     what = f"twin `{mutant.twin()[0][2].strip()}`" if mutant.twin() else "unedited, the same answers left to the search"
@@ -158,7 +153,7 @@ def hold_beside(mutant: Mutant, told: Refusal, control: Refusal | None) -> None:
         return
     # A goal with no clause's name carries the names of steps, which a twin need not have: it tells nothing against the mutant.
     failed = control.goals + [goal for _, _, goal in control.names]
-    left = sorted({clause(it) for it in told.goals if "-clause-" in it} - {clause(it) for it in failed})
+    left = sorted({it.split("-clause-")[-1] for it in told.goals if "-clause-" in it} - {it.split("-clause-")[-1] for it in failed})
     if mutant.twin() and left and control.goals and all("-clause-" in it for it in control.goals):
         mutant.verdict, mutant.control = OWN, f"{what}: refused in {' '.join(failed[:3])}, but not in {' '.join(left[:3])}"
     else:
