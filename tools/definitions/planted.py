@@ -1,15 +1,14 @@
 #!/usr/bin/env python3
 """planted.py: a hundred wrong definitions, each put alone into a copy, and what tells it.
 
-    python3 planted.py [--lanes N] [--suite PLACE] [--only WORD] [--out FILE]
-    python3 planted.py --listed             whether each can still be put into its definition, as the gate asks
-    python3 planted.py --checked            whether the definitions still check with each in its place: else it is no definition
-    python3 planted.py --table [FILE]       what a run wrote there, as a table (planted.found, the results that are stored)
+    python3 planted.py                      prints what tells each
+    python3 planted.py --listed             whether each can still be put into its definition, as CI asks
+    python3 planted.py --table [FILE]       what a run printed, as a table (planted.found, the results that are stored)
 
 The list is planted.list. What is asked, the cheapest first, until something tells:
 
-- of a definition of the grammar: the rows of `yaml_vectors` and tools/data/cases/streams, the cases of yaml-test-suite (PLACE: see
-  `tools/conformance suite --help`) and the short readings that are stored, as the wrong definitions read them (planted_texts.py);
+- of a definition of the grammar: the rows of `yaml_vectors` and tools/data/cases/streams, the cases of yaml-test-suite (if YAML_TEST_SUITE
+  names it) and the short readings that are stored, as the wrong definitions read them (planted_texts.py);
 - `rt check` of yaml_definitions, over what an earlier check kept: an example that is computed or derived, or a law;
 - `rt check` of the law crates that stand on yaml_definitions alone or nearly so (`law_length`, `law_read_back`, `yaml_core`).
 
@@ -21,13 +20,11 @@ processor for each that no text tells.
 import collections
 import contextlib
 import os
-import queue
 import re
 import shutil
 import subprocess
 import sys
 import tempfile
-from concurrent.futures import ThreadPoolExecutor
 
 HERE = os.path.dirname(os.path.realpath(__file__))
 sys.path.insert(0, os.path.dirname(HERE))  # for lib
@@ -90,9 +87,9 @@ class Room:
     def run(self, words, **how):
         return subprocess.run(words, stdin=subprocess.DEVNULL, capture_output=True, text=True, errors="replace", check=False, **how)
 
-    def text(self, suite):
+    def text(self):
         """What planted_texts.py says of the copy."""
-        words = [sys.executable, HERE + "/planted_texts.py", *[suite] * bool(suite)]
+        words = [sys.executable, HERE + "/planted_texts.py", *filter(None, [os.environ.get("YAML_TEST_SUITE")])]
         done = self.run(words, env={**os.environ, "SPECS": self.specs + "/grammar"})
         if done.returncode:
             sys.exit("planted: the definitions do not run: " + done.stderr.strip().split("\n")[-1][:200])
@@ -108,11 +105,16 @@ class Room:
         shutil.rmtree(self.folder + "/crates/yaml_definitions/proofs", ignore_errors=True)
         return re.findall(r"(?:\./)?(specs/\S+: error: .*)", self.rt_check("yaml_definitions"))
 
-    def told(self, planting, suite):
-        """What tells a planting, or nothing."""
+    def told(self, planting):
+        """What tells a planting, or nothing; it is printed."""
+        told = self.told_by(planting)
+        print("%s | %s" % (planting.said if planting else "unchanged", told or "NOT TOLD"), flush=True)
+        return told
+
+    def told_by(self, planting):
         self.plant([planting] if planting else [])
         if planting is None or planting.file.startswith("grammar/") and not planting.file.endswith(UNSHADOWED):
-            text = self.text(suite)
+            text = self.text()
             if text:
                 return text
         for crate in ("yaml_definitions", *(LAWS if planting else ())):
@@ -139,15 +141,12 @@ def refused_in(crate, said):
     return (told or ["law %s" % it for it in functions] or ["%s: %s" % (crate, said.strip().split("\n")[-1][:120])])[0]
 
 
-def table_of(lines):
-    """The result a definition, as rows of a table."""
-    yield from ("| definition | in its place | told by |", "|---|---|---|")
-    for line in lines:
-        change, found, told = line.rpartition(" | ")
-        if found and ": " in change:
-            head, words = change.replace("|", "\\|").split(": ", 1)
-            file, name = head.split(" ")
-            yield "| `%s` (`%s`) | `%s` | %s |" % (name, file.rsplit("/", 1)[1], words, told.replace("|", "\\|"))
+def print_table(path):
+    """The result of each definition, as rows of a table."""
+    print("| definition | in its place | told by |\n|---|---|---|")
+    for change, words, told in re.findall(r"^(.*?): (.*) \| (.*)$", read(path).replace("|", "\\|").replace(" \\| ", " | "), re.M):
+        file, name = change.split(" ")
+        print("| `%s` (`%s`) | `%s` | %s |" % (name, file.rsplit("/", 1)[1], words, told))
 
 
 def listed(plantings):
@@ -163,76 +162,41 @@ def listed(plantings):
     return 1 if lost or unknown else 0
 
 
-def batches(plantings):
-    """The plantings in lists, those of one definition apart."""
-    lists, met = collections.defaultdict(list), collections.Counter()
-    for it in plantings:
-        lists[met[it.file, it.name]].append(it)
-        met[it.file, it.name] += 1
-    return lists.values()
-
-
 def checked(plantings):
-    """Whether the definitions check with the plantings in their places, each list of them in one copy."""
+    """Whether the definitions check with the plantings in their places, as many in one copy as are of different definitions."""
+    batches, met, wrong = collections.defaultdict(list), collections.Counter(), []
+    for it in plantings:
+        batches[met[it.file, it.name]].append(it)
+        met[it.file, it.name] += 1
     with contextlib.closing(Room()) as room:
-        wrong = []
-        for batch in batches(plantings):
+        for batch in batches.values():
             room.plant(batch)
             wrong += room.wrong()
     for said in wrong:
         print("planted: no definition: " + said)
     print("%d errors" % len(wrong) if wrong else "the definitions check with each of %d in its place" % len(plantings))
-    return 1 if wrong else 0
-
-
-def tried(plantings, options, out):
-    """What tells each, the unchanged definitions first, so many at a time as there are lanes."""
-    with contextlib.ExitStack() as ends:
-        rooms = queue.Queue()
-        for _ in range(options.lanes):
-            rooms.put(ends.enter_context(contextlib.closing(Room())))
-
-        def work(planting):
-            room = rooms.get()
-            try:
-                told = room.told(planting, options.suite)
-            finally:
-                rooms.put(room)
-            print("%s | %s" % (planting.said if planting else "unchanged", told or "NOT TOLD"), file=out, flush=True)
-            return told
-
-        plain = work(None)
-        if plain:
-            sys.exit("planted: the unchanged definitions are told by %s" % plain)
-        with ThreadPoolExecutor(options.lanes) as pool:
-            return list(pool.map(work, plantings))
+    return not wrong
 
 
 def main():
     given = parser("tools/definitions/planted.py", __doc__)
-    given.add_argument("--lanes", type=int, default=1)
-    given.add_argument("--suite", default=os.environ.get("YAML_TEST_SUITE"))
-    given.add_argument("--only", default="")
-    given.add_argument("--out")
     given.add_argument("--table", nargs="?", const=FOUND, metavar="FILE")
     given.add_argument("--listed", action="store_true")
-    given.add_argument("--checked", action="store_true")
     options = given.parse_args()
     if options.table:
-        print("\n".join(table_of(read(options.table).split("\n"))))
+        print_table(options.table)
         return 0
     plantings = [Planting(line) for line in read(HERE + "/planted.list").split("\n") if line and not line.startswith("#")]
     if options.listed or any(it.changed(SPECS) is None for it in plantings):
         return listed(plantings)
-    plantings = [it for it in plantings if options.only in it.said]
-    if not plantings:
-        sys.exit(f"planted: no line of planted.list has {options.only}")
-    status = checked(plantings)
-    if status or options.checked:
-        return status
-    with open(options.out, "w", encoding="utf-8") if options.out else contextlib.nullcontext(sys.stdout) as out:
-        results = tried(plantings, options, out)
-        print("%d of %d are told by something" % (sum(bool(it) for it in results), len(results)), file=out)
+    if not checked(plantings):
+        return 1
+    with contextlib.closing(Room()) as room:
+        plain = room.told(None)
+        if plain:
+            sys.exit("planted: the unchanged definitions are told by %s" % plain)
+        results = [room.told(it) for it in plantings]
+    print("%d of %d are told by something" % (sum(map(bool, results)), len(results)))
     return 0
 
 

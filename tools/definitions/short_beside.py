@@ -1,8 +1,8 @@
 #!/usr/bin/env python3
 """short_beside.py: the built program beside the lists of short_readings.py.
 
-Runs `events` on each text of at most 5 characters over each of the alphabets (all, where none is named): one that is in the list
-has its events, one that is not is refused. It ends with the counts of each alphabet, after a line for each difference, and takes
+Runs `events` on each text of at most 5 characters over each of the alphabets: one that is in the list has its events, one that is not
+is rejected. It ends with the counts of each alphabet, after a line for each difference, and takes
 some minutes. The lists (short_readings/ALPHABET.txt.gz) were made by short_readings.py. The program must be built
 (`./yamlcanon canon examples/sharing.yaml`), or be named by YAMLCANON.
 """
@@ -22,8 +22,8 @@ def read(text):
     return None if done.returncode else letters(done.stdout.decode())
 
 
-def compare(alphabet, longest):
-    every, wanted = list(texts(alphabet, longest)), {text: events for text, events in stored(alphabet).items() if len(text) <= longest}
+def compare(alphabet):
+    every, wanted = list(texts(alphabet)), stored(alphabet)
     different = accepted = 0
     for text, got in zip(every, side_by_side(read, every)):
         accepted += got is not None
@@ -35,15 +35,9 @@ def compare(alphabet, longest):
 
 
 def main(words=None):
-    given = parser("tools/definitions/short_beside.py", __doc__)
-    given.add_argument("alphabets", nargs="*", metavar="ALPHABET", help=", ".join(ALPHABETS))
-    given.add_argument("--longest", type=int, default=5, metavar="LENGTH", help="the characters of the longest texts (5)")
-    asked = given.parse_args(words)
-    unknown = [it for it in asked.alphabets if it not in ALPHABETS]
-    if unknown:
-        given.error(f"there is no alphabet {unknown[0]}")
+    parser("tools/definitions/short_beside.py", __doc__).parse_args(words)
     want_built("short_beside", PROGRAM)
-    return int(any([compare(alphabet, asked.longest) for alphabet in asked.alphabets or ALPHABETS]))
+    return int(any([compare(alphabet) for alphabet in ALPHABETS]))
 
 
 if __name__ == "__main__":

@@ -7,10 +7,9 @@ written `$`. Events are a letter each: `d` and `D` begin a document without and 
 with its suffix, `S` and `[` begin a block and a flow sequence, `M` and `{` a mapping, `]` and `}` end them, `=` is a scalar and
 `*` an alias. An anchor `&name;` and a tag `<tag>` follow the letter; then a scalar has its style's sign, none for a plain one,
 its text and `;`, and an alias its name and `;`. It stops at a text that has two lists of events. An alphabet takes a quarter of
-an hour, or a part of it where PART of PARTS is asked for: every PARTS-th text.
+an hour.
 """
 import gzip
-import itertools
 import re
 import sys
 
@@ -63,10 +62,7 @@ def stored(alphabet):
 def main(words=None):
     given = parser("tools/definitions/short_readings.py", __doc__)
     given.add_argument("alphabet", choices=ALPHABETS, metavar="NAME", help=", ".join(ALPHABETS))
-    given.add_argument("part", nargs="?", type=int, default=0, metavar="PART")
-    given.add_argument("parts", nargs="?", type=int, default=1, metavar="PARTS")
-    asked = given.parse_args(words)
-    for text in itertools.islice(texts(asked.alphabet), asked.part, None, asked.parts):
+    for text in texts(given.parse_args(words).alphabet):
         found = shadow.event_texts(text, True, 1024)
         if len(found) > 1:
             sys.exit("two readings: %r" % text)
