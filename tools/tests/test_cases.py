@@ -7,7 +7,7 @@ import unittest
 from unittest import mock
 
 from scripts import load
-from lib.cases import running, table, texts, writing
+from lib.cases import running, table, writing
 from lib.examples import room
 from lib.paths import read, write
 
@@ -92,9 +92,9 @@ class Texts(unittest.TestCase):
             ({"piece": "${number}a", "times": 2, "first": 9}, b"9a10a"),
             (["a", {"piece": "b", "times": 2}], b"abb"),
         ):
-            self.assertEqual(texts.whole(value), wanted, value)
+            self.assertEqual(table.whole(value), wanted, value)
         with self.assertRaises(ValueError):
-            texts.whole({"piece": "a", "time": 2})
+            table.whole({"piece": "a", "time": 2})
 
     def test_spelled_texts_are_read_back(self):
         for text in (
@@ -110,9 +110,9 @@ class Texts(unittest.TestCase):
             "\ufeff\x1b\r\n\u2028é\n",
             "\x00" * 3,
         ):
-            self.assertEqual(tomllib.loads("x = " + texts.spelled(text))["x"], text)
+            self.assertEqual(tomllib.loads("x = " + table.spelled(text))["x"], text)
         for data in (b"a\xff%\n\x00", b"\xe2\x82"):
-            self.assertEqual(texts.whole(tomllib.loads("x = " + texts.spelled(data))["x"]), data)
+            self.assertEqual(table.whole(tomllib.loads("x = " + table.spelled(data))["x"]), data)
 
 
 class WithAProgram(unittest.TestCase):

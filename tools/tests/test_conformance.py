@@ -7,8 +7,8 @@ from unittest import mock
 
 from scripts import run
 from lib import trial
-from lib.form import companion, files, suite
-from lib.form.scalars import scalars
+from lib.form import companion, suite
+from lib.form.made import scalars
 
 # A program that reads `a` and rejects everything else at its first byte.
 FAKE = """\
@@ -87,8 +87,10 @@ class Files(unittest.TestCase):
     def wrong(self, canon, again=None):
         """What is said of a program that reads `a: 1`, and writes these texts of it and of its text."""
         answers = {"events": "+STR\n+DOC\n=VAL :a\n-DOC\n-STR\n", "canon": canon}
-        with mock.patch.object(files, "answer", lambda _, command, source: (again if again and source != b"a" else answers[command], "")):
-            return list(files.wrong_of("", b"a", collections.Counter()))
+        with mock.patch.object(
+            companion, "answer", lambda _, command, source: (again if again and source != b"a" else answers[command], "")
+        ):
+            return list(companion.wrong_file("", b"a", collections.Counter()))
 
     def test_meaning(self):
         self.assertEqual(self.wrong('--- "a"\n'), [])

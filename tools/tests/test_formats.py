@@ -3,9 +3,7 @@ import json
 import unittest
 
 from scripts import load  # noqa: F401  (puts tools on the path)
-from lib.formats.others import github_faults, markdown_faults, sarif_faults
-from lib.formats.page import page_faults
-from lib.formats.values import is_same
+from lib.formats import github_faults, is_same, markdown_faults, page_faults, sarif_faults
 
 PAGE = '<!DOCTYPE html>\n<html lang="en"><body><a href="#d1">x</a><p id="d1">&#x3C;b&#x3E;</p></body></html>'
 ROW = "| changed | <code>&#x2E;a</code> | <code>x&#x40;</code> | <code>y</code> | 1:4 | 1:4 |\n"

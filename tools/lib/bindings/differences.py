@@ -10,7 +10,7 @@ import os
 import random
 import subprocess
 
-from lib.form.lines import vectors
+from lib.form.vectors import vectors
 from lib.form.made import stream
 from lib.paths import REVIEW
 from .base import changed, say, wrong

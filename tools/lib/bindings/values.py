@@ -8,7 +8,7 @@ import decimal
 import os
 import subprocess
 
-from lib.form.lines import vectors
+from lib.form.vectors import vectors
 from lib.form.made import stream
 from lib.paths import PROGRAM, TOP
 from oracle import oracle

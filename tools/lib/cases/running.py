@@ -6,8 +6,7 @@ import re
 import subprocess
 import tempfile
 
-from lib.cases.judges import difference
-from lib.cases.table import FOLDER, RUN, NoCase, cases_of, paths, streams_with_fronts
+from lib.cases.table import FOLDER, RUN, NoCase, cases_of, difference, paths, streams_with_fronts
 from lib.examples.room import PROGRAMS
 
 # A front is tried of inputs of so many bytes at most. Of an input of more than FEW bytes, which is made of one piece many times, only each

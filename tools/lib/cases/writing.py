@@ -4,8 +4,7 @@ import re
 import sys
 
 from lib.cases.running import each, faults_of, ran
-from lib.cases.table import FOLDER, cases_of, paths, table_of
-from lib.cases.texts import spelled
+from lib.cases.table import FOLDER, cases_of, paths, spelled, table_of
 from lib.paths import read, write
 
 KEY = re.compile(r"([\w.\"-]+) = ")

@@ -7,12 +7,11 @@ import glob
 import os
 import re
 
-from lib.cases.table import STREAMS, blocks_of, events_of, paths, table_of
-from lib.cases.texts import whole
+from lib.cases.table import STREAMS, blocks_of, events_of, paths, table_of, whole
 from lib.paths import TOP, read
 
 # where a row stands; its input; what its table says of `canon` and of `events` (None: nothing): a text, or a fault's line; the pieces of
-# which a long one is made (lib/form/built.py)
+# which a long one is made (lib/form/vectors.py)
 Row = collections.namedtuple("Row", "place input canon events pieces", defaults=(None,))
 # two inputs, and the word or the fault's line that `same` prints
 Pair = collections.namedtuple("Pair", "place left right same")
@@ -74,5 +73,5 @@ def streams(is_made):
 
 
 def all_rows():
-    """The rows but for those whose inputs are made of a piece, which lib/form/built.py has."""
+    """The rows but for those whose inputs are made of a piece, which lib/form/vectors.py has."""
     return [*rows_of_crates(), *(Row(place, whole(block["input"]), *said_of(block)) for place, block in streams(False))]
