@@ -29,11 +29,12 @@ def run(words: Sequence[str | bytes], given: bytes = b"", room: str | None = Non
     return Ran(done.returncode, done.stdout, done.stderr)
 
 
-def put(room: str, files: Mapping[str, str | bytes]) -> None:
-    """Writes files, and the folders in which they are."""
+def put(room: str, files: Mapping[str, str | bytes] | Mapping[bytes, bytes]) -> None:
+    """Writes files, and the folders in which they are. Their names are texts or bytes."""
     for name, text in files.items():
-        os.makedirs(os.path.dirname(f"{room}/{name}"), exist_ok=True)
-        with open(f"{room}/{name}", "wb") as file:
+        path = f"{room}/{os.fsdecode(name)}"
+        os.makedirs(os.path.dirname(path), exist_ok=True)
+        with open(path, "wb") as file:
             file.write(text if isinstance(text, bytes) else text.encode())
 
 

@@ -134,7 +134,7 @@ class WithAProgram(unittest.TestCase):
         """How many cases were run, and what is wrong."""
         self.put(program, text)
         checked = room.Checked("cases")
-        running.check(checked, None, self.folder)
+        running.check(checked, self.folder)
         return checked.count, checked.wrong
 
 

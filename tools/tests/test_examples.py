@@ -93,7 +93,7 @@ class Programs(WithAProgram):
         path = f"{self.folder}/table.toml"
         with open(path, "w", encoding="utf-8") as file:
             file.write(TABLE.format(runs=runs))
-        programs.check(self.checked, None, path)
+        programs.check(self.checked, path)
         return self.found()
 
     def test_runs_that_are_right(self):
@@ -131,7 +131,7 @@ class Pages(WithAProgram):
 
     def test_page_without_its_tables(self):
         with mock.patch.object(pages, "read", return_value="| a | b |\n"):
-            pages.check_tables(self.checked, None)
+            pages.check_tables(self.checked)
         self.assertEqual(self.found(), (0, 3))
 
     def test_section(self):
@@ -173,11 +173,11 @@ class Pages(WithAProgram):
 class Arguments(unittest.TestCase):
     def test_page_without_examples_is_a_fault(self):
         self.assertTrue(run(lambda _: EXAMPLES.report("page", Checked("page")))[0])
-        with mock.patch.dict(EXAMPLES.PAGES, {"FORM": ("page", lambda checked, _: None)}), mock.patch.object(EXAMPLES, "want_built"):
+        with mock.patch.dict(EXAMPLES.PAGES, {"FORM": ("page", lambda checked: None)}), mock.patch.object(EXAMPLES, "want_built"):
             self.assertEqual(run(EXAMPLES.main, "FORM")[0], 1)
 
     def test_what_is_printed_is_written_into_the_page(self):
-        def check(checked, _):
+        def check(checked):
             checked.text = "new\n"
             checked.want(EXAMPLES.read(f"{EXAMPLES.TOP}/page.md") == "new\n", "old")
 

@@ -28,12 +28,7 @@ def commands():
 
 # Arguments that are wrong: names of what is not there, and options that do not go together. Words in quotes are one.
 WRONG = (
-    *(
-        "tools/examples TYPO",
-        "tools/examples GUIDE TYPO",
-        "tools/examples --section 'no such section'",
-        "tools/examples --section git YAML",
-    ),
+    *("tools/examples TYPO", "tools/examples GUIDE TYPO", "tools/examples --writes"),
     *("tools/mutants", "tools/mutants record", "tools/mutants gate yaml_text", "tools/mutants run yaml_nothing"),
     *("tools/mutants run --only 'nothing at all'", "tools/mutants check yaml_nothing"),
     *("tools/conformance", "tools/conformance vector", "tools/conformance suite", "tools/conformance suite /no/such/place"),

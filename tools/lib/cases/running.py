@@ -8,22 +8,12 @@ import tempfile
 
 from lib.cases.table import FOLDER, RUN, NoCase, cases_of, difference, paths, streams_with_fronts
 from lib.examples.room import PROGRAMS
+from lib.trial import put
 
 # A front is tried of inputs of so many bytes at most. Of an input of more than FEW bytes, which is made of one piece many times, only each
 # STEPth front is tried but for those at its ENDS.
 LONGEST, FEW, ENDS, STEP = 4096, 512, 128, 16
 FAULT = re.compile(rb"yaml: (\d+) [^\n]*\n")
-
-
-def put(folder, run):
-    """Puts the files and the folders of a run into its folder."""
-    for name in run.folders:
-        os.makedirs(os.path.join(folder, name))
-    for name, data in run.files.items():
-        path = os.path.join(folder, name)
-        os.makedirs(os.path.dirname(path), exist_ok=True)
-        with open(path, "wb") as file:
-            file.write(data)
 
 
 def ran_in(folder, run):
@@ -42,23 +32,19 @@ def ran(run):
     if not run.files and not run.folders:
         return ran_in(empty().name, run)
     with tempfile.TemporaryDirectory(prefix="cases-") as folder:
-        put(os.fsencode(folder), run)
+        for name in run.folders:
+            os.makedirs(os.path.join(os.fsencode(folder), name))
+        put(folder, run.files)
         return ran_in(folder, run)
-
-
-def is_as(wanted, given):
-    """Whether a text is as it is wanted: any, one that a pattern has, or this one."""
-    if isinstance(wanted, re.Pattern):
-        return wanted.fullmatch(given) is not None
-    return wanted is None or given == wanted
 
 
 def faults_of(run, given):
     """What is wrong with what a run answered and wrote."""
     told = "" if given.returncode == run.status else f"  status {given.returncode}, wanted {run.status}\n"
     for what, wanted, got in (("output", run.output, given.stdout), ("error", run.error, given.stderr)):
-        if not is_as(wanted, got):
-            told += difference(what, getattr(wanted, "pattern", wanted), got)
+        is_pattern = isinstance(wanted, re.Pattern)
+        if not (wanted.fullmatch(got) if is_pattern else wanted in (None, got)):
+            told += difference(what, wanted.pattern if is_pattern else wanted, got)
     return told + (run.judge(given.stdout) if run.judge else "")
 
 
@@ -79,14 +65,13 @@ def each(call, given):
         yield from pool.map(call, given)
 
 
-def cuts(length):
-    """Where an input of so many bytes is cut."""
-    return range(length) if length <= FEW else [*range(ENDS), *range(ENDS, length - ENDS, STEP), *range(length - ENDS, length)]
-
-
 def fronts_of(inputs):
     """The fronts of inputs that are not too long, each once, the shortest first."""
-    found = {source[:cut] for source in inputs if len(source) <= LONGEST for cut in cuts(len(source))}
+    found = set()
+    for source in (it for it in inputs if len(it) <= LONGEST):
+        last = len(source)
+        cuts = range(last) if last <= FEW else [*range(ENDS), *range(ENDS, last - ENDS, STEP), *range(last - ENDS, last)]
+        found |= {source[:cut] for cut in cuts}
     return sorted(found, key=lambda front: (len(front), front))
 
 
@@ -96,22 +81,17 @@ def answer(word, source):
     return given.returncode, given.stdout, given.stderr
 
 
-def cut_at(front):
-    """Where the character begins that a front cuts, or None."""
-    try:
-        front.decode()
-    except UnicodeDecodeError as error:
-        return error.start
-    return None
-
-
 def fault_of_front(front):
     """What is wrong with the answers to a front, or nothing: it has a canonical text, which is its own, or a numbered fault, which is that of
     reading where the front is not read. A front that cuts a character is no UTF-8 from that character on."""
     status, text, error = answer(b"canon", front)
-    reading, start = answer(b"events", front), cut_at(front)
-    if start is not None:
-        is_right = (status, text, error) == reading == (2, b"", b"yaml: 2 NotUtf8 at byte %d\n" % start)
+    reading, cut_at = answer(b"events", front), None
+    try:
+        front.decode()
+    except UnicodeDecodeError as cut:
+        cut_at = cut.start
+    if cut_at is not None:
+        is_right = (status, text, error) == reading == (2, b"", b"yaml: 2 NotUtf8 at byte %d\n" % cut_at)
     elif status == 0:
         is_right = reading[0] == 0 and answer(b"canon", text) == (0, text, b"")
     else:
@@ -122,7 +102,7 @@ def fault_of_front(front):
     return "" if is_right else f"front {front!r}: status {status}, {text!r}, {error!r}; read: {reading!r}"
 
 
-def check(checked, _, folder=FOLDER):
+def check(checked, folder=FOLDER):
     """Runs all cases, and the fronts of those files that ask for it."""
     try:
         found = paths(folder)

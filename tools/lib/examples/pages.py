@@ -80,15 +80,15 @@ def try_matcher(page, checked):
     checked.want(is_found, "the problem matcher does not find the page's error")
 
 
-def check_sections(checked, word):
-    """Runs the sections whose title has a word, and the problem matcher if there is no word."""
+def check_sections(checked):
+    """Runs the sections, and of GUIDE.md the problem matcher."""
     page = read(f"{TOP}/{checked.page}")
     sections = re.split(r"(?m)^(?=## )", page)
     for at, section in enumerate(sections):
         title = section.split("\n", 1)[0]
-        if title.startswith("## ") and (word or "") in title and BLOCK.search(section):
+        if title.startswith("## ") and BLOCK.search(section):
             sections[at] = try_section(section, title[3:], checked)
-    if checked.page == GUIDE and not word:
+    if checked.page == GUIDE:
         try_matcher(page, checked)
     checked.text = "".join(sections)
 
@@ -105,7 +105,7 @@ def try_session(page, room, checked):
     return SESSION.sub(printed, page)
 
 
-def check_session(checked, _):
+def check_session(checked):
     """Runs the commands of the page, next to examples/."""
     with tempfile.TemporaryDirectory(prefix="examples-") as folder:
         room = Room(folder)
@@ -123,7 +123,7 @@ def try_row(text, wanted, checked):
     checked.want(is_rejected or is_accepted, f"{text!r}: wanted {wanted}, and had {printed or line!r}, status {ran.returncode}")
 
 
-def check_tables(checked, _):
+def check_tables(checked):
     """Runs the examples in the tables of the page; a table of it that is not found is a fault."""
     page = read(f"{TOP}/{checked.page}")
     tables = [CAUSE.findall(page), [(text, f"{number} {name}") for number, name, text in NUMBERED.findall(page)], ACCEPTED.findall(page)]
@@ -159,6 +159,6 @@ def try_paths(text, checked):
                 checked.want(re.search(rf"^\s*(?:\w+ )*pub (?:\w+ )?{name}\b", source, re.M), f"{path} defines no {name}")
 
 
-def check_form(checked, _):
+def check_form(checked):
     try_rules(page_of_form(), checked)
     try_paths(page_of_form(), checked)

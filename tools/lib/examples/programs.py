@@ -24,8 +24,7 @@ def made(piece):
     """A text that is made of a piece, so many times."""
     times, middle = piece["times"], piece.get("middle", "")
     if "indented" in piece:
-        lines = [" " * column + line for column in range(times) for line in piece["indented"]]
-        return "\n".join([*lines, " " * times + middle]) + "\n"
+        return "".join(f"{' ' * column}{line}\n" for column in range(times) for line in piece["indented"]) + " " * times + middle + "\n"
     if "numbered" in piece:
         return "".join(piece["numbered"] % number + "\n" for number in range(1, times + 1))
     return piece["open"] * times + middle + piece["close"] * times + "\n"
@@ -98,7 +97,7 @@ def runs_of(given, room):
             yield Run(block, {**texts, "room": room, "each": each})
 
 
-def check(checked, _, path=TABLE):
+def check(checked, path=TABLE):
     """Runs all of the table."""
     given = table(path)
     with tempfile.TemporaryDirectory(prefix="examples-") as folder:
