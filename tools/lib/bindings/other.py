@@ -7,7 +7,7 @@ same bytes; for this processor the program of `library/yamlcanon.c`, which passe
 import os
 import subprocess
 
-from lib.packing.machines import JUDGED, MACHINES, lacking, lacking_to_run
+from lib.packing.base import JUDGED, MACHINES, lacking, lacking_to_run
 from lib.paths import TOP, write
 from .base import build, run, say, wrong
 

@@ -15,9 +15,9 @@ from lib.room import free_memory
 MEMORY_OF_A_PROOF = 5 * 2**30
 
 
-def lanes() -> int:
-    """How many proofs run side by side, a job each: as many as there are processors and memory for."""
-    return max(1, min(len(os.sched_getaffinity(0)), free_memory() // MEMORY_OF_A_PROOF))
+def lanes(memory: int) -> int:
+    """How many proofs or checks run side by side: as many as there are processors and memory for."""
+    return max(1, min(len(os.sched_getaffinity(0)), free_memory() // memory))
 
 
 class Gate:
@@ -38,7 +38,7 @@ class Gate:
             text=True,
             errors="replace",
             stderr=subprocess.STDOUT,
-            env={"RT_JOBS": str(lanes()), **os.environ, "PYTHONUNBUFFERED": "1"},
+            env={"RT_JOBS": str(lanes(MEMORY_OF_A_PROOF)), **os.environ, "PYTHONUNBUFFERED": "1"},
         )
         threading.Thread(target=self.read, daemon=True).start()
 
@@ -181,9 +181,8 @@ def weight(root: str, crate: str, mutants: list[Mutant]) -> int:
 class Lanes:
     """How many crates are tried at a time: so many as there are processors and memory for, beside a gate one less."""
 
-    def __init__(self, lanes: int | None, gate: Gate | None) -> None:
-        self.gate, self.processors = gate, len(os.sched_getaffinity(0))
-        self.most = lanes or max(1, min(self.processors, free_memory() // MEMORY_OF_A_CHECK))
+    def __init__(self, gate: Gate | None) -> None:
+        self.gate, self.processors, self.most = gate, len(os.sched_getaffinity(0)), lanes(MEMORY_OF_A_CHECK)
         self.taken, self.changed = 0, threading.Condition()
         self.waiting: list[int] = []
 
@@ -260,17 +259,17 @@ def conclude_all(asked: Asked, known: set[str]) -> int:
     return 1 if failed else 0
 
 
-def run(root: str, asked: Asked, lanes: int | None) -> int:
+def run(root: str, asked: Asked) -> int:
     """Tries mutants of crates that are proved; the status."""
     known = known_mutants(root)
-    try_all(root, asked, Lanes(lanes, None))
+    try_all(root, asked, Lanes(None))
     return conclude_all(asked, known)
 
 
-def run_gate(root: str, asked: Asked, lanes: int | None) -> int:
+def run_gate(root: str, asked: Asked) -> int:
     """Runs `rt ci`, and tries mutants beside it; the status."""
     known, gate = known_mutants(root), Gate(root)
     os.nice(BESIDE_GATE)
-    try_all(root, asked, Lanes(lanes, gate))
+    try_all(root, asked, Lanes(gate))
     status = conclude_all(asked, known)
     return gate.wait() or status

@@ -11,8 +11,7 @@ import tempfile
 import zipfile
 
 from lib.paths import TOP, read
-from lib.packing.base import ended, release, sum_of, write
-from lib.packing.machines import MACHINES, OTHERS, lacking, lacking_to_run
+from lib.packing.base import MACHINES, OTHERS, ended, lacking, lacking_to_run, release, sum_of, write
 from lib.packing.roots import inside, make_root, may_make
 from lib.packing.store import CARGO, EXAMPLES, FILES, KEPT, PAGE, judged, put_files, put_rust
 
