@@ -5,9 +5,11 @@ import importlib.util
 import io
 import os
 import sys
+import tempfile
 
 TOP = os.path.dirname(os.path.dirname(os.path.dirname(os.path.realpath(__file__))))
 sys.path[:0] = [f"{TOP}/tools", TOP]  # for lib and bench.lib
+from lib.trial import put
 
 
 def load(path):
@@ -30,10 +32,19 @@ def run(main, *words):
     return status, said.getvalue()
 
 
+def folder_of(test):
+    """A new folder, which is there as long as a test runs."""
+    folder = tempfile.TemporaryDirectory()
+    test.addCleanup(folder.cleanup)
+    return folder.name
+
+
+def put_program(path, text):
+    """Writes a program."""
+    put(os.path.dirname(path), {os.path.basename(path): text})
+    os.chmod(path, 0o755)
+
+
 def write(folder, **texts):
     """Writes files below a folder; in their names `__` is for `/`, and `.md` is added."""
-    for name, text in texts.items():
-        path = f"{folder}/{name.replace('__', '/')}.md"
-        os.makedirs(os.path.dirname(path), exist_ok=True)
-        with open(path, "w", encoding="utf-8") as file:
-            file.write(text)
+    put(folder, {f"{name.replace('__', '/')}.md": text for name, text in texts.items()})

@@ -4,10 +4,10 @@ import io
 import os
 import subprocess
 import tarfile
-import tempfile
 import unittest
 
-from scripts import TOP
+from scripts import TOP, folder_of, put
+from lib.paths import read
 
 ACTION = f"{TOP}/packages/action/review"
 # A program that prints its words, and ends with 2 for a file of the name bad.yaml, and with 1 for differences. Of `diff` the left file is
@@ -26,10 +26,9 @@ def git(room, *words):
 
 class Action(unittest.TestCase):
     def setUp(self):
-        holder = tempfile.TemporaryDirectory()
-        self.addCleanup(holder.cleanup)
-        self.archive, self.room = f"{holder.name}/yamlcanon.tar.gz", f"{holder.name}/room"
-        self.summary, self.pages = f"{holder.name}/summary.md", f"{holder.name}/pages"
+        folder = folder_of(self)
+        self.archive, self.room = f"{folder}/yamlcanon.tar.gz", f"{folder}/room"
+        self.summary, self.pages = f"{folder}/summary.md", f"{folder}/pages"
         with tarfile.open(self.archive, "w:gz") as file:
             member = tarfile.TarInfo("yamlcanon-1/bin/yamlreview")
             member.mode, member.size = 0o755, len(FAKE)
@@ -44,10 +43,7 @@ class Action(unittest.TestCase):
         os.remove(f"{self.room}/left.yaml")
 
     def commit(self, files):
-        for name, text in files.items():
-            os.makedirs(os.path.dirname(f"{self.room}/{name}"), exist_ok=True)
-            with open(f"{self.room}/{name}", "w", encoding="utf-8") as file:
-                file.write(text)
+        put(self.room, files)
         git(self.room, "add", "-A")
         git(self.room, "commit", "-q", "-m", "x")
         return git(self.room, "rev-parse", "HEAD")
@@ -62,25 +58,20 @@ class Action(unittest.TestCase):
     def test_changed_files_alone(self):
         self.commit({"changed.yaml": "a: 2\n", "-new $(x).yml": "a: 3\n", "no.txt": "y"})
         self.assertEqual(self.run_action(), (0, "warn --format=github -- -new $(x).yml changed.yaml\n"))
-        with open(self.summary, encoding="utf-8") as file:
-            self.assertEqual(file.read(), "".join(f"diff --format=markdown -- - {name}\n\n" for name in ("-new $(x).yml", "changed.yaml")))
-
-    def page(self, name):
-        with open(f"{self.pages}/{name}", encoding="utf-8") as file:
-            return file.read()
+        wanted = "".join(f"diff --format=markdown -- - {name}\n\n" for name in ("-new $(x).yml", "changed.yaml"))
+        self.assertEqual(read(self.summary), wanted)
 
     def test_a_page_has_the_name_of_its_file(self):
         self.commit({"changed.yaml": "a: 2\n", "-new $(x).yml": "a: 3\n", "deep/er/new.yaml": "a: 3\n"})
         self.assertEqual(self.run_action()[0], 0)
         for name in ("changed.yaml", "-new $(x).yml", "deep/er/new.yaml"):
-            self.assertEqual(self.page(f"{name}.html"), f"diff --format=html -- - {name}\n")
+            self.assertEqual(read(f"{self.pages}/{name}.html"), f"diff --format=html -- - {name}\n")
         self.assertEqual(sorted(os.listdir(self.pages)), ["-new $(x).yml.html", "changed.yaml.html", "deep"])
 
     def test_a_new_file_is_compared_with_an_empty_one(self):
         self.commit({"changed.yaml": "a: 2\n", "new.yaml": "a: 3\n"})
         self.assertEqual(self.run_action(WARN="no")[0], 0)
-        with open(f"{self.room}/.git/read", encoding="utf-8") as file:
-            self.assertEqual(file.read(), "changed.yaml: a: 1\nchanged.yaml: a: 1\nnew.yaml: \nnew.yaml: \n")
+        self.assertEqual(read(f"{self.room}/.git/read"), "changed.yaml: a: 1\nchanged.yaml: a: 1\nnew.yaml: \nnew.yaml: \n")
 
     def test_a_page_that_cannot_be_written(self):
         self.commit({"changed.yaml": "a: 2\n", "changed.yaml.html/new.yaml": "a: 3\n"})

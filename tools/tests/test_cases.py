@@ -1,17 +1,15 @@
 """tools/examples cases: what a text of a case stands for, which runs a case has, and that a case with another answer fails by its name."""
 import os
 import re
-import tempfile
 import tomllib
 import unittest
 from unittest import mock
 
-from scripts import load
+from scripts import folder_of, put_program
 from lib.cases import running, table, writing
 from lib.examples import room
 from lib.paths import read, write
 
-EXAMPLES = load("tools/examples")
 # A program that prints its words, the names of its folder's files, and its input.
 FAKE = """\
 #!/bin/sh
@@ -117,17 +115,15 @@ class Texts(unittest.TestCase):
 
 class WithAProgram(unittest.TestCase):
     def setUp(self):
-        folder = tempfile.TemporaryDirectory()
-        self.addCleanup(folder.cleanup)
-        self.folder, self.program, self.path = f"{folder.name}/cases", f"{folder.name}/fake", f"{folder.name}/cases/one.toml"
+        folder = folder_of(self)
+        self.folder, self.program, self.path = f"{folder}/cases", f"{folder}/fake", f"{folder}/cases/one.toml"
         os.mkdir(self.folder)
         patch = mock.patch.dict(room.PROGRAMS, yamlcanon=self.program)
         patch.start()
         self.addCleanup(patch.stop)
 
     def put(self, program, text):
-        write(self.program, program)
-        os.chmod(self.program, 0o755)
+        put_program(self.program, program)
         write(self.path, text)
 
     def found(self, program, text):

@@ -1,12 +1,10 @@
 """How tools/conformance sorts the cases of yaml-test-suite, and what it finds wrong."""
 import collections
 import os
-import tempfile
 import unittest
 from unittest import mock
 
-from scripts import run
-from lib import trial
+from scripts import folder_of, put, put_program, run
 from lib.form import companion, suite
 from lib.form.made import scalars
 
@@ -22,14 +20,12 @@ EVENTS = b"+STR\n+DOC\n=VAL :a\n-DOC\n-STR\n"
 
 class Suite(unittest.TestCase):
     def setUp(self):
-        folder = tempfile.TemporaryDirectory()
-        self.addCleanup(folder.cleanup)
-        self.place, self.program = f"{folder.name}/suite", f"{folder.name}/fake"
-        trial.put(folder.name, {"fake": FAKE})
-        os.chmod(self.program, 0o755)
+        folder = folder_of(self)
+        self.place, self.program = f"{folder}/suite", f"{folder}/fake"
+        put_program(self.program, FAKE)
 
     def case(self, name, text, events=None):
-        trial.put(self.place, {f"{name}/in.yaml": text, f"{name}/{'error' if events is None else 'test.event'}": events or b""})
+        put(self.place, {f"{name}/in.yaml": text, f"{name}/{'error' if events is None else 'test.event'}": events or b""})
 
     def kind(self, text, **files):
         return suite.sorted_case(self.program, {"in.yaml": text, **{name.replace("_", "."): it for name, it in files.items()}})[0]

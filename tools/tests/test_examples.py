@@ -4,7 +4,7 @@ import tempfile
 import unittest
 from unittest import mock
 
-from scripts import load, run
+from scripts import folder_of, load, put, put_program, run
 from lib.examples import pages, programs, room
 from lib.examples.room import Checked
 
@@ -69,12 +69,9 @@ rejected
 
 class WithAProgram(unittest.TestCase):
     def setUp(self):
-        folder = tempfile.TemporaryDirectory()
-        self.addCleanup(folder.cleanup)
-        self.folder, program = folder.name, f"{folder.name}/fake"
-        with open(program, "w", encoding="utf-8") as file:
-            file.write(FAKE)
-        os.chmod(program, 0o755)
+        self.folder = folder_of(self)
+        program = f"{self.folder}/fake"
+        put_program(program, FAKE)
         for name in room.PROGRAMS:
             patch = mock.patch.dict(room.PROGRAMS, {name: program})
             patch.start()
@@ -90,10 +87,8 @@ class WithAProgram(unittest.TestCase):
 
 class Programs(WithAProgram):
     def found_of(self, runs):
-        path = f"{self.folder}/table.toml"
-        with open(path, "w", encoding="utf-8") as file:
-            file.write(TABLE.format(runs=runs))
-        programs.check(self.checked, path)
+        put(self.folder, {"table.toml": TABLE.format(runs=runs)})
+        programs.check(self.checked, f"{self.folder}/table.toml")
         return self.found()
 
     def test_runs_that_are_right(self):

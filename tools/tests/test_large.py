@@ -1,11 +1,8 @@
 """tools/large: a right program passes, and each wrong answer is reported."""
-import os
-import tempfile
 import unittest
 from unittest import mock
 
-from scripts import load
-from lib.trial import put
+from scripts import folder_of, load, put, put_program
 
 large = load("tools/large")
 
@@ -39,11 +36,9 @@ def few():
 
 class Large(unittest.TestCase):
     def setUp(self):
-        folder = tempfile.TemporaryDirectory()
-        self.addCleanup(folder.cleanup)
-        self.folder, self.program = folder.name, f"{folder.name}/program"
-        put(self.folder, {"program": PROGRAM})
-        os.chmod(self.program, 0o755)
+        self.folder = folder_of(self)
+        self.program = f"{self.folder}/program"
+        put_program(self.program, PROGRAM)
 
     def wrong(self, part, answers, given=None):
         """What a part reports of a program that gives these answers."""

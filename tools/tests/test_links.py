@@ -2,7 +2,7 @@
 import tempfile
 import unittest
 
-from scripts import load, run, write
+from scripts import load, put, run, write
 
 LINKS = load("tools/links")
 
@@ -38,9 +38,7 @@ class Links(unittest.TestCase):
 
     def test_line_of_a_file(self):
         with tempfile.TemporaryDirectory() as folder:
-            write(folder, README="[a](lib.rt#L2) [a](lib.rt#L9) [a](lib.rt#name)")
-            with open(f"{folder}/lib.rt", "w", encoding="utf-8") as file:
-                file.write("one\ntwo\n")
+            put(folder, {"README.md": "[a](lib.rt#L2) [a](lib.rt#L9) [a](lib.rt#name)", "lib.rt": "one\ntwo\n"})
             _, said = run(LINKS.main, folder)
         self.assertEqual(
             said.splitlines(), ["README.md:1: lib.rt#L9: lib.rt has no line 9", "README.md:1: lib.rt#name: lib.rt is no page with headings"]

@@ -1,11 +1,9 @@
 """What tools/mutants reads, which mutants it chooses, and its verdicts."""
-import os
 import subprocess
-import tempfile
 import unittest
 import unittest.mock
 
-from scripts import TOP
+from scripts import TOP, folder_of, put
 from lib.crates import crates_of
 from lib.mutants import judging
 from lib.mutants.mutant import Mutant, Refusal, Said, faults_of, mutants_of, texts_of
@@ -95,16 +93,13 @@ class OfTheRepository(unittest.TestCase):
 
 class OfACrate(unittest.TestCase):
     def setUp(self):
-        folder = tempfile.TemporaryDirectory()
-        self.addCleanup(folder.cleanup)
-        self.top, self.crate = folder.name, f"{folder.name}/crates/x"
+        self.top = folder_of(self)
+        self.crate = f"{self.top}/crates/x"
         self.put("src/lib.rt", SOURCE)
         self.put("mutants.txt", BLOCKS)
 
     def put(self, name, text):
-        os.makedirs(os.path.dirname(f"{self.crate}/{name}"), exist_ok=True)
-        with open(f"{self.crate}/{name}", "w", encoding="utf-8") as file:
-            file.write(text)
+        put(self.crate, {name: text})
 
     def faults(self):
         return list(faults_of(self.top, "x"))

@@ -4,10 +4,10 @@ import tempfile
 import unittest
 from unittest import mock
 
-from scripts import load, run, write
+from scripts import folder_of, load, put, run, write
 from lib.packing import rests, trial
 from lib.packing.base import mend, without_dead_links
-from lib.paths import read
+from lib.paths import read, write as write_text
 
 RELEASE = load("tools/release")
 COMMIT = "0123456789" * 4
@@ -23,9 +23,7 @@ gate: passed
 
 class Gate(unittest.TestCase):
     def setUp(self):
-        folder = tempfile.TemporaryDirectory()
-        self.addCleanup(folder.cleanup)
-        self.log, self.changed = f"{folder.name}/log", ""
+        self.log, self.changed = f"{folder_of(self)}/log", ""
         for name, value in (("kit", lambda: "a kit"), ("git", lambda *words: self.changed)):
             patch = mock.patch.object(rests, name, value)
             patch.start()
@@ -33,8 +31,7 @@ class Gate(unittest.TestCase):
 
     def said(self, text):
         """What a package would say of a log, or the end of the run with what is wrong with it."""
-        with open(self.log, "w", encoding="utf-8") as file:
-            file.write(text)
+        write_text(self.log, text)
         return run(lambda _: rests.gate_of(self.log))
 
     def assert_rejected(self, text, why):
@@ -68,12 +65,8 @@ class Gate(unittest.TestCase):
 
 class Sums(unittest.TestCase):
     def setUp(self):
-        folder = tempfile.TemporaryDirectory()
-        self.addCleanup(folder.cleanup)
-        self.folder = folder.name
-        for name in ("one", "two"):
-            with open(f"{self.folder}/{name}", "w", encoding="utf-8") as file:
-                file.write(name)
+        self.folder = folder_of(self)
+        put(self.folder, {"one": "one", "two": "two"})
         RELEASE.write_sums(self.folder, None)
         wrong = mock.patch.object(trial, "WRONG", [])
         wrong.start()
@@ -87,8 +80,7 @@ class Sums(unittest.TestCase):
         self.assertEqual(self.wrong(), [])
 
     def test_file_that_is_another(self):
-        with open(f"{self.folder}/two", "w", encoding="utf-8") as file:
-            file.write("three")
+        put(self.folder, {"two": "three"})
         self.assertEqual(self.wrong(), ["two has another sum"])
 
     def test_a_run_with_another_status_or_other_words(self):

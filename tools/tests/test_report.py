@@ -1,11 +1,10 @@
 """What bench/report makes of a file of results, and what it finds wrong."""
 import os
 import shutil
-import tempfile
 import types
 import unittest
 
-from scripts import load, run
+from scripts import folder_of, load, run
 
 REPORT = load("bench/report")
 README = (
@@ -27,9 +26,8 @@ def rows_of(values):
 
 class Report(unittest.TestCase):
     def setUp(self):
-        folder = tempfile.TemporaryDirectory()
-        self.addCleanup(folder.cleanup)
-        self.top, self.file = folder.name, f"{folder.name}/bench/results.tsv"
+        self.top = folder_of(self)
+        self.file = f"{self.top}/bench/results.tsv"
         kept = REPORT.TOP, REPORT.FILE
         self.addCleanup(lambda: setattr(REPORT, "TOP", kept[0]) or setattr(REPORT, "FILE", kept[1]))
         REPORT.TOP, REPORT.FILE = self.top, self.file

@@ -1,10 +1,9 @@
 """That tools/rt takes each crate's sum once, and leaves arguments, output and status to the kit's rt."""
 import os
 import subprocess
-import tempfile
 import unittest
 
-from scripts import TOP
+from scripts import TOP, folder_of, put_program
 
 # Stands for the kit's rt: a crate's sum is told each time it is computed.
 KIT = """
@@ -30,12 +29,10 @@ def main(words):
 
 class Rt(unittest.TestCase):
     def run_over(self, rt, *words):
-        with tempfile.TemporaryDirectory() as folder:
-            with open(f"{folder}/rt", "w", encoding="utf-8") as file:
-                file.write(rt)
-            os.chmod(f"{folder}/rt", 0o755)
-            env = {**os.environ, "PATH": f"{folder}:{os.environ['PATH']}"}
-            ran = subprocess.run([f"{TOP}/tools/rt", *words], capture_output=True, text=True, check=False, env=env)
+        folder = folder_of(self)
+        put_program(f"{folder}/rt", rt)
+        env = {**os.environ, "PATH": f"{folder}:{os.environ['PATH']}"}
+        ran = subprocess.run([f"{TOP}/tools/rt", *words], capture_output=True, text=True, check=False, env=env)
         return ran.returncode, ran.stdout.splitlines()
 
     def test_each_sum_is_computed_once(self):

@@ -9,8 +9,9 @@ import tempfile
 import unittest
 from unittest import mock
 
-from scripts import TOP
+from scripts import TOP, put_program
 from lib import signing
+from lib.paths import read
 from lib.signing import APP, VERIFY, Room
 
 YAMLCANON = """\
@@ -65,12 +66,6 @@ WRONG = (
 )
 
 
-def write(path, text):
-    with open(path, "w", encoding="utf-8") as file:
-        file.write(text)
-    os.chmod(path, 0o755)
-
-
 @unittest.skipUnless(shutil.which("ssh-keygen"), "ssh-keygen is not installed")
 class Signing(unittest.TestCase):
     @classmethod
@@ -79,7 +74,7 @@ class Signing(unittest.TestCase):
         cls.addClassCleanup(folder.cleanup)
         cls.folder = folder.name
         for name, text in (("yamlcanon", YAMLCANON), ("yamlreview", YAMLREVIEW.replace("YAMLCANON", f"{cls.folder}/yamlcanon"))):
-            write(f"{cls.folder}/{name}", text)
+            put_program(f"{cls.folder}/{name}", text)
             patch = mock.patch.dict(signing.PROGRAMS, {name: f"{cls.folder}/{name}"})
             patch.start()
             cls.addClassCleanup(patch.stop)
@@ -101,15 +96,13 @@ class Signing(unittest.TestCase):
                 self.assertEqual(self.found(name, shape), [], (name, shape))
 
     def test_wrong_programs(self):
-        with open(f"{TOP}/packages/signing/yamlreview-sign", encoding="utf-8") as file:
-            right = file.read()
+        right = read(f"{TOP}/packages/signing/yamlreview-sign")
         for number, (what, steps, name, said) in enumerate(WRONG):
             folder, text = f"{self.folder}/wrong{number}", right
             for old, new in steps.items():
                 self.assertEqual(right.count(old), 1, what)
                 text = text.replace(old, new)
-            os.mkdir(folder)
-            write(f"{folder}/{VERIFY}", text)
+            put_program(f"{folder}/{VERIFY}", text)
             seconds = 3 if "not end" in said else 60
             with mock.patch.multiple(signing, SIGNING=folder, MOST_SECONDS=seconds), self.subTest(what):
                 self.assertIn(said, "\n".join(self.found(name)))

@@ -1,10 +1,7 @@
 """tools/sums: the digests stand in the lists, and a program that tells something else than sha256sum is found."""
-import os
-import tempfile
 import unittest
 
-from scripts import load
-from lib.trial import put
+from scripts import folder_of, load, put_program
 
 sums = load("tools/sums")
 
@@ -22,17 +19,13 @@ exit $status
 
 class Sums(unittest.TestCase):
     def setUp(self):
-        folder = tempfile.TemporaryDirectory()
-        self.addCleanup(folder.cleanup)
-        self.room = folder.name
+        self.room = folder_of(self)
         sums.furnish(self.room)
         self.numbers = {name: number for number, name in enumerate(sums.LISTS)}
 
     def fault(self, changed, name, *options):
-        program = f"{self.room}/program"
-        put(self.room, {"program": TOLD % changed})
-        os.chmod(program, 0o755)
-        return sums.fault(program, self.room, self.numbers[name], options)
+        put_program(f"{self.room}/program", TOLD % changed)
+        return sums.fault(f"{self.room}/program", self.room, self.numbers[name], options)
 
     def test_the_same(self):
         for name in sums.LISTS:

@@ -1,10 +1,9 @@
 """What tools/try gives to `rt try`, with a program in the place of rt."""
 import os
 import subprocess
-import tempfile
 import unittest
 
-from scripts import TOP, load
+from scripts import TOP, folder_of, load, put, put_program
 
 TRY = load("tools/try")
 # Prints what it was given as rt, and what a run of the program would: one line, one on standard error, and a status.
@@ -20,21 +19,15 @@ BROKEN = "#!/bin/sh\nprintf 'src/main.rt:1:1: error[x]: y\\nrun=none proved=no\\
 
 class Try(unittest.TestCase):
     def setUp(self):
-        self.folder = tempfile.TemporaryDirectory()
-        self.addCleanup(self.folder.cleanup)
-        self.here = f"{self.folder.name}/here"
-        os.makedirs(f"{self.here}/sub")
-        for name in ("here/sub/a.yaml", "up.yaml"):
-            with open(f"{self.folder.name}/{name}", "w", encoding="utf-8") as file:
-                file.write("a\n")
+        self.folder = folder_of(self)
+        self.here = f"{self.folder}/here"
+        put(self.folder, {"here/sub/a.yaml": "a\n", "up.yaml": "a\n"})
 
     def run_with(self, rt, *words, given=b""):
-        path = f"{self.folder.name}/bin"
+        path = f"{self.folder}/bin"
         os.makedirs(path)
         if rt:
-            with open(f"{path}/rt", "w", encoding="utf-8") as file:
-                file.write(rt)
-            os.chmod(f"{path}/rt", 0o755)
+            put_program(f"{path}/rt", rt)
         for name in ("python3", "sh", "cat"):
             os.symlink(subprocess.check_output(["sh", "-c", f"command -v {name}"], text=True).strip(), f"{path}/{name}")
         ran = subprocess.run(
@@ -49,7 +42,7 @@ class Try(unittest.TestCase):
 
     def test_files_status_and_streams(self):
         status, lines, said = self.run_with(RT, "same", "sub/a.yaml", "../up.yaml", given=b"not asked for")
-        up = os.path.realpath(f"{self.folder.name}/up.yaml")
+        up = os.path.realpath(f"{self.folder}/up.yaml")
         self.assertEqual(status, 2)
         self.assertEqual(lines[0], f"{TOP}/crates/yaml_tool")
         self.assertEqual(
