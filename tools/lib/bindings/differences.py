@@ -4,15 +4,15 @@ The pairs: each vector with the next one and with a changed one of itself, and s
 DIFFERENT where the program ends with 1, and it rejects a pair where the program ends with 2. Each pair is tried with a few lines, too.
 """
 import base64
-import concurrent.futures
+import itertools
 import json
 import os
 import random
-import subprocess
 
 from lib.form.vectors import vectors
 from lib.form.made import stream
 from lib.paths import REVIEW
+from lib.trial import put, run, side_by_side
 from .base import changed, say, wrong
 
 MADE, SEED, LINES, LONG = 500, 2, (1000, 2), 100_000
@@ -38,15 +38,12 @@ def own(left, right, lines):
 
 def its(room, number, left, right):
     """The answers of the program on a pair, for so many lines each: its status and what it prints."""
-    names = ["%s/%d.%s" % (room, number, side) for side in ("left", "right")]
-    for name, data in zip(names, (left, right)):
-        with open(name, "wb") as file:
-            file.write(data)
-    words = [[REVIEW, "diff", "--format=json", "--lines=%d" % lines, *names] for lines in LINES]
-    ended = [subprocess.run(one, capture_output=True, check=False) for one in words]
+    names = ["%d.left" % number, "%d.right" % number]
+    put(room, dict(zip(names, (left, right))))
+    ended = [run([REVIEW, "diff", "--format=json", "--lines=%d" % lines, *names], room=room) for lines in LINES]
     for name in names:
-        os.remove(name)
-    return [(done.returncode, done.stdout) for done in ended]
+        os.remove("%s/%s" % (room, name))
+    return [(done.status, done.out) for done in ended]
 
 
 def beside(left, right, answers):
@@ -76,11 +73,9 @@ def try_differences(folder, room):
     os.environ["YAMLCANON_LIBRARY"] = folder + "/libyamlcanon.so.1"
     os.mkdir(room)
     rows = list(pairs())
-    with concurrent.futures.ThreadPoolExecutor(4) as pool:
-        answers = list(pool.map(lambda number: its(room, number, *rows[number]), range(len(rows))))
-        for found in pool.map(lambda row, told: list(beside(*row, told)), rows, answers):
-            for line in found:
-                wrong(line)
+    answers = side_by_side(lambda number: its(room, number, *rows[number]), range(len(rows)))
+    for line in itertools.chain(*side_by_side(lambda each: list(beside(*each[0], each[1])), zip(rows, answers))):
+        wrong(line)
     say("the differences of %d pairs are those of yamlreview" % len(rows))
     cases = room + "/cases.jsonl"
     write_cases(cases, rows, answers)

@@ -3,12 +3,12 @@
 The inputs are the rows of the tables, the shapes of `bench/lib/shapes.py` at 300 and 1,000 bytes, and changed ones of both; the
 right side of `same` is the canonical text of the left one for one input in three, else the next input.
 """
-import concurrent.futures
 import os
 import struct
 import time
 
 from lib.paths import TOP
+from lib.trial import put, side_by_side
 from lib.bindings.base import build, is_program_built, run, say, texts_of_rows, told, with_changed
 from bench.lib.shapes import SHAPES
 
@@ -28,12 +28,10 @@ def answer(*words):
 def case(room, number, text, following):
     """The parts of a case: both inputs, and what the program answers."""
     left, right = "%s/%d" % (room, number), "%s/%d.right" % (room, number)
-    with open(left, "wb") as file:
-        file.write(text)
+    put(room, {f"{number}": text})
     canonical = answer("canon", left)
     other = canonical[1:] if number % 3 == 0 and canonical[0] == 0 else following
-    with open(right, "wb") as file:
-        file.write(other)
+    put(room, {f"{number}.right": other})
     parts = [text, other, canonical, answer("events", left), answer("same", left, right)]
     os.remove(left)
     os.remove(right)
@@ -46,8 +44,7 @@ def try_threads(folder, room, count):
         return
     texts, began = inputs(count), time.monotonic()
     os.mkdir(room)
-    with concurrent.futures.ThreadPoolExecutor(len(os.sched_getaffinity(0))) as pool:
-        cases = b"".join(pool.map(lambda *given: case(room, *given), range(count), texts, texts[1:] + texts[:1]))
+    cases = b"".join(side_by_side(lambda each: case(room, *each), zip(range(count), texts, texts[1:] + texts[:1])))
     say("%d answers of the program on inputs of %d bytes in all, %.1f s" % (3 * count, sum(map(len, texts)), time.monotonic() - began))
     made, began = build(folder, "threads", TOP + "/library/threads.c", folder + "/libyamlcanon.a", "-lpthread"), time.monotonic()
     say("100 threads: %s, %.1f s" % (run(made, input=cases), time.monotonic() - began))

@@ -36,18 +36,14 @@ def pieces_of(value):
     return [part for part in (value.get("front"), piece, value.get("end")) if part]
 
 
-@functools.lru_cache(None)
-def made_of_pieces(pieces):
+def whole_of_pieces(pieces):
+    """The bytes that pieces stand for."""
+
     def many(piece, between, count):
         parts = piece.split("@")
         return between.join(str(FIRST_NUMBER + number).join(parts) for number in range(count))
 
-    return "".join(part if isinstance(part, str) else many(*part) for part in json.loads(pieces)).encode()
-
-
-def whole_of_pieces(pieces):
-    """The bytes that pieces stand for."""
-    return made_of_pieces(json.dumps(pieces))
+    return "".join(part if isinstance(part, str) else many(*part) for part in pieces).encode()
 
 
 def built_rows():
@@ -132,8 +128,6 @@ def vector_of(line):
 
 def file_lines():
     """The lines of the file, in bytes."""
-    if not os.path.exists(VECTORS):
-        return []
     with open(VECTORS, "rb") as file:
         return file.read().splitlines(keepends=True)
 
@@ -238,5 +232,5 @@ def add(program):
 def release():
     lines = file_lines()
     with open(DIGESTS, "a", encoding="ascii") as file:
-        file.write("%d %s\n" % (len(lines), digest(lines)))
+        print(len(lines), digest(lines), file=file)
     return 0
