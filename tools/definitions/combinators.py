@@ -133,7 +133,6 @@ def stands(cs, p, i):
 
 
 def reached(start, steps):
-    """All to which steps lead from a start."""
     found, todo = {start}, [start]
     while todo:
         new = steps(todo.pop()) - found

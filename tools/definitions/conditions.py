@@ -27,7 +27,6 @@ def numbers_of_readings(condition):
 
 
 def drop(condition, specs):
-    """Makes a copy of the definitions without the condition."""
     shutil.copytree(SPECS, specs)
     for name, old, new in condition["edits"]:
         path = f"{specs}/grammar/{name}.antt"

@@ -276,7 +276,6 @@ def of_some(i, j, x, A):
 
 
 def of_seen(i, j, x, f, A):
-    """Of `seen` and of `mapped`."""
     a = next(a for k, a in A.at(i) if k == j and ap(f, a) in (x[1], ("Some", x[1])))
     see(f)
     return "(%s, %s, refl)" % (show(a), derive(A, i, (j, a)))

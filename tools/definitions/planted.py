@@ -88,7 +88,6 @@ class Room:
         return subprocess.run(words, stdin=subprocess.DEVNULL, capture_output=True, text=True, errors="replace", check=False, **how)
 
     def text(self):
-        """What planted_texts.py says of the copy."""
         words = [sys.executable, HERE + "/planted_texts.py", *filter(None, [os.environ.get("YAML_TEST_SUITE")])]
         done = self.run(words, env={**os.environ, "SPECS": self.specs + "/grammar"})
         if done.returncode:

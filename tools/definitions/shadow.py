@@ -381,7 +381,6 @@ def line_of(event):
 
 
 def event_texts(text, wide=False, room=128):
-    """The event text of each event list that a text has."""
     events = readings(world(), tuple(map(ord, text)), wide, room)[2]
     return {"".join(line_of(event) + "\n" for event in each) for each in events}
 

@@ -17,7 +17,6 @@ from lib.trial import side_by_side
 
 
 def read(text):
-    """The events, a letter each, or None."""
     done = subprocess.run([PROGRAM, "events"], input=text.encode(), capture_output=True, check=False)
     return None if done.returncode else letters(done.stdout.decode())
 

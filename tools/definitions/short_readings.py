@@ -35,7 +35,6 @@ def shown(text):
 
 
 def letter(line):
-    """A line of an event text as it is listed."""
     if line in LETTERS:
         return LETTERS[line]
     kind, anchor, tag, style, value = LINE.fullmatch(line).groups("")

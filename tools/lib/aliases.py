@@ -13,7 +13,6 @@ Path = tuple[Any, ...]
 
 
 def size(value: Value) -> int:
-    """How many nodes a value has."""
     parts = value.values() if isinstance(value, dict) else value if isinstance(value, list) else ()
     return 1 + sum(size(part) for part in parts)
 
@@ -35,7 +34,6 @@ def shared(rng: random.Random, value: Value, met: list[Value]) -> Value:
 
 
 def steps_below(value: Value) -> Iterable[tuple[Any, Value]]:
-    """The parts of a value, each with its step."""
     if isinstance(value, dict):
         return value.items()
     return enumerate(value) if isinstance(value, list) else ()
@@ -76,7 +74,6 @@ def written(value: Value, counts: Counter[int], names: dict[int, str]) -> str:
 
 
 def text_of(documents: list[Value]) -> str:
-    """A stream."""
     return "".join(f"--- {written(document, times(document, Counter()), {})}\n" for document in documents)
 
 

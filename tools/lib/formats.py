@@ -201,7 +201,6 @@ def requests(log: str) -> list[str]:
 
 
 def browser_faults(program: str, text: str, width: int = 360) -> list[str]:
-    """What is wrong with a page in a window of this width."""
     frame = f'<!DOCTYPE html><iframe src="page.html" style="width:{width}px;height:800px;border:0"></iframe>{PROBE}'
     with tempfile.TemporaryDirectory() as room:
         put(room, {"page.html": text, "probe.html": frame})
@@ -214,7 +213,6 @@ def browser_faults(program: str, text: str, width: int = 360) -> list[str]:
 
 
 def seen_faults(dom: str, width: int) -> list[str]:
-    """What the probe saw."""
     found = re.search(r"<title>(.*?)</title>", dom)
     if found is None:
         return ["the page is not loaded"]
@@ -234,7 +232,6 @@ def texts(name: str) -> dict[str, str]:
 
 
 def stream() -> str:
-    """A stream with an entry for each of these."""
     entries = {**texts("no_values"), **texts("limits")}
     return str(TABLE["values"]) + "".join(f"{key}: {text}\n" for key, text in entries.items())
 

@@ -17,13 +17,11 @@ REVIEW = os.environ.get("YAMLREVIEW") or f"{CRATES}/yaml_review/out/yaml_review"
 
 
 def read(path: str) -> str:
-    """The text of a file."""
     with open(path, encoding="utf-8") as file:
         return file.read()
 
 
 def write(path: str, text: str) -> None:
-    """Writes a text into a file."""
     with open(path, "w", encoding="utf-8") as file:
         file.write(text)
 

@@ -18,7 +18,6 @@ PARTS = ("src", "specs", "proofs")
 
 
 def free_memory() -> int:
-    """The bytes of memory that can be had."""
     return int(re.findall(r"MemAvailable: *(\d+)", read("/proc/meminfo"))[0]) * 1024
 
 

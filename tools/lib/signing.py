@@ -121,8 +121,6 @@ class Attack:
 
 
 def attack_of(row: dict[str, Any], each: str, program: str, path: str) -> Attack:
-    """The attack of a row for one of its texts `each`."""
-
     def filled(value: Any) -> Any:
         return string.Template(value).safe_substitute(each=each) if isinstance(value, str) else value
 
@@ -200,7 +198,6 @@ class Room:
         return self
 
     def run(self, change: str, each: str = "") -> None:
-        """Makes a change."""
         names = {"BIN": self.bin, "KEYS": self.keys, "OUT": self.out, "DASH": shutil.which("dash") or "/bin/sh", "EACH": each}
         env = {**self.environment, "PATH": os.environ["PATH"], **names, **TABLE["texts"], "APP": APP, "CONTEXT": CONTEXT, "SIGNER": SIGNER}
         subprocess.run(["sh", "-c", HEAD + change], cwd=self.signed, env=env, stdin=subprocess.DEVNULL, capture_output=True, check=True)
@@ -325,7 +322,6 @@ class Trial:
 
 
 def canon(text: str) -> bytes:
-    """The canonical text of a text."""
     return subprocess.run([PROGRAMS["yamlcanon"], "canon"], input=text.encode(), capture_output=True, check=True).stdout
 
 

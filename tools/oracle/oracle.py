@@ -167,7 +167,6 @@ def core_name(tag):
 
 
 def resolve(tag, style, text, event):
-    """the tag and the content of a scalar"""
     # `strings`
     if tag == "!" or tag is None and style != ":":
         return CORE + "str", text

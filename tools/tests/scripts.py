@@ -40,7 +40,6 @@ def folder_of(test):
 
 
 def put_program(path, text):
-    """Writes a program."""
     put(os.path.dirname(path), {os.path.basename(path): text})
     os.chmod(path, 0o755)
 

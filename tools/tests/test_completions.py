@@ -80,7 +80,6 @@ class Options(unittest.TestCase):
 
 class Shells(unittest.TestCase):
     def completed(self, words):
-        """What fish completes these words to."""
         if not shutil.which("fish"):
             self.skipTest("fish is not installed")
         loads = "".join(f"source {TOP}/{SHELLS}/{name}.fish; " for name in ("yamlcanon", "yamlreview"))

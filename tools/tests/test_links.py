@@ -9,7 +9,6 @@ LINKS = load("tools/links")
 
 class Links(unittest.TestCase):
     def faults(self, **texts):
-        """The lines for these pages."""
         with tempfile.TemporaryDirectory() as folder:
             write(folder, **texts)
             status, said = run(LINKS.main, folder)

@@ -83,7 +83,6 @@ class Signing(unittest.TestCase):
         cls.attacks = {it.name: it for it in signing.attacks()}
 
     def found(self, name, shape="command", shell="sh"):
-        """What is found of an attack."""
         attack = self.attacks[name]
         if attack.text == signing.APP_TEXT:
             attack = dataclasses.replace(attack, text=APP_TEXT)

@@ -19,7 +19,6 @@ MADE, SEED, LINES, LONG = 500, 2, (1000, 2), 100_000
 
 
 def pairs():
-    """Two streams each."""
     chance, inputs = random.Random(SEED), [vector.input for vector in vectors()]
     for group in (inputs, [stream(seed) for seed in range(MADE)]):
         yield from zip(group, group[1:] + group[:1])

@@ -20,7 +20,6 @@ def inputs(count):
 
 
 def answer(*words):
-    """The program's answer as `library/threads.c` reads it."""
     status, text, line = told(*words)
     return bytes([status]) + (line if status > 1 else b"" if words[0] == "same" else text)
 
@@ -39,7 +38,6 @@ def case(room, number, text, following):
 
 
 def try_threads(folder, room, count):
-    """The library of a folder over so many inputs."""
     if not is_program_built():
         return
     texts, began = inputs(count), time.monotonic()

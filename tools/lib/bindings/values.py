@@ -66,7 +66,6 @@ def records_differ(records, composer):
 
 
 def nodes_of(tree, known):
-    """How many nodes a tree has."""
     if tree.like not in known:
         known[tree.like] = 1 + sum(nodes_of(part, known) for part in tree.ordered)
     return known[tree.like]

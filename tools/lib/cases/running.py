@@ -28,7 +28,6 @@ def empty():
 
 
 def ran(run):
-    """What a run answers and writes."""
     if not run.files and not run.folders:
         return ran_in(empty().name, run)
     with tempfile.TemporaryDirectory(prefix="cases-") as folder:
@@ -39,7 +38,6 @@ def ran(run):
 
 
 def faults_of(run, given):
-    """What is wrong with what a run answered and wrote."""
     told = "" if given.returncode == run.status else f"  status {given.returncode}, wanted {run.status}\n"
     for what, wanted, got in (("output", run.output, given.stdout), ("error", run.error, given.stderr)):
         is_pattern = isinstance(wanted, re.Pattern)
@@ -59,7 +57,6 @@ def fault_of(case):
 
 
 def each(call, given):
-    """What a call answers to each of what is given, in order."""
     empty()  # before the threads begin, which would make one each
     with concurrent.futures.ThreadPoolExecutor(len(os.sched_getaffinity(0))) as pool:
         yield from pool.map(call, given)

@@ -65,7 +65,6 @@ def is_seen(text):
 
 
 def lines_spelled(text):
-    """A text of lines between three quotes."""
     if "\\" in text and is_seen(text):
         return f"'''\n{text}'''"
     inner = "\n".join(re.sub(r" $", r"\\u0020", escaped(line.replace("\\", "\\\\"))) for line in text.split("\n"))
@@ -74,7 +73,6 @@ def lines_spelled(text):
 
 
 def spelled(data):
-    """The TOML of a text, or of bytes."""
     if isinstance(data, bytes):
         text = data.decode("utf-8", "surrogateescape")
         if re.search("[\udc80-\udcff]", text):
@@ -99,7 +97,6 @@ def seen(data):
 
 
 def difference(what, wanted, given):
-    """The lines that are other than wanted."""
     lines = difflib.unified_diff(seen(wanted), seen(given), f"wanted {what}", f"given {what}", lineterm="", n=1)
     return "".join(f"  {line[:COLUMNS]}\n" for line in list(lines)[:LINES])
 
@@ -149,7 +146,6 @@ def paths(folder=FOLDER):
 
 
 def case_runs(block):
-    """The run of a block `[[case]]`."""
     unknown = set(block) - CASE - PARTS
     if unknown or "words" not in block:
         raise NoCase(f"a case has no key {min(unknown)}" if unknown else "a case needs words")
@@ -222,7 +218,6 @@ def table_of(path):
 
 
 def filled(block, common):
-    """A block, with what each block of the file has."""
     files = {**common.get("files", {}), **block.get("files", {})}
     return {**common, **block, **({"files": files} if files else {})}
 
@@ -235,7 +230,6 @@ def blocks_of(table):
 
 
 def cases_of(path):
-    """The cases of a file."""
     for kind, number, block in blocks_of(table_of(path)):
         name = block.get("name") or repr(block.get("input", ""))[:100]
         try:

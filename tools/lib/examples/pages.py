@@ -40,7 +40,6 @@ class Section:
         self.room, self.title, self.checked, self.before = room, title, checked, None
 
     def take(self, block):
-        """Runs a block; what is to be in its place."""
         kind, word, text = block[1], block[2] or "", block[3]
         if kind == "text" and self.before:
             now, self.before = shown(*self.before), None

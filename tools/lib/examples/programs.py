@@ -21,7 +21,6 @@ def table(path=TABLE):
 
 
 def made(piece):
-    """A text that is made of a piece, so many times."""
     times, middle = piece["times"], piece.get("middle", "")
     if "indented" in piece:
         return "".join(f"{' ' * column}{line}\n" for column in range(times) for line in piece["indented"]) + " " * times + middle + "\n"
@@ -31,7 +30,6 @@ def made(piece):
 
 
 def furnish(room, given):
-    """Puts the files of a table into a folder."""
     for name, text in given["files"].items():
         with open(os.path.join(os.fsencode(room), urllib.parse.unquote_to_bytes(name)), "wb") as file:
             file.write(text.encode())
@@ -90,7 +88,6 @@ class Run:
 
 
 def runs_of(given, room):
-    """All runs of a table, in their order."""
     texts = {name: it["piece"] * it["times"] for name, it in given["texts"].items()}
     for block in given["run"]:
         for each in block.get("each", [""]):
@@ -98,7 +95,6 @@ def runs_of(given, room):
 
 
 def check(checked, path=TABLE):
-    """Runs all of the table."""
     given = table(path)
     with tempfile.TemporaryDirectory(prefix="examples-") as folder:
         room, env = f"{folder}/room", environment(folder)

@@ -23,7 +23,6 @@ SIMPLE = {"n": b"\n", "t": b"\t", "r": b"\r", "0": b"\0", "\\": b"\\", '"': b'"'
 
 
 def unescaped(text):
-    """The bytes of a string literal."""
     out, at = b"", 0
     for found in ESCAPE.finditer(text):
         code, byte, letter = found.groups()

@@ -84,7 +84,6 @@ MARKS = {"DocumentStart": ("+DOC", " ---"), "DocumentEnd": ("-DOC", " ...")}
 
 
 def line_of(event: Any) -> str:
-    """An event of PyYAML, in the notation of event lines."""
     kind = type(event).__name__.removesuffix("Event")
     if kind in WORDS:
         return WORDS[kind]

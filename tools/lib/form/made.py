@@ -106,7 +106,6 @@ class Maker:
 
 
 def stream(seed: int) -> bytes:
-    """The stream of a seed, in bytes."""
     return Maker(seed).stream()
 
 

@@ -45,7 +45,6 @@ def cases_of(place: str) -> Any:
 
 
 def expected_cases() -> dict[str, str]:
-    """The name under which each case belongs."""
     lines = (line.partition(": ") for line in read(f"{DATA}/suite.cases").split("\n") if not line.startswith("#"))
     return {name: kind for kind, _, names in lines for name in names.split()}
 

@@ -26,7 +26,6 @@ NUMBER = re.compile(r"\$number|\$\{number\}")
 
 
 def pieces_of(value):
-    """A text of a case as pieces."""
     if isinstance(value, str):
         return [value]
     if isinstance(value, list):
@@ -127,13 +126,11 @@ def vector_of(line):
 
 
 def file_lines():
-    """The lines of the file, in bytes."""
     with open(VECTORS, "rb") as file:
         return file.read().splitlines(keepends=True)
 
 
 def vectors():
-    """The vectors of the file, in order."""
     return [vector_of(line.decode("ascii")) for line in file_lines()]
 
 
@@ -142,7 +139,6 @@ RELEASED = re.compile(r"(\d+) ([0-9a-f]{64})\n")
 
 
 def differs(row, vector):
-    """Whether a vector says otherwise than a row."""
     if row.canon is not None and row.canon.decode() != vector.canon:
         return True
     said = vector.canon if vector.events is None else vector.events
@@ -161,7 +157,6 @@ def lasting(found, wrong):
 
 
 def wrong_line(program, vector):
-    """What is wrong with a line, or None."""
     got = vector_by(program, vector.name, vector.input)
     if got != vector:
         return "%s: the program answers %.200r, %.200r" % (vector.name, got.events, got.canon)

@@ -119,7 +119,6 @@ class Mutant:
             self.places.append(place)
 
     def functions(self) -> set[str]:
-        """The functions that it changes."""
         return {place.name for place in self.places}
 
     def changes(self) -> list[Change]:
@@ -292,7 +291,6 @@ class Said:
                 self.false.append(self.open[-1])
 
     def of(self, mutant: Mutant) -> Refusal:
-        """What was said of the functions that a mutant changes."""
         told = Refusal()
         mine: list[str] = []
         for name, status in self.status.items():

@@ -43,7 +43,6 @@ class Gate:
         threading.Thread(target=self.read, daemon=True).start()
 
     def read(self) -> None:
-        """Passes its lines on until it ends."""
         for line in self.process.stdout or ():
             print(line, end="", flush=True)
             found = re.match(r"rt: (\S+) (?:proved$|is kept:)", line)
@@ -62,7 +61,6 @@ class Gate:
             return self.proved.issuperset(crates)
 
     def wait(self) -> int:
-        """Waits for its end; its status."""
         with self.changed:
             self.changed.wait_for(lambda: self.status is not None)
             return self.status or 0
@@ -221,7 +219,6 @@ def try_when_proved(root: str, crate: str, mutants: list[Mutant], lanes: Lanes) 
 
 
 def tell(crate: str, mutants: list[Mutant], seconds: float, checks: int) -> None:
-    """Prints a crate's verdicts."""
     for mutant in mutants:
         where = ", ".join("::".join(place.name.split("::")[1:]) for place in mutant.places) or "(no function)"
         goals = " ".join(mutant.goals[:4]) + (" .." if len(mutant.goals) > 4 else "")
@@ -260,14 +257,12 @@ def conclude_all(asked: Asked, known: set[str]) -> int:
 
 
 def run(root: str, asked: Asked) -> int:
-    """Tries mutants of crates that are proved; the status."""
     known = known_mutants(root)
     try_all(root, asked, Lanes(None))
     return conclude_all(asked, known)
 
 
 def run_gate(root: str, asked: Asked) -> int:
-    """Runs `rt ci`, and tries mutants beside it; the status."""
     known, gate = known_mutants(root), Gate(root)
     os.nice(BESIDE_GATE)
     try_all(root, asked, Lanes(gate))

@@ -90,7 +90,6 @@ def sum_of(path: str, kind: str = "sha256") -> str:
 
 
 def zipped(data: bytes) -> bytes:
-    """Bytes as gzip has them, with no name and no time."""
     return gzip.compress(data, 9, mtime=0)
 
 
@@ -153,11 +152,9 @@ JUDGED = MACHINES["x86_64"].target
 
 
 def lacking(name: str) -> list[str]:
-    """What this machine lacks to build for a machine."""
     machine = MACHINES[name]
     return [word for word in (machine.cc, machine.tools + "nm", machine.tools + "strip") if not shutil.which(word)]
 
 
 def lacking_to_run(name: str) -> list[str]:
-    """What this machine lacks to run a program of a machine."""
     return [word for word in MACHINES[name].runs[:1] if not shutil.which(word)]

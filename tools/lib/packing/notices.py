@@ -55,7 +55,6 @@ def end(text: str) -> NoReturn:
 
 
 def kit_folder() -> str:
-    """The folder of the kit, which has to be there."""
     return paths.kit_folder() or end("rt, the Rattle kit, is not found")
 
 
@@ -85,7 +84,6 @@ class Crate:
         self.licence: str | None = next((licence for _, _, licence in named if NAMED.fullmatch(licence)), None)
 
     def holders(self) -> list[str]:
-        """Who is named as a holder in its licences."""
         return list(dict.fromkeys(holder for path in self.texts for holder in HOLDER.findall(read(path))))
 
     def declared(self) -> str:
@@ -112,11 +110,9 @@ class Crate:
         return blocks
 
     def quoted(self) -> list[str]:
-        """Its comments, each behind its files."""
         return [f"{self.name}, {', '.join(files)}:\n\n{indented(block)}" for block, files in self.comments.items()]
 
     def place(self) -> str:
-        """Where it is linked, in words."""
         return "In " + " and ".join(", ".join(self.products).rsplit(", ", 1) if self.products else ["tests alone"]) + "."
 
     def versions(self) -> str:
@@ -154,7 +150,6 @@ def kit_crates() -> Iterator[Crate]:
 
 
 def linked() -> list[Crate]:
-    """The kit's crates that a product has linked in."""
     return [crate for crate in kit_crates() if crate.products]
 
 

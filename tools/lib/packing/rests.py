@@ -45,7 +45,6 @@ def is_changed():
 
 
 def commit():
-    """The commit at hand, in words."""
     return git("rev-parse", "HEAD") + CHANGED * is_changed()
 
 
@@ -114,7 +113,6 @@ def package(name, version, licence, **more):
 
 
 def own_package(name, supplier, **more):
-    """A package whose code is of this repository."""
     about = {"supplier": supplier, "copyrightText": COPYRIGHT, "externalRefs": [purl("generic", name, release())]}
     return package(name, release(), OWN_LICENCE, **about, **more)
 

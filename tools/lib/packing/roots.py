@@ -70,7 +70,6 @@ def info_files(name):
 
 
 def put_files(root, name):
-    """Copies the files of an installed package."""
     for path in info_files(name):
         shutil.copy2(path, root + INFO)
     lists = [path for path in info_files(name) if path.endswith(".list")]

@@ -59,7 +59,6 @@ def put_go(room, module, text, name="app"):
 
 
 def shown(language):
-    """What the page shows for a language."""
     blocks = BLOCK.findall(SECTION.search(read(f"{TOP}/{PAGE}"))[1])
     return blocks[0 if language in WITH_FIELDS else 1]
 

@@ -415,7 +415,6 @@ def try_all(folder):
 
 
 def try_folder(folder):
-    """Tries the packages; the status."""
     if not os.path.isfile(f"{folder}/SHA256SUMS"):
         say(f"{folder} has no packages that tools/release wrote")
         return 2

@@ -85,7 +85,6 @@ def page(name: str) -> str:
 
 
 def tell(claims: list[str], lists: bool) -> None:
-    """Prints what some claims rest on."""
     found = Closure(CRATES)
     for claim in claims:
         found.claim(claim)

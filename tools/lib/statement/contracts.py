@@ -45,7 +45,6 @@ class Call(NamedTuple):
         return any(CLAUSE.match(line) for line in self.lines)
 
     def sentence(self) -> str:
-        """The first sentence of its comment."""
         return first_sentence(" ".join(self.comment))
 
 

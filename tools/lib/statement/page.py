@@ -237,7 +237,6 @@ def untied(path: str) -> set[str]:
 
 
 def page_of(statement: Statement, definitions: str) -> str:
-    """The whole page."""
     call = re.findall(r"pub fn (\w+)", "\n".join(statement.contract.lines))[0]
     parts: list[str] = []
     defined: list[Block] = []
@@ -278,7 +277,6 @@ def count_of(blocks: list[Block]) -> int:
 
 
 def words_of(statement: Statement) -> list[str]:
-    """The names from the kit's library, by module."""
     # a type of the library and its variants are together
     words = sorted((module.removeprefix("Rattle.").removesuffix(".TheVariants"), name) for module, name in statement.words)
     said = "Lists, numbers, options and characters are defined in the library of the Rattle kit; `rt lemma WORD` prints what each name is."
