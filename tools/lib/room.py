@@ -55,18 +55,15 @@ class Room:
         self.at, self.source = f"{self.folder}/crates/{crate}", f"{root}/crates/{crate}"
         self.seconds, self.checks = 0.0, 0
         below = crates_below(crates_of(root), crate)
-        self.list_crates([*below, crate])
+        write_list(self.folder, [*below, crate], root)
+        if os.path.isfile(f"{root}/HANDLES"):
+            shutil.copy(f"{root}/HANDLES", self.folder)
         for name in below:
             self.link_library(name)
         self.stamp_libraries()
         os.makedirs(f"{self.at}/out")
         if not anew and os.path.isdir(f"{self.source}/out/incremental"):
             shutil.copytree(f"{self.source}/out/incremental", f"{self.at}/out/incremental")
-
-    def list_crates(self, names: list[str]) -> None:
-        write_list(self.folder, names, self.root)
-        if os.path.isfile(f"{self.root}/HANDLES"):
-            shutil.copy(f"{self.root}/HANDLES", self.folder)
 
     def link_library(self, name: str) -> None:
         if not os.path.isdir(f"{self.root}/crates/{name}/out/rlib"):

@@ -159,5 +159,5 @@ def try_paths(text, checked):
 
 
 def check_form(checked):
-    try_rules(page_of_form(), checked)
-    try_paths(page_of_form(), checked)
+    for part in (try_rules, try_paths):
+        part(page_of_form(), checked)
