@@ -127,14 +127,6 @@ def Each(P, i, j, short=None):
     return Prop(lambda: all(ap(P, k) for k in range(i, j)), proved)
 
 
-def OneLine(cs, i, j):
-    return Each(Lam(1, lambda k: Not(Here(cs, WORLD["Characters.is_break"], k))), i, j, "unbroken")
-
-
-def Unmarked(cs, i, j):
-    return Each(Lam(1, lambda k: Not(Mark(cs, k))), i, j, "unmarked")
-
-
 def Mark(cs, i):
     def proved():
         see(MARK)
@@ -145,10 +137,6 @@ def Mark(cs, i):
         return "(no_mark %s %d refl %s)" % (Proof.text, i, h)
 
     return Prop(lambda: ap(MARK, cs, i), proved, refute_mark)
-
-
-def Begins(R, i):
-    return Prop(lambda: R.at(i), lambda: "(%d, %s)" % (min(R.at(i)), derive(R, i, min(R.at(i)))))
 
 
 def Ends(R, j):
@@ -183,13 +171,23 @@ CODE = {"⊎": "Or(%s, %s)", "×": Times(), "≡": "Eq(%s, %s)", "≢": "Not(Eq(
 CODE |= {"≤": "Less(%s <= %s)", "<": "Less(%s < %s)", "→": "Not(%s)"}
 for sign, code in CODE.items():
     shadow.OPS[sign] = (*shadow.OPS[sign][:2], code)
-for name, n, prop in [("Stands", 3, Here), ("Behind", 3, Before), ("Throughout", 3, Each), ("Begins", 2, Begins), ("Ends", 2, Ends)]:
-    combinators.RULES[name] = Lam(n, prop)
+CONDITIONS = {
+    "Stands": Here,
+    "Behind": Before,
+    "Throughout": lambda P, i, j: Each(P, i, j),
+    "Begins": lambda R, i: Prop(lambda: R.at(i), lambda: "(%d, %s)" % (min(R.at(i)), derive(R, i, min(R.at(i))))),
+    "Ends": Ends,
+}
+combinators.RULES.update((name, Lam(prop.__code__.co_argcount, prop)) for name, prop in CONDITIONS.items())
 Span.__call__ = Reaches
 WORLD = shadow.World(And=And, Or=Or, Not=Not, Eq=Eq, Less=Less)
 MARK = WORLD["Separation.DocumentMark"]
-for name, n, prop in [("DocumentMark", 2, Mark), ("Unmarked", 3, Unmarked), ("OneLine", 3, OneLine)]:
-    WORLD.defs[f"Separation.{name}"] = Lam(n, prop)
+OF_LINES = {
+    "DocumentMark": Mark,
+    "Unmarked": lambda cs, i, j: Each(Lam(1, lambda k: Not(Mark(cs, k))), i, j, "unmarked"),
+    "OneLine": lambda cs, i, j: Each(Lam(1, lambda k: Not(Here(cs, WORLD["Characters.is_break"], k))), i, j, "unbroken"),
+}
+WORLD.defs.update((f"Separation.{name}", Lam(prop.__code__.co_argcount, prop)) for name, prop in OF_LINES.items())
 
 # ------------------------------------------------------------------ values, as antt writes them
 
@@ -270,29 +268,15 @@ def of_with_value(i, j, x, A, B):
     return "(%d, %s, %s, %s)" % (k, show(a), derive(A, i, (k, a)), derive(ap(B, a), k, x))
 
 
-def of_some(i, j, x, A):
-    a = next(a for a in range(Now.N + 2) if x in ap(A, a).at(i))
-    return "(%d, %s)" % (a, derive(ap(A, a), i, x))
-
-
 def of_seen(i, j, x, f, A):
     a = next(a for k, a in A.at(i) if k == j and ap(f, a) in (x[1], ("Some", x[1])))
     see(f)
     return "(%s, %s, refl)" % (show(a), derive(A, i, (j, a)))
 
 
-def of_limited(i, j, x, P, A):
-    return "(%s, %s)" % (why(ap(P, i, j)), derive(A, i, x))
-
-
 def of_where_value(i, j, x, P, A):
     p = ap(P, x[1])
     return "(%s, %s)" % ("refl" if p is True else why(p), derive(A, i, x))  # `IsScalar` computes
-
-
-def of_looking(i, j, x, A):
-    k = next(k for k, v in A.at(i) if v == x[1])
-    return "(refl, %d, %s)" % (k, derive(A, i, (k, x[1])))
 
 
 def of_any(i, j, x, A):
@@ -335,13 +319,6 @@ def of_counted(i, j, x, A):
     return go(i, x[1])
 
 
-def of_word(i, j, x, cs, s):
-    out = "refl"
-    for n in reversed(range(len(s))):
-        out = "(%d, (refl, refl), %s)" % (i + n + 1, out)
-    return out
-
-
 def of_letter(i, j, x, cs, p):
     see(p)
     return "(refl, refl, refl)"
@@ -355,18 +332,17 @@ DERIVE = {
     "then_rule": of_then_rule,
     "either": lambda i, j, x, A, B: "(inl %s)" % derive(A, i, x) if x in A.at(i) else "(inr %s)" % derive(B, i, x),
     "with_value": of_with_value,
-    "some": of_some,
+    "some": lambda i, j, x, A: next("(%d, %s)" % (a, derive(ap(A, a), i, x)) for a in range(Now.N + 2) if x in ap(A, a).at(i)),
     "seen": of_seen,
     "mapped": of_seen,
     "given": lambda i, j, x, P, A: "(%s, %s)" % (why(P), derive(A, i, x)),
-    "limited": of_limited,
-    "where_both": of_limited,
+    **dict.fromkeys(("limited", "where_both"), lambda i, j, x, P, A: "(%s, %s)" % (why(ap(P, i, j)), derive(A, i, x))),
     "where_value": of_where_value,
-    "looking": of_looking,
+    "looking": lambda i, j, x, A: next("(refl, %d, %s)" % (k, derive(A, i, (k, v))) for k, v in A.at(i) if v == x[1]),
     "any": of_any,
     "any_span": of_spans,
     "counted": of_counted,
-    "word": of_word,
+    "word": lambda i, j, x, cs, s: "".join("(%d, (refl, refl), " % (i + n) for n in range(1, len(s) + 1)) + "refl" + ")" * len(s),
     "letter": of_letter,
     "nowhere": lambda i, j, x: "refl",
     "gives": lambda i, j, x, v: "(refl, refl)",

@@ -181,7 +181,9 @@ class File:
         self.world, self.mod, self.own, self.locals = world, mod, {}, set()
         self.open = []  # the parameters of the open modules
         self.used = set()  # the definitions named in the clause in hand
-        path = path_of(mod)
+        # in the grammar's folder, in the model's, or next to the code
+        folders = (SPECS, f"{SPECS}/../model", f"{CRATES}/yaml_text/specs")
+        path = next(path for path in (f"{folder}/{mod}.antt" for folder in folders) if os.path.exists(path))
         self.file = antt.File(path, read(path).split("\n"))
         imports = self.file.imports
         own = {name: found for name, found in imports.names.items() if OWN_MODULE.fullmatch(found[0])}
@@ -253,11 +255,6 @@ class File:
         user.used.add(what)
         return ("D[%r]" if what.n else "ap(D[%r])") % what.name
 
-    def is_constructor(self, word):
-        module, given = self.uses.get(word, (None, word))
-        files = (self, self.world.files.get(module))
-        return word in ("suc", "Some") or any(f is not None and f.own.get(given, ("",))[0] == "con" for f in files)
-
     def pattern(self, expr, env):
         """A pattern: a name, or one in parentheses. Its variables are added to env."""
         word = expr.take()
@@ -267,7 +264,9 @@ class File:
             return found
         if word == "_":
             return ("_",)
-        if word in ("[]", "zero", "true", "false", "None") or self.is_constructor(word):
+        module, given = self.uses.get(word, (None, word))
+        kinds = [file.own.get(given, ("",))[0] for file in (self, self.world.files.get(module)) if file is not None]
+        if word in ("[]", "zero", "true", "false", "None", "suc", "Some") or "con" in kinds:
             return ("con", word.split(".")[-1], [])
         env.append(word)
         return ("var", word)
@@ -304,12 +303,6 @@ class File:
             self.locals, self.used = set(), set()
             self.world.code.append((definition.name, item, code))
             definition.clauses.append((patterns, eval(code, self.world.env)))
-
-
-def path_of(mod):
-    """A module's file: in the grammar's folder, in the model's, or beside the code."""
-    folders = (SPECS, os.path.join(SPECS, "..", "model"), f"{CRATES}/yaml_text/specs")
-    return next(path for path in (os.path.join(folder, mod + ".antt") for folder in folders) if os.path.exists(path))
 
 
 class World:
@@ -349,25 +342,20 @@ FLAGS = {"document_start": " ---", "document_end": " ...", "sequence_start": " [
 ESCAPES = str.maketrans({"\\": "\\\\", "\n": "\\n", "\t": "\\t", "\r": "\\r", "\b": "\\b"})
 
 
-def new_text(codes):
-    Now.memo, Now.N = {}, len(codes)
-    return Text(codes)
-
-
 def readings(of_world, codes, wide=False, room=128):
     """The readings of a text: where each ends, and its pieces; and the event list of each, as specs/Event.antt has events."""
-    cs = new_text(codes)
+    Now.memo, Now.N, cs = {}, len(codes), Text(codes)
     stream = ap(of_world["Streams.l-yaml-stream"], cs, wide, room)
     found = [x for x in stream.at(0) if x[0] == len(cs)]
     return stream, found, {ap(of_world["Streams.stream_of_pieces"], pieces) for _, pieces in found}
 
 
-def as_text(codes):
-    return bytes(codes).decode("utf-8")
-
-
 def line_of(event):
     """An event in the notation of event text, as `yamlcanon events` prints it."""
+
+    def as_text(codes):
+        return bytes(codes).decode("utf-8")
+
     kind, parts = event[0], event[1:]
     line = STARTS[kind] + (FLAGS[kind] if kind in FLAGS and parts[0] is True else "")
     if kind == "alias_event":
@@ -398,19 +386,14 @@ def show_events(asked):
         print(*event_texts(file.read(), asked.wide == "wide"), sep="--\n", end="")
 
 
-def unescaped(text):
-    return text.encode("latin-1", "backslashreplace").decode("unicode_escape")
-
-
 def short_texts(alphabet, longest, prefix=""):
-    for size in range(longest + 1):
-        for letters in itertools.product(alphabet, repeat=size):
-            yield prefix + "".join(letters)
+    return (prefix + "".join(letters) for size in range(longest + 1) for letters in itertools.product(alphabet, repeat=size))
 
 
 def short(asked):
     counts = []
-    for text in short_texts(unescaped(asked.alphabet), asked.longest, unescaped(asked.prefix)):
+    alphabet, prefix = (it.encode("latin-1", "backslashreplace").decode("unicode_escape") for it in (asked.alphabet, asked.prefix))
+    for text in short_texts(alphabet, asked.longest, prefix):
         counts.append(len(event_texts(text, asked.wide == "wide")))
         if counts[-1] > 1:
             print("two event lists: %r" % text)
