@@ -84,7 +84,7 @@ class File:
     """A file of definitions."""
 
     def __init__(self, path: str, lines: list[str]) -> None:
-        self.path, self.head = path, ""
+        self.path = path
         self.blocks: list[Block] = []
         self.fixities: list[str] = []
         self.imports = Imports(lines)
@@ -112,8 +112,6 @@ class File:
                 around.pop()
             if text.startswith("--"):
                 block = None
-                if not self.blocks and not self.head and place == 0:
-                    self.head = text[2:].strip()
                 comment = [] if text.startswith("-- ----") else [*comment, line]
             elif IMPORT.match(text):
                 comment = []

@@ -133,13 +133,6 @@ def sarif_faults(text: str, count: int, files: Collection[str]) -> list[str]:
     return faults
 
 
-def decoded(text: str) -> str:
-    """A property or a message as GitHub reads it."""
-    for escape, one in (("%0D", "\r"), ("%0A", "\n"), ("%3A", ":"), ("%2C", ","), ("%25", "%")):
-        text = text.replace(escape, one)
-    return text
-
-
 def github_faults(text: str, count: int, files: Collection[str]) -> list[str]:
     """What is wrong with commands, of which there are so many, at these files."""
     *lines, last = text.split("\n")
@@ -148,7 +141,7 @@ def github_faults(text: str, count: int, files: Collection[str]) -> list[str]:
         found = COMMAND.fullmatch(line)
         if found is None:
             faults.append(f"{line!r} is no command")
-        elif decoded(found[2]) not in files:
+        elif re.sub("%(0D|0A|3A|2C|25)", lambda escape: chr(int(escape[1], 16)), found[2]) not in files:
             faults.append(f"{found[2]!r} is no file")
     return faults
 

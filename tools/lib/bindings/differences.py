@@ -39,9 +39,10 @@ def its(room, number, left, right):
     """The answers of the program on a pair, for so many lines each: its status and what it prints."""
     names = ["%d.left" % number, "%d.right" % number]
     put(room, dict(zip(names, (left, right))))
-    ended = [run([REVIEW, "diff", "--format=json", "--lines=%d" % lines, *names], room=room) for lines in LINES]
-    for name in names:
-        os.remove("%s/%s" % (room, name))
+    paths = ["%s/%s" % (room, name) for name in names]
+    ended = [run([REVIEW, "diff", "--format=json", "--lines=%d" % lines, *paths]) for lines in LINES]
+    for path in paths:
+        os.remove(path)
     return [(done.status, done.out) for done in ended]
 
 
