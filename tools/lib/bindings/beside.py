@@ -1,18 +1,33 @@
-"""values.py: the values of the library, held against the trees of the companion of the form, tools/oracle/oracle.py.
+"""The library, held against other answers.
 
-Of each vector that is read and of made streams the records are the companion's trees: one for each different tree, each behind its parts,
-with its kind, tag, content and parts in the order of keys. `yamlcanon.load` gives what these trees are as Python's own. `library/values_test.c`
-runs over the inputs with rooms of every kind.
+The values: of each vector that is read and of made streams the records are the trees of the companion of the form, tools/oracle/oracle.py:
+one for each different tree, each behind its parts, with its kind, tag, content and parts in the order of keys. `yamlcanon.load` gives what
+these trees are as Python's own. `library/values_test.c` runs over the inputs with rooms of every kind.
+
+The differences: each vector with the next one and with a changed one of itself, and so of made streams. The bytes are those that
+`yamlreview diff --format=json` prints, the library says DIFFERENT where the program ends with 1, and it rejects a pair where the program
+ends with 2. Each pair is tried with a few lines, too.
+
+A hundred threads, with bounds of their own: the inputs are the rows of the tables, the shapes of `bench/lib/shapes.py` at 300 and 1,000
+bytes, and changed ones of both; the right side of `same` is the canonical text of the left one for one input in three, else the next input.
 """
+import base64
 import decimal
+import itertools
+import json
 import os
+import random
+import struct
 import subprocess
+import time
 
-from lib.form.vectors import vectors
+from bench.lib.shapes import SHAPES
 from lib.form.made import stream
-from lib.paths import PROGRAM, TOP
+from lib.form.vectors import vectors
+from lib.paths import PROGRAM, REVIEW, TOP
+from lib.trial import put, run as run_program, side_by_side
 from oracle import oracle
-from .base import build, is_there, run, say, wrong
+from .base import build, changed, is_program_built, is_there, run, say, texts_of_rows, told, with_changed, wrong
 
 MADE = 2000
 KINDS = ("null", "bool", "int", "float", "str")
@@ -156,7 +171,110 @@ def try_values(folder, names, some):
     streams = ((seed, stream(seed)) for seed in range(MADE))
     inputs += [("made stream %d" % seed, data, events_of(data)) for seed, data in streams]
     held = [(name, differs(data, events)) for name, data, events in inputs if events is not None]
-    for name, told in held:
-        if told:
-            wrong("values of %s: %s" % (name, told))
+    for name, why in held:
+        if why:
+            wrong("values of %s: %s" % (name, why))
     say("the values of %d streams are the companion's trees" % len(held))
+
+
+PAIRS, SEED, LINES, LONG = 500, 2, (1000, 2), 100_000
+
+
+def pairs():
+    chance, inputs = random.Random(SEED), [vector.input for vector in vectors()]
+    for group in (inputs, [stream(seed) for seed in range(PAIRS)]):
+        yield from zip(group, group[1:] + group[:1])
+        yield from ((data, changed(data, chance)) for data in group if len(data) < LONG)
+
+
+def own_lines(left, right, lines):
+    """The status of the library and its text."""
+    import yamlcanon  # pylint: disable=import-outside-toplevel
+    from yamlcanon.differences import lines_of  # pylint: disable=import-outside-toplevel
+
+    text, _ = lines_of(left, right, lines, 0)
+    status = 2 if text is None else int(not yamlcanon.same(left, right))
+    return status, text or b""
+
+
+def its(room, number, left, right):
+    """The answers of the program on a pair, for so many lines each: its status and what it prints."""
+    names = ["%d.left" % number, "%d.right" % number]
+    put(room, dict(zip(names, (left, right))))
+    paths = ["%s/%s" % (room, name) for name in names]
+    ended = [run_program([REVIEW, "diff", "--format=json", "--lines=%d" % lines, *paths]) for lines in LINES]
+    for path in paths:
+        os.remove(path)
+    return [(done.status, done.out) for done in ended]
+
+
+def other_lines(left, right, answers):
+    """Where the library tells otherwise of a pair than the program."""
+    for lines, wanted in zip(LINES, answers):
+        found = own_lines(left, right, lines)
+        if found != wanted:
+            yield "differences of %.200r and %.200r: %.300r, and yamlreview %.300r" % (left, right, found, wanted)
+
+
+def write_cases(path, rows, answers):
+    """Writes the pairs with the program's answers into a file, a line of JSON each, for those tests of the modules that make many calls
+    at once. Long inputs are left out."""
+    with open(path, "w", encoding="utf-8") as file:
+        for pair, ((status, lines), *_) in zip(rows, answers):
+            if max(map(len, pair)) < LONG:
+                texts = [base64.b64encode(data).decode() for data in (*pair, lines)]
+                print(json.dumps(dict(zip(("left", "right", "lines"), texts), status=status)), file=file)
+
+
+def try_differences(folder, room):
+    """The library in a folder over all pairs, if yamlreview is built. Gives the name of a file that has the pairs with the
+    program's answers; an empty name if it is not built."""
+    if not os.access(REVIEW, os.X_OK):
+        say("differences are left out, since yamlreview is not built")
+        return ""
+    os.environ["YAMLCANON_LIBRARY"] = folder + "/libyamlcanon.so.1"
+    os.mkdir(room)
+    rows = list(pairs())
+    answers = side_by_side(lambda number: its(room, number, *rows[number]), range(len(rows)))
+    for line in itertools.chain(*side_by_side(lambda each: list(other_lines(*each[0], each[1])), zip(rows, answers))):
+        wrong(line)
+    say("the differences of %d pairs are those of yamlreview" % len(rows))
+    cases = room + "/cases.jsonl"
+    write_cases(cases, rows, answers)
+    return cases
+
+
+INPUTS, SIZES = 10_000, (300, 1000)
+
+
+def inputs(count):
+    return with_changed(texts_of_rows() + [make(size) for make in SHAPES.values() for size in SIZES], count)
+
+
+def answer(*words):
+    status, text, line = told(*words)
+    return bytes([status]) + (line if status > 1 else b"" if words[0] == "same" else text)
+
+
+def case(room, number, text, following):
+    """The parts of a case: both inputs, and what the program answers."""
+    left, right = "%s/%d" % (room, number), "%s/%d.right" % (room, number)
+    put(room, {f"{number}": text})
+    canonical = answer("canon", left)
+    other = canonical[1:] if number % 3 == 0 and canonical[0] == 0 else following
+    put(room, {f"{number}.right": other})
+    parts = [text, other, canonical, answer("events", left), answer("same", left, right)]
+    os.remove(left)
+    os.remove(right)
+    return b"".join(struct.pack("<I", len(part)) + part for part in parts)
+
+
+def try_threads(folder, room, count):
+    if not is_program_built():
+        return
+    texts, began = inputs(count), time.monotonic()
+    os.mkdir(room)
+    cases = b"".join(side_by_side(lambda each: case(room, *each), zip(range(count), texts, texts[1:] + texts[:1])))
+    say("%d answers of the program on inputs of %d bytes in all, %.1f s" % (3 * count, sum(map(len, texts)), time.monotonic() - began))
+    made, began = build(folder, "threads", TOP + "/library/threads.c", folder + "/libyamlcanon.a", "-lpthread"), time.monotonic()
+    say("100 threads: %s, %.1f s" % (run(made, input=cases), time.monotonic() - began))
