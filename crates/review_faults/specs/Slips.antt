@@ -49,6 +49,19 @@ has_space (c ∷ x) = begins_space (c ∷ x) || has_space x
 abbrev pub has_colon : List ℕ → Bool
 has_colon x = list_any (λ c. c == 58) x
 
+abbrev pub has_equals : List ℕ → Bool
+has_equals x = list_any (λ c. c == 61) x
+
+-- the first such byte is the last byte
+abbrev pub ends_first : ℕ → List ℕ → Bool
+ends_first mark [] = false
+ends_first mark (c ∷ x) = cond (c == mark) (length x == 0) (ends_first mark x)
+
+-- it ends with a bracket or a brace, and has none that opens it
+abbrev pub is_unopened : List ℕ → Bool
+is_unopened x =
+    (ends_with ◌==◌ x (codes "]") && not (list_any (λ c. c == 91) x)) || (ends_with ◌==◌ x (codes "}") && not (list_any (λ c. c == 123) x))
+
 -- stops and commas alone, and a comma among them: `.` and `..` are names of folders
 abbrev pub is_mark : ℕ → Bool
 is_mark c = c == 44 || c == 46
@@ -102,6 +115,10 @@ has_blank x = list_any (λ c. c == 32) x
 abbrev pub has_quote : List ℕ → Bool
 has_quote x = list_any (λ c. c == 34) x
 
+-- It ends with a quote, and has no other one. A text of several words may end with an apostrophe.
+abbrev pub is_half_quoted : List ℕ → Bool
+is_half_quoted x = ends_first 34 x || (ends_first 39 x && not (has_blank x))
+
 -- ---- what is around a scalar
 
 abbrev pub begins_flow_mapping : Option Event → Bool
@@ -136,10 +153,14 @@ slip_in around x =
     else if is_quoted x then Some slips.Quotes
     else if has_space x then Some slips.Space
     else if is_marks x then Some slips.Marks
+    else if around.is_key && (around.is_in_flow && (around.has_no_value && has_equals x)) then Some slips.Equals
+    else if around.is_key && ends_with ◌==◌ x (codes ":") then Some slips.Colon
+    else if is_half_quoted x then Some slips.Quote
+    else if is_unopened x then Some slips.Bracket
     else None
 
 abbrev pub slip_words : Slip → List ℕ
-slip_words slips.Template = codes "a key in a key here, as in `{{ x }}`: render a template first"
+slip_words slips.Template = codes "a key in a key here, as in `{{ x }}`: render a template first, or quote the value"
 slip_words slips.Comment = codes "a text here: a comment begins with `#`"
 slip_words slips.Comma = codes "one key here: a comma is missing before its quote"
 slip_words slips.Key = codes "a key without a value here: a space is missing after its colon"
@@ -149,3 +170,7 @@ slip_words slips.Lines = codes "one string of several lines here: an item begins
 slip_words slips.Quotes = codes "its quotes are part of the string here: the quotes of YAML are \" and '"
 slip_words slips.Space = codes "a string with a no-break space or a space of no width"
 slip_words slips.Marks = codes "a string here: a comma is an indicator in brackets and braces alone"
+slip_words slips.Equals = codes "a key without a value here: an entry has `: ` in place of `=`"
+slip_words slips.Colon = codes "its last colon is part of the key here"
+slip_words slips.Quote = codes "its quote is part of the string here: the first one is missing"
+slip_words slips.Bracket = codes "a string here: what opens its bracket or brace is missing"

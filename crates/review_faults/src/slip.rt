@@ -1,7 +1,7 @@
 //! What is commonly a slip, although it is read.
-ghost use Rattle.std.specs.Prelude.{◌≡◌, option_map};
+ghost use Rattle.std.specs.Prelude.{◌≡◌, ◌==◌, option_map};
 ghost use Rattle.std.specs.List.{list_all, list_any};
-ghost use Rattle.review_faults.specs.Slips.{after_name_byte, after_word, is_between, is_tight, is_quote_end, begins_quote, is_quoted, begins_space, has_space, has_colon, begins_comment, has_blank, has_quote, is_mark, is_comma, is_marks, after_same, apart, after_break, after_breaks, is_dashed, is_item, is_listed, slip_in};
+ghost use Rattle.review_faults.specs.Slips.{after_name_byte, after_word, is_between, is_tight, is_quote_end, begins_quote, is_quoted, begins_space, has_space, has_colon, has_equals, ends_first, is_half_quoted, is_unopened, begins_comment, has_blank, has_quote, is_mark, is_comma, is_marks, after_same, apart, after_break, after_breaks, is_dashed, is_item, is_listed, slip_in};
 
 use crate::cause::is_name_byte;
 
@@ -41,6 +41,14 @@ pub enum Slip {
     Space,
     /// It has stops and commas alone, and a comma among them.
     Marks,
+    /// It is a key without a value in braces, and has `=`, as `{a=b}`.
+    Equals,
+    /// It is a key that ends with a colon.
+    Colon,
+    /// It ends with a quote, and has no other one.
+    Quote,
+    /// It ends with a bracket or a brace, and has none that opens it.
+    Bracket,
 }
 
 impl Slip {
@@ -52,7 +60,8 @@ impl Slip {
         ensures { result.now ≡ slip_words self }
     {
         match self {
-            Slip::Template => "a key in a key here, as in `{{ x }}`: render a template first",
+            Slip::Template =>
+                "a key in a key here, as in `{{ x }}`: render a template first, or quote the value",
             Slip::Comment => "a text here: a comment begins with `#`",
             Slip::Comma => "one key here: a comma is missing before its quote",
             Slip::Key => "a key without a value here: a space is missing after its colon",
@@ -64,6 +73,10 @@ impl Slip {
                 "its quotes are part of the string here: the quotes of YAML are \" and '",
             Slip::Space => "a string with a no-break space or a space of no width",
             Slip::Marks => "a string here: a comma is an indicator in brackets and braces alone",
+            Slip::Equals => "a key without a value here: an entry has `: ` in place of `=`",
+            Slip::Colon => "its last colon is part of the key here",
+            Slip::Quote => "its quote is part of the string here: the first one is missing",
+            Slip::Bracket => "a string here: what opens its bracket or brace is missing",
         }
     }
 }
@@ -174,6 +187,55 @@ fn has_colon(text: &[u8]) -> bool
     ensures { result ≡ has_colon text.now }
 {
     text.iter().any(|byte| *byte == b':')
+}
+
+/// Whether a text has an equals sign.
+fn has_equals(text: &[u8]) -> bool
+    ensures { result ≡ has_equals text.now }
+{
+    text.iter().any(|byte| *byte == b'=')
+}
+
+/// Whether the first such byte of a text is its last byte.
+fn ends_first(mark: u8, text: &[u8]) -> bool
+    ensures { result ≡ ends_first mark text.now }
+{
+    let mut rest = text;
+    'bytes: while let Some((first, more)) = rest.split_first() {
+        if *first == mark {
+            return more.is_empty();
+        }
+        rest = more;
+    }
+    false
+}
+
+/// Whether a text ends with a quote, and has no other one. A text of several words may end with an apostrophe.
+fn is_half_quoted(text: &[u8]) -> bool
+    ensures { result ≡ is_half_quoted text.now }
+{
+    ends_first(b'"', text) || (ends_first(b'\'', text) && !has_blank(text))
+}
+
+/// Whether a text has an opening bracket.
+fn has_bracket(text: &[u8]) -> bool
+    ensures { result ≡ list_any (λ c. c == 91) text.now }
+{
+    text.iter().any(|byte| *byte == b'[')
+}
+
+/// Whether a text has an opening brace.
+fn has_brace(text: &[u8]) -> bool
+    ensures { result ≡ list_any (λ c. c == 123) text.now }
+{
+    text.iter().any(|byte| *byte == b'{')
+}
+
+/// Whether a text ends with a bracket or a brace, and has none that opens it.
+fn is_unopened(text: &[u8]) -> bool
+    ensures { result ≡ is_unopened text.now }
+{
+    (text.ends_with(b"]") && !has_bracket(text)) || (text.ends_with(b"}") && !has_brace(text))
 }
 
 /// Whether a byte is a stop or a comma.
@@ -315,6 +377,14 @@ pub(crate) fn slip_in(around: Around, text: &str) -> Option<Slip>
         Some(Slip::Space)
     } else if is_marks(bytes) {
         Some(Slip::Marks)
+    } else if around.is_key && around.is_in_flow && around.has_no_value && has_equals(bytes) {
+        Some(Slip::Equals)
+    } else if around.is_key && bytes.ends_with(b":") {
+        Some(Slip::Colon)
+    } else if is_half_quoted(bytes) {
+        Some(Slip::Quote)
+    } else if is_unopened(bytes) {
+        Some(Slip::Bracket)
     } else {
         None
     }
