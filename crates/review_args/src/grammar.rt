@@ -58,9 +58,10 @@ const WARN_STATUSES: &str = "There is a warning for each
   anchor or alias whose name has another character than A to Z, a to z, 0 to 9, `-` and `_`
   key that is equal to an earlier key of its mapping in Python, such as true and 1, or in JavaScript, such as 1 and \"1\"
   int with the tag `!!int` that YAML 1.1 reads as octal, such as `!!int 010`
-  slip: `{{ x }}`, `{type:string}`, `data:{}`, `<<` that is no key, typographic quotes around a text, a no-break space
-    or a zero-width space in it, full stops and commas alone, `// x` or a key `x \"b\"` in brackets or braces,
-    lines such as `-a` and `-b` below each other, which are one text
+  slip: `{{ x }}`, `{type:string}`, `{a=b}`, `data:{}`, `a:: b`, `<<` that is no key, typographic quotes around a text,
+    a quote, bracket or brace at its end alone, a no-break space or a zero-width space in it, full stops and commas alone,
+    `// x` or a key `x \"b\"` in brackets or braces, two words there with a line's end between them, lines such as `-a` and
+    `-b` below each other, which are one text, and the values of `a: |` without a text, `a: !f()`, `a: #/b` and `a:` above `b:c`
 The first three were compared with PyYAML, libyaml and yaml.v3. Tags and characters that end a line in YAML 1.1 alone are not looked at.
 
 Exit status (of several files the greatest):

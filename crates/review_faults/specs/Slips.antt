@@ -1,7 +1,7 @@
 -- What is commonly a slip, although it is read.
-use Rattle.std.specs.Prelude.{◌==◌, ◌&&◌, ◌||◌, ◌-◌, ℕ, Bool, true, false, not, nat_le, nat_lt, cond, if◌then◌else◌, bytes_eq, List, [], ◌∷◌, length, drop, Option, Some, None, codes, slice_get}
+use Rattle.std.specs.Prelude.{◌==◌, ◌&&◌, ◌||◌, ◌-◌, ℕ, Bool, true, false, not, nat_le, nat_lt, cond, if◌then◌else◌, bytes_eq, List, [], ◌∷◌, length, drop, take, Option, Some, None, codes, slice_get}
 use Rattle.std.specs.List.{list_all, list_any, starts_with, ends_with}
-use Rattle.yaml_definitions.specs.model.Event.{Event, plain, scalar_event, mapping_start}
+use Rattle.yaml_definitions.specs.model.Event.{Event, untagged, full, plain, literal, folded, scalar_event, mapping_start}
 use Rattle.review_faults.specs.Labels.{is_name_byte}
 use Rattle.review_faults.specs.declared.slip.Around.{Around}
 use Rattle.review_faults.specs.declared.slip.Slip.{Slip}
@@ -48,6 +48,19 @@ has_space (c ∷ x) = begins_space (c ∷ x) || has_space x
 
 abbrev pub has_colon : List ℕ → Bool
 has_colon x = list_any (λ c. c == 58) x
+
+abbrev pub has_equals : List ℕ → Bool
+has_equals x = list_any (λ c. c == 61) x
+
+-- the first such byte is the last byte
+abbrev pub ends_first : ℕ → List ℕ → Bool
+ends_first mark [] = false
+ends_first mark (c ∷ x) = cond (c == mark) (length x == 0) (ends_first mark x)
+
+-- it ends with a bracket or a brace, and has none that opens it
+abbrev pub is_unopened : List ℕ → Bool
+is_unopened x =
+    (ends_with ◌==◌ x (codes "]") && not (list_any (λ c. c == 91) x)) || (ends_with ◌==◌ x (codes "}") && not (list_any (λ c. c == 123) x))
 
 -- stops and commas alone, and a comma among them: `.` and `..` are names of folders
 abbrev pub is_mark : ℕ → Bool
@@ -102,6 +115,36 @@ has_blank x = list_any (λ c. c == 32) x
 abbrev pub has_quote : List ℕ → Bool
 has_quote x = list_any (λ c. c == 34) x
 
+-- It ends with a quote, and has no other one. A text of several words may end with an apostrophe.
+abbrev pub is_half_quoted : List ℕ → Bool
+is_half_quoted x = ends_first 34 x || (ends_first 39 x && not (has_blank x))
+
+-- the first line of a text that is read from this source, if it has several
+abbrev pub first_line : List ℕ → List ℕ → List ℕ
+first_line source x = take (length x - length (apart source x)) x
+
+-- It has two lines, each of one word.
+abbrev pub is_joined : List ℕ → List ℕ → Bool
+is_joined source x =
+    (not (length (apart source x) == 0) && not (length (first_line source x) == 0))
+    && (not (has_blank (first_line source x)) && not (has_blank (after_breaks (apart source x))))
+
+-- ---- what follows a text in its source
+
+abbrev pub is_pointer : List ℕ → List ℕ → Bool
+is_pointer source x = starts_with ◌==◌ (drop (length x) source) (codes ": #/")
+
+abbrev pub is_below : List ℕ → List ℕ → Bool
+is_below source x = starts_with ◌==◌ (drop (length x) source) (codes ":\n")
+
+-- two words with a colon between them
+abbrev pub is_colon_word : List ℕ → Bool
+is_colon_word [] = false
+is_colon_word (c ∷ x) = c == 58 && (not (length x == 0) && length (after_word x) == 0)
+
+abbrev pub is_word_pair : List ℕ → Bool
+is_word_pair x = not (length (after_word x) == length x) && is_colon_word (after_word x)
+
 -- ---- what is around a scalar
 
 abbrev pub begins_flow_mapping : Option Event → Bool
@@ -113,6 +156,22 @@ abbrev pub is_unwritten : Option Event → Bool
 is_unwritten (Some (scalar_event a t plain x)) = length x == 0
 is_unwritten _ = false
 
+-- a block scalar has no text
+abbrev pub is_empty_block : Option Event → Bool
+is_empty_block (Some (scalar_event a t literal x)) = length x == 0
+is_empty_block (Some (scalar_event a t folded x)) = length x == 0
+is_empty_block _ = false
+
+-- a node that is not written has a tag with a parenthesis in it
+abbrev pub is_call : Option Event → Bool
+is_call (Some (scalar_event a (full t) plain x)) = length x == 0 && list_any (λ c. c == 40) t
+is_call _ = false
+
+-- a plain scalar is two words with a colon between them
+abbrev pub is_pair : Option Event → Bool
+is_pair (Some (scalar_event a untagged plain x)) = is_word_pair x
+is_pair _ = false
+
 -- flow mappings begin at the two events before the one of this number
 abbrev pub is_doubled : List Event → ℕ → Bool
 is_doubled events n = begins_flow_mapping (slice_get events (n - 1)) && begins_flow_mapping (slice_get events (n - 2))
@@ -121,7 +180,25 @@ is_doubled events n = begins_flow_mapping (slice_get events (n - 1)) && begins_f
 abbrev pub has_no_value : List Event → ℕ → Bool
 has_no_value events n = is_unwritten (slice_get (drop n events) 1)
 
+abbrev pub has_empty_block : List Event → ℕ → Bool
+has_empty_block events n = is_empty_block (slice_get (drop n events) 1)
+
+abbrev pub has_call : List Event → ℕ → Bool
+has_call events n = is_call (slice_get (drop n events) 1)
+
+abbrev pub has_pair : List Event → ℕ → Bool
+has_pair events n = is_pair (slice_get (drop n events) 1)
+
 -- ---- slips
+
+-- of the value of a key
+abbrev pub value_slip : Around → Option Slip
+value_slip around =
+    if around.has_empty_block then Some slips.Empty
+    else if around.has_call then Some slips.Call
+    else if around.has_no_value && around.is_pointer then Some slips.Pointer
+    else if around.has_pair && around.is_below then Some slips.Below
+    else None
 
 -- of the text of a plain scalar
 abbrev pub slip_in : Around → List ℕ → Option Slip
@@ -136,10 +213,16 @@ slip_in around x =
     else if is_quoted x then Some slips.Quotes
     else if has_space x then Some slips.Space
     else if is_marks x then Some slips.Marks
+    else if around.is_key && (around.is_in_flow && (around.has_no_value && has_equals x)) then Some slips.Equals
+    else if around.is_key && ends_with ◌==◌ x (codes ":") then Some slips.Colon
+    else if is_half_quoted x then Some slips.Quote
+    else if is_unopened x then Some slips.Bracket
+    else if around.is_in_flow && around.is_joined then Some slips.Joined
+    else if around.is_key then value_slip around
     else None
 
 abbrev pub slip_words : Slip → List ℕ
-slip_words slips.Template = codes "a key in a key here, as in `{{ x }}`: render a template first"
+slip_words slips.Template = codes "a key in a key here, as in `{{ x }}`: render a template first, or quote the value"
 slip_words slips.Comment = codes "a text here: a comment begins with `#`"
 slip_words slips.Comma = codes "one key here: a comma is missing before its quote"
 slip_words slips.Key = codes "a key without a value here: a space is missing after its colon"
@@ -149,3 +232,12 @@ slip_words slips.Lines = codes "one string of several lines here: an item begins
 slip_words slips.Quotes = codes "its quotes are part of the string here: the quotes of YAML are \" and '"
 slip_words slips.Space = codes "a string with a no-break space or a space of no width"
 slip_words slips.Marks = codes "a string here: a comma is an indicator in brackets and braces alone"
+slip_words slips.Equals = codes "a key without a value here: an entry has `: ` in place of `=`"
+slip_words slips.Colon = codes "its last colon is part of the key here"
+slip_words slips.Quote = codes "its quote is part of the string here: the first one is missing"
+slip_words slips.Bracket = codes "a string here: what opens its bracket or brace is missing"
+slip_words slips.Joined = codes "one string of two lines here: two items have a comma between them"
+slip_words slips.Empty = codes "its value is an empty block scalar here: quote `|` or `>` if that is meant"
+slip_words slips.Call = codes "its value is a tag and no text here: quote a value that begins with `!`"
+slip_words slips.Pointer = codes "its value is null here: what begins with ` #` is a comment, unless it is quoted"
+slip_words slips.Below = codes "its value is one string here: a space is missing after its colon"

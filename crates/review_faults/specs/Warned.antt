@@ -21,7 +21,7 @@ use Rattle.review_faults.specs.Keys.{begun_at, collection_at, IsEqualKey}
 use Rattle.review_faults.specs.Labels.{Label, whole}
 use Rattle.review_faults.specs.Says.{Says}
 use Rattle.review_faults.specs.Seen.{Holds}
-use Rattle.review_faults.specs.Slips.{is_doubled, has_no_value, is_listed}
+use Rattle.review_faults.specs.Slips.{is_doubled, has_no_value, is_listed, is_joined, is_pointer, is_below, has_empty_block, has_call, has_pair}
 use Rattle.review_faults.specs.declared.cause.Cause.{Cause}
 use Rattle.review_faults.specs.declared.find.Found.{Found}
 use Rattle.review_faults.specs.declared.find.Known.{Known}
@@ -58,7 +58,7 @@ scalar_text _ = []
 
 -- what is around the event of this number, which begins at this source
 abbrev pub around : (ℕ → List ℕ) → List Event → ℕ → Event → Around
-around source events n e = record { is_key = is_key (collection_at events n); is_in_flow = is_in_flow events n; is_doubled = is_doubled events n; has_no_value = has_no_value events n; is_listed = is_listed (source n) (scalar_text e) }
+around source events n e = record { is_key = is_key (collection_at events n); is_in_flow = is_in_flow events n; is_doubled = is_doubled events n; has_no_value = has_no_value events n; is_listed = is_listed (source n) (scalar_text e); is_joined = is_joined (source n) (scalar_text e); is_pointer = is_pointer (source n) (scalar_text e); is_below = is_below (source n) (scalar_text e); has_empty_block = has_empty_block events n; has_call = has_call events n; has_pair = has_pair events n }
 
 -- The causes for which the event of this number may be warned of: its name, its first character, the keys that are equal to it in Python and in JavaScript, YAML 1.1, an int with a tag, and a slip. A scalar is judged as a key where it is one.
 pub record AreCauses (source : ℕ → List ℕ) (events : List Event) (n : ℕ) (e : Event) (causes : List (Option Cause)) : Type 0 where

@@ -1,20 +1,21 @@
 //! The events of a file that are warned of.
-ghost use Rattle.std.specs.Prelude.{◌≡◌, ◌+◌, ℕ, ◌++◌, ◌∷◌, [], List, Some, find, map, flat_map, option_map, option_and_then, reverse, slice_get, IfOk, OnOk};
+ghost use Rattle.std.specs.Prelude.{◌≡◌, ◌==◌, ◌+◌, ℕ, ◌++◌, ◌∷◌, [], List, Some, find, map, flat_map, option_map, option_and_then, reverse, slice_get, IfOk, OnOk};
+ghost use Rattle.std.specs.List.{list_any};
 ghost use Rattle.review_places.specs.Trails.{has_part, open_frames};
 ghost use Rattle.yaml_text.specs.EventModel.{event_of};
 ghost use Rattle.review_faults.specs.Keys.{begun_at, mapping_of};
-ghost use Rattle.review_faults.specs.Slips.{begins_flow_mapping, has_no_value, is_doubled, is_unwritten};
+ghost use Rattle.review_faults.specs.Slips.{begins_flow_mapping, has_call, has_empty_block, has_no_value, has_pair, is_call, is_doubled, is_empty_block, is_pair, is_unwritten};
 ghost use Rattle.review_faults.specs.Warned.{AreCauses, FindsWarned, Keeps, Knows, flow_of, noted, scalar_text, source_at};
 
 use crate::cause::{
     Cause, equal_cause, indicator_cause, name_cause, older_cause, slip_cause, tagged_cause,
 };
 use crate::keys::{Key, Keys, Reader};
-use crate::slip::{Around, is_listed};
+use crate::slip::{Around, is_below, is_joined, is_listed, is_pointer, is_word_pair};
 use review_places::trace::Trace;
 use review_places::trail::Trail;
 use std::alloc::{AllocError, Global};
-use yaml_text::event::{Event, Style};
+use yaml_text::event::{Event, EventTag, Style};
 
 /// The numbers of events that are warned of, and why.
 #[derive(Drop)]
@@ -151,6 +152,89 @@ fn has_no_value(events: &[Event<'_>], at: usize) -> bool
     }
 }
 
+/// Whether an event is an empty block scalar.
+fn is_empty_block(event: Option<&Event<'_>>) -> bool
+    ensures { result ≡ is_empty_block (option_map (λ e. event_of e.now) event.entry) }
+{
+    match event {
+        Some(Event::Scalar { style, text, .. }) => {
+            matches!(style, Style::Literal | Style::Folded) && text.as_str().is_empty()
+        }
+        _ => false,
+    }
+}
+
+/// Whether the event after the one of this number is an empty block scalar.
+fn has_empty_block(events: &[Event<'_>], at: usize) -> bool
+    ensures { result ≡ has_empty_block (map event_of events.now) at }
+{
+    match events.get(at..) {
+        Some(rest) => is_empty_block(rest.get(1)),
+        None => false,
+    }
+}
+
+/// Whether a text has an opening parenthesis.
+fn has_parenthesis(text: &str) -> bool
+    ensures { result ≡ list_any (λ c. c == 40) text.now }
+{
+    text.as_bytes().iter().any(|byte| *byte == b'(')
+}
+
+/// Whether an event has a tag with a parenthesis in it, and begins a node that is not written.
+fn is_call(event: Option<&Event<'_>>) -> bool
+    ensures { result ≡ is_call (option_map (λ e. event_of e.now) event.entry) }
+{
+    match event {
+        Some(
+            Event::Scalar {
+                tag: EventTag::Full(tag),
+                style: Style::Plain,
+                text,
+                ..
+            },
+        ) => text.as_str().is_empty() && has_parenthesis(tag.as_str()),
+        _ => false,
+    }
+}
+
+/// Whether the event after the one of this number is such a tag.
+fn has_call(events: &[Event<'_>], at: usize) -> bool
+    ensures { result ≡ has_call (map event_of events.now) at }
+{
+    match events.get(at..) {
+        Some(rest) => is_call(rest.get(1)),
+        None => false,
+    }
+}
+
+/// Whether an event is an untagged plain scalar of two words with a colon between them.
+fn is_pair(event: Option<&Event<'_>>) -> bool
+    ensures { result ≡ is_pair (option_map (λ e. event_of e.now) event.entry) }
+{
+    match event {
+        Some(
+            Event::Scalar {
+                tag: EventTag::None,
+                style: Style::Plain,
+                text,
+                ..
+            },
+        ) => is_word_pair(text.as_str().as_bytes()),
+        _ => false,
+    }
+}
+
+/// Whether the event after the one of this number is such a scalar.
+fn has_pair(events: &[Event<'_>], at: usize) -> bool
+    ensures { result ≡ has_pair (map event_of events.now) at }
+{
+    match events.get(at..) {
+        Some(rest) => is_pair(rest.get(1)),
+        None => false,
+    }
+}
+
 /// The text from the offset that was noted at the event of this number.
 fn source_at<'s>(text: &'s [u8], trace: &Trace, event: usize) -> &'s [u8]
     ensures { result.now ≡ source_at text.now trace.now event }
@@ -194,12 +278,19 @@ fn causes_at<'e>(
     let equals = known.keys.take(alloc, at, event, mapping_of(&known.trail))?;
     let is_key = known.trail.is_at_key();
     let is_in_flow = is_flow(event_at(events, around(&known.trail)));
+    let text = scalar_text(event);
     let around = Around {
         is_key,
         is_in_flow,
         is_doubled: is_doubled(events, at),
         has_no_value: has_no_value(events, at),
-        is_listed: is_listed(source, scalar_text(event)),
+        is_listed: is_listed(source, text),
+        is_joined: is_joined(source, text),
+        is_pointer: is_pointer(source, text),
+        is_below: is_below(source, text),
+        has_empty_block: has_empty_block(events, at),
+        has_call: has_call(events, at),
+        has_pair: has_pair(events, at),
     };
     Ok([
         name_cause(event),

@@ -1,7 +1,7 @@
 //! What is commonly a slip, although it is read.
-ghost use Rattle.std.specs.Prelude.{◌≡◌, option_map};
+ghost use Rattle.std.specs.Prelude.{◌≡◌, ◌==◌, option_map};
 ghost use Rattle.std.specs.List.{list_all, list_any};
-ghost use Rattle.review_faults.specs.Slips.{after_name_byte, after_word, is_between, is_tight, is_quote_end, begins_quote, is_quoted, begins_space, has_space, has_colon, begins_comment, has_blank, has_quote, is_mark, is_comma, is_marks, after_same, apart, after_break, after_breaks, is_dashed, is_item, is_listed, slip_in};
+ghost use Rattle.review_faults.specs.Slips.{after_name_byte, after_word, is_between, is_tight, is_quote_end, begins_quote, is_quoted, begins_space, has_space, has_colon, has_equals, ends_first, is_half_quoted, is_unopened, begins_comment, has_blank, has_quote, is_mark, is_comma, is_marks, after_same, apart, after_break, after_breaks, is_dashed, is_item, is_listed, is_joined, is_pointer, is_below, is_word_pair, is_colon_word, value_slip, slip_in};
 
 use crate::cause::is_name_byte;
 
@@ -16,6 +16,18 @@ pub(crate) struct Around {
     pub(crate) has_no_value: bool,
     /// It has several lines, and the second one is commonly an item.
     pub(crate) is_listed: bool,
+    /// It has two lines, each of one word.
+    pub(crate) is_joined: bool,
+    /// A colon, a space and `#/` follow it.
+    pub(crate) is_pointer: bool,
+    /// A colon and a line's end follow it.
+    pub(crate) is_below: bool,
+    /// The next event is an empty block scalar.
+    pub(crate) has_empty_block: bool,
+    /// The next event has a tag with a parenthesis in it, and begins a node that is not written.
+    pub(crate) has_call: bool,
+    /// The next event is a plain scalar as `a:b`.
+    pub(crate) has_pair: bool,
 }
 
 /// What a plain scalar commonly is by a slip.
@@ -41,6 +53,24 @@ pub enum Slip {
     Space,
     /// It has stops and commas alone, and a comma among them.
     Marks,
+    /// It is a key without a value in braces, and has `=`, as `{a=b}`.
+    Equals,
+    /// It is a key that ends with a colon.
+    Colon,
+    /// It ends with a quote, and has no other one.
+    Quote,
+    /// It ends with a bracket or a brace, and has none that opens it.
+    Bracket,
+    /// It is in brackets or braces, and has two lines, each of one word.
+    Joined,
+    /// It is a key whose value is an empty block scalar.
+    Empty,
+    /// It is a key whose value is such a tag as `!f()`, and no more.
+    Call,
+    /// It is a key with a null value before a comment such as `#/a`.
+    Pointer,
+    /// It is a key with a value such as `a:b` on the line below.
+    Below,
 }
 
 impl Slip {
@@ -52,7 +82,8 @@ impl Slip {
         ensures { result.now ≡ slip_words self }
     {
         match self {
-            Slip::Template => "a key in a key here, as in `{{ x }}`: render a template first",
+            Slip::Template =>
+                "a key in a key here, as in `{{ x }}`: render a template first, or quote the value",
             Slip::Comment => "a text here: a comment begins with `#`",
             Slip::Comma => "one key here: a comma is missing before its quote",
             Slip::Key => "a key without a value here: a space is missing after its colon",
@@ -64,6 +95,17 @@ impl Slip {
                 "its quotes are part of the string here: the quotes of YAML are \" and '",
             Slip::Space => "a string with a no-break space or a space of no width",
             Slip::Marks => "a string here: a comma is an indicator in brackets and braces alone",
+            Slip::Equals => "a key without a value here: an entry has `: ` in place of `=`",
+            Slip::Colon => "its last colon is part of the key here",
+            Slip::Quote => "its quote is part of the string here: the first one is missing",
+            Slip::Bracket => "a string here: what opens its bracket or brace is missing",
+            Slip::Joined => "one string of two lines here: two items have a comma between them",
+            Slip::Empty =>
+                "its value is an empty block scalar here: quote `|` or `>` if that is meant",
+            Slip::Call => "its value is a tag and no text here: quote a value that begins with `!`",
+            Slip::Pointer =>
+                "its value is null here: what begins with ` #` is a comment, unless it is quoted",
+            Slip::Below => "its value is one string here: a space is missing after its colon",
         }
     }
 }
@@ -176,6 +218,55 @@ fn has_colon(text: &[u8]) -> bool
     text.iter().any(|byte| *byte == b':')
 }
 
+/// Whether a text has an equals sign.
+fn has_equals(text: &[u8]) -> bool
+    ensures { result ≡ has_equals text.now }
+{
+    text.iter().any(|byte| *byte == b'=')
+}
+
+/// Whether the first such byte of a text is its last byte.
+fn ends_first(mark: u8, text: &[u8]) -> bool
+    ensures { result ≡ ends_first mark text.now }
+{
+    let mut rest = text;
+    'bytes: while let Some((first, more)) = rest.split_first() {
+        if *first == mark {
+            return more.is_empty();
+        }
+        rest = more;
+    }
+    false
+}
+
+/// Whether a text ends with a quote, and has no other one. A text of several words may end with an apostrophe.
+fn is_half_quoted(text: &[u8]) -> bool
+    ensures { result ≡ is_half_quoted text.now }
+{
+    ends_first(b'"', text) || (ends_first(b'\'', text) && !has_blank(text))
+}
+
+/// Whether a text has an opening bracket.
+fn has_bracket(text: &[u8]) -> bool
+    ensures { result ≡ list_any (λ c. c == 91) text.now }
+{
+    text.iter().any(|byte| *byte == b'[')
+}
+
+/// Whether a text has an opening brace.
+fn has_brace(text: &[u8]) -> bool
+    ensures { result ≡ list_any (λ c. c == 123) text.now }
+{
+    text.iter().any(|byte| *byte == b'{')
+}
+
+/// Whether a text ends with a bracket or a brace, and has none that opens it.
+fn is_unopened(text: &[u8]) -> bool
+    ensures { result ≡ is_unopened text.now }
+{
+    (text.ends_with(b"]") && !has_bracket(text)) || (text.ends_with(b"}") && !has_brace(text))
+}
+
 /// Whether a byte is a stop or a comma.
 fn is_mark(byte: u8) -> bool
     ensures { result ≡ is_mark byte }
@@ -269,6 +360,51 @@ pub(crate) fn is_listed(source: &[u8], text: &[u8]) -> bool
     is_item(text, after_breaks(apart(source, text)))
 }
 
+/// Whether a plain scalar, whose text is read from this source, has two lines, each of one word.
+pub(crate) fn is_joined(source: &[u8], text: &[u8]) -> bool
+    ensures { result ≡ is_joined source.now text.now }
+{
+    let rest = apart(source, text);
+    let len = text.len().saturating_sub(rest.len());
+    let first = text.get(..len).unwrap_or(&[]);
+    let is_parted = !rest.is_empty() && !first.is_empty();
+    is_parted && !has_blank(first) && !has_blank(after_breaks(rest))
+}
+
+/// Whether a colon, a space and `#/` follow a text in its source.
+pub(crate) fn is_pointer(source: &[u8], text: &[u8]) -> bool
+    ensures { result ≡ is_pointer source.now text.now }
+{
+    let behind = source.get(text.len()..).unwrap_or(&[]);
+    behind.starts_with(b": #/")
+}
+
+/// Whether a colon and a line's end follow a text in its source.
+pub(crate) fn is_below(source: &[u8], text: &[u8]) -> bool
+    ensures { result ≡ is_below source.now text.now }
+{
+    let behind = source.get(text.len()..).unwrap_or(&[]);
+    behind.starts_with(b":\n")
+}
+
+/// Whether a text is a colon and a word.
+fn is_colon_word(text: &[u8]) -> bool
+    ensures { result ≡ is_colon_word text.now }
+{
+    match text.split_first() {
+        Some((first, word)) => *first == b':' && !word.is_empty() && after_word(word).is_empty(),
+        None => false,
+    }
+}
+
+/// Whether a text is two words with a colon between them.
+pub(crate) fn is_word_pair(text: &[u8]) -> bool
+    ensures { result ≡ is_word_pair text.now }
+{
+    let rest = after_word(text);
+    rest.len() != text.len() && is_colon_word(rest)
+}
+
 /// Whether a text begins as a comment of other languages does.
 fn begins_comment(text: &[u8]) -> bool
     ensures { result ≡ begins_comment text.now }
@@ -288,6 +424,23 @@ fn has_quote(text: &[u8]) -> bool
     ensures { result ≡ has_quote text.now }
 {
     text.iter().any(|byte| *byte == b'"')
+}
+
+/// What the value of a key commonly is by a slip.
+fn value_slip(around: Around) -> Option<Slip>
+    ensures { result ≡ value_slip around }
+{
+    if around.has_empty_block {
+        Some(Slip::Empty)
+    } else if around.has_call {
+        Some(Slip::Call)
+    } else if around.has_no_value && around.is_pointer {
+        Some(Slip::Pointer)
+    } else if around.has_pair && around.is_below {
+        Some(Slip::Below)
+    } else {
+        None
+    }
 }
 
 /// What the text of a plain scalar commonly is by a slip.
@@ -315,6 +468,18 @@ pub(crate) fn slip_in(around: Around, text: &str) -> Option<Slip>
         Some(Slip::Space)
     } else if is_marks(bytes) {
         Some(Slip::Marks)
+    } else if around.is_key && around.is_in_flow && around.has_no_value && has_equals(bytes) {
+        Some(Slip::Equals)
+    } else if around.is_key && bytes.ends_with(b":") {
+        Some(Slip::Colon)
+    } else if is_half_quoted(bytes) {
+        Some(Slip::Quote)
+    } else if is_unopened(bytes) {
+        Some(Slip::Bracket)
+    } else if around.is_in_flow && around.is_joined {
+        Some(Slip::Joined)
+    } else if around.is_key {
+        value_slip(around)
     } else {
         None
     }
