@@ -83,11 +83,10 @@ fn put_rejected(
     ensures err { IfErr result (CannotTell bytes.now fault) }
 {
     match fault {
-        Fault::TextTooLong => put_too_long(out, name)?,
-        Fault::OutOfMemory => put_fault_line(out, name, Fault::OutOfMemory)?,
-        fault => put_fault(alloc, out, name, bytes, fault, Form::Line)?,
+        Fault::TextTooLong => Ok(put_too_long(out, name)?),
+        Fault::OutOfMemory => Ok(put_fault_line(out, name, Fault::OutOfMemory)?),
+        fault => put_fault(alloc, out, name, bytes, fault, Form::Line),
     }
-    Ok(())
 }
 
 /// Writes that the JSON of a file would mean something else.
@@ -114,11 +113,10 @@ pub fn put_unshown(
     ensures err { IfErr result (CannotTellNone bytes.now why) }
 {
     match why {
-        Unshown::Rejected(fault) => put_rejected(alloc, out, name, bytes, fault)?,
-        Unshown::NoJson => put_no_json(alloc, out, name, bytes)?,
-        Unshown::Unlike => put_unlike(out, name)?,
+        Unshown::Rejected(fault) => put_rejected(alloc, out, name, bytes, fault),
+        Unshown::NoJson => put_no_json(alloc, out, name, bytes),
+        Unshown::Unlike => Ok(put_unlike(out, name)?),
     }
-    Ok(())
 }
 
 /// Reports why a file is not shown, and answers the status.
