@@ -145,7 +145,7 @@ fn listed_text(
         shown: lines_shown(alloc, page, asked.left, left, asked.right, right)?,
         left_out: listed.left_out,
     })?;
-    Ok(parts_text(alloc, asked, page, parts)?)
+    parts_text(alloc, asked, page, parts)
 }
 
 /// The same as `diff`, of which the list of differences is written as a page.
