@@ -44,6 +44,7 @@ WRONG = (
     *("tools/release", "tools/release --source folder", "tools/release --try", "tools/release --try /no/such/folder"),
     *("tools/release --try --gate log folder", "tools/release --try --key key folder", "tools/release a b"),
     "tools/links /no/such/folder",
+    "tools/memory --list no_such_crate",
     "tools/plain no-such-page.md",
     *("tools/pages", "tools/pages --check no-such-page.md", "tools/pages --check --write"),
     *("bench/report no-such-part", "bench/hostile no-such-shape", "bench/hostile --growth no-such-shape"),
