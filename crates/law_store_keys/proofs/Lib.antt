@@ -1,5 +1,2 @@
-pub mod Grounding
-pub mod Building
-pub mod Graphs
 pub mod Repeats
-pub mod Holding
+pub mod Refusals

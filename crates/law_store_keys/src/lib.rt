@@ -1,5 +1,5 @@
-//! Theorems about equal keys, no code: each stream whose aliases can be replaced has a graph, and equal keys of the store are
-//! equal keys of that graph. What `yaml_store_composer` says of equal keys cites them.
+//! Theorems about equal keys, no code. The first equal keys of a store are those of the stream's nodes, as they close; and those are
+//! the keys for which the ranks of the stream's graph are refused.
 #![tactic(auto)]
 
 pub mod laws;

@@ -10,15 +10,13 @@ use Rattle.yaml_definitions.specs.model.Serial.{Document}
 use Rattle.yaml_text.specs.declared.fault.Fault.{Fault}
 use Rattle.yaml_text.specs.declared.fault.Fault.TheVariants as faults
 use Rattle.yaml_definitions.proofs.Law.{texts_tell}
-use Rattle.yaml_graph.specs.GraphView.{nodes_of, graph_trees}
-use Rattle.yaml_rank.specs.RanksView.{RefusesGraph}
-use Rattle.yaml_rank.proofs.Standing.{keyed-none}
+use Rattle.yaml_tree.specs.Closing.{stream_trees}
 use Rattle.yaml_text.specs.declared.side.Side.{Side}
 use Rattle.yaml_text.specs.declared.side.Side.TheVariants.{Left, Right}
-use Rattle.yaml_canon.specs.Claims.{AllOf, IsRead}
-use Rattle.yaml_canon.specs.Comparing.{Compares, ComparerRefuses, HasEqualKeys, side_of_fault}
+use Rattle.yaml_canon.specs.Claims.{IsRead}
+use Rattle.yaml_canon.specs.Comparing.{Compares, ComparerRefuses, HasEqualKeys}
 use Rattle.yaml_canon.specs.Accepting.{IsSpelling, IsMemory, TellsTexts}
-use Rattle.yaml_canon.proofs.AcceptLaws.{all-append, keyed-at, nodes-keyed, memory, spelling-means}
+use Rattle.yaml_canon.proofs.AcceptLaws.{all-append, keyed-none, nodes-keyed, memory, spelling-means}
 
 abbrev Answer : Type 0
 Answer = Result Bool (Side × Fault)
@@ -29,17 +27,11 @@ Tells r f g = MatchResult r (λ answer. (answer ≡ true) ↔ Alike f g) (λ ref
 
 module _ (left right : List ℕ) (f g : List Tree) (a : Admitted f) (b : Admitted g) (m : Means left f) (n : Means right g) where
   no-equal-keys : (ds es : List Document) (side : Side) (k i j : ℕ) → IsRead left ds → IsRead right es → HasEqualKeys ds es side (faults.EqualKeys k i j) → ⊥
-  no-equal-keys ds es side k i j p q h = by h.refused h.refuses h.told
-    where
-      keyed-nodes : AllOf Keyed (graph_trees h.both)
-      keyed-nodes =
-          subst (AllOf Keyed) (sym h.joined.trees)
-          (all-append Keyed (graph_trees h.first_graph) (graph_trees h.second_graph) (nodes-keyed left f a m ds h.first_graph p h.first_composed) (nodes-keyed right g b n es h.second_graph q h.second_composed))
-
-      by : (fault : Fault) → RefusesGraph h.both fault → (side, faults.EqualKeys k i j) ≡ side_of_fault (length (nodes_of h.first_graph)) fault → ⊥
-      by (faults.EqualKeys x y z) r e = keyed-none h.both x y z (keyed-at (graph_trees h.both) x keyed-nodes) r.0.is
-      by faults.OutOfMemory r e = let q : faults.EqualKeys k i j ≡ faults.OutOfMemory = ap (λ z. z.1) e in cc
-      by _ r e = r
+  no-equal-keys ds es side k i j p q h =
+      let both = h.equal in
+      let lefts = stream_trees ds both.lefts in
+      let rights = stream_trees es both.rights in
+      keyed-none (lefts ++ rights) h.node h.i h.j (all-append Keyed lefts rights (nodes-keyed left f a m ds both.lefts p both.first_unfolded) (nodes-keyed right g b n es both.rights q both.second_unfolded)) both.repeats
 
   -- whatever `same` may refuse of these sides is want of memory
   pub both-memory : (side : Side) (fault : Fault) → ComparerRefuses left right side fault → IsMemory fault

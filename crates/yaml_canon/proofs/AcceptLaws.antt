@@ -21,13 +21,10 @@ use Rattle.yaml_definitions.proofs.FlatLaws.{stream_once}
 use Rattle.law_one_reading.proofs.Documents.{one_reading}
 use Rattle.law_read_back.specs.Spellings.{MeansLike}
 use Rattle.law_read_back.proofs.Meanings.{spellings_mean, blocks_mean}
-use Rattle.yaml_tree.specs.TreeLists.{tree_at}
-use Rattle.yaml_graph.specs.GraphView.{graph_trees}
 use Rattle.yaml_tree.specs.Closing.{trees_inside, trees_inside_all, trees_inside_pairs, stream_trees}
 use Rattle.yaml_tree.specs.Refused.{RefusesStream}
-use Rattle.yaml_graph.specs.Composed.{Composed}
-use Rattle.yaml_graph.specs.declared.graph.Graph.{Graph}
-use Rattle.yaml_rank.proofs.Standing.{keyed-none}
+use Rattle.yaml_tree.specs.FirstRepeat.{IsFirstRepeat}
+use Rattle.yaml_tree.proofs.FirstRepeats.{tree-none}
 use Rattle.yaml_canon.specs.Claims.{AllOf, IsCanonicalText, IsRead, CanonicalRefuses}
 use Rattle.yaml_canon.specs.Accepting.{IsSpelling, IsMemory, SpellingsAreAccepted, SpellingsHaveTheText}
 
@@ -75,10 +72,14 @@ keyed-stream [] ts k = tt
 keyed-stream (d ∷ ds) [] k = tt
 keyed-stream (d ∷ ds) (t ∷ ts) k = all-append Keyed (trees_inside d.root t) (stream_trees ds ts) (keyed-node d.root t k.0) (keyed-stream ds ts k.1)
 
-pub keyed-at : (ts : List Tree) (i : ℕ) → AllOf Keyed ts → keyed (tree_at ts i) ≡ true
-keyed-at [] i k = refl
-keyed-at (t ∷ ts) zero k = k.0
-keyed-at (t ∷ ts) (suc i) k = keyed-at ts i k.1
+keyed-at : (ts : List Tree) (i : ℕ) (u : Tree) → AllOf Keyed ts → slice_get ts i ≡ Some u → keyed u ≡ true
+keyed-at [] i u k e = absurd (cc)
+keyed-at (t ∷ ts) zero u k e = let q : t ≡ u = cc in subst (λ z. keyed z ≡ true) q k.0
+keyed-at (t ∷ ts) (suc i) u k e = keyed-at ts i u k.1 e
+
+-- none of them is the first with equal keys
+pub keyed-none : (ts : List Tree) (n i j : ℕ) → AllOf Keyed ts → IsFirstRepeat ts n i j → ⊥
+keyed-none ts n i j k h = tree-none h.tree i j (keyed-at ts n h.tree k h.is) h.repeats
 
 all-keyed : (f : List Tree) → AreAdmitted f → AllOf Keyed f
 all-keyed [] a = tt
@@ -119,10 +120,8 @@ module _ (bytes : List ℕ) (f : List Tree) (a : Admitted f) (m : Means bytes f)
   composing ds faults.OutOfMemory r h = refl
   composing ds _ r h = absurd h
 
-  pub nodes-keyed : (ds : List Document) (g : Graph) → IsRead bytes ds → Composed ds g → AllOf Keyed (graph_trees g)
-  nodes-keyed ds g r c =
-      let q : f ≡ c.trees = same-trees f c.trees ds (unfolds ds r) c.unfolded in
-      subst (AllOf Keyed) (sym c.nodes) (keyed-stream ds c.trees (subst (AllOf Keyed) q (all-keyed f a.trees)))
+  pub nodes-keyed : (ds : List Document) (ts : List Tree) → IsRead bytes ds → trees_of ds ≡ Ok ts → AllOf Keyed (stream_trees ds ts)
+  nodes-keyed ds ts r u = keyed-stream ds ts (subst (AllOf Keyed) (same-trees f ts ds (unfolds ds r) u) (all-keyed f a.trees))
 
   no-refused-text : (fault : Fault) → RefusesText bytes fault → ⊥
   unfolding Reads
@@ -148,7 +147,7 @@ module _ (bytes : List ℕ) (f : List Tree) (a : Admitted f) (m : Means bytes f)
   memory (faults.IntRange e) (ds, r, h) = composing ds (faults.IntRange e) r h
   memory (faults.FloatRange e) (ds, r, h) = composing ds (faults.FloatRange e) r h
   memory (faults.TooHigh n) (ds, r, h) = composing ds (faults.TooHigh n) r h
-  memory (faults.EqualKeys n i j) (ds, g, r, c, h) = absurd (keyed-none g n i j (keyed-at (graph_trees g) n (nodes-keyed ds g r c)) h.0.is)
+  memory (faults.EqualKeys n i j) (ds, ts, r, u, l, h) = absurd (keyed-none (stream_trees ds ts) n i j (nodes-keyed ds ts r u) h)
   memory faults.TextTooLong (g, k, l) =
       let fits : length (spell_bytes g) ≤ text_limit = subst (λ z. length (spell_bytes z) ≤ text_limit) (k.only f m) a.fits in
       absurd (omega (arith, l, fits))

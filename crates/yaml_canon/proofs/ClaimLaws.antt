@@ -31,11 +31,8 @@ use Rattle.law_length.proofs.Contents.{tag_light}
 use Rattle.law_length.proofs.Numbers.{text_light}
 use Rattle.law_length.proofs.Forests.{meaning_bounded}
 use Rattle.yaml_tree.specs.TreeLists.{tree_at}
-use Rattle.yaml_graph.specs.GraphView.{nodes_of, roots_of, graph_trees, tree, forest}
 use Rattle.yaml_tree.specs.Refused.{RefusesStream}
-use Rattle.yaml_graph.specs.Composed.{Composed}
 use Rattle.yaml_tree.specs.declared.node.NodeId.{NodeId}
-use Rattle.yaml_graph.specs.declared.graph.Graph.{Graph}
 use Rattle.yaml_spell.specs.Pieces.{Began, Puts, Fails}
 use Rattle.yaml_spell.specs.Documents.{spell_more, arranged_more, arranged_bytes, RefusesArranged}
 use Rattle.yaml_store_rank.specs.Walked.{walked_tree}
@@ -60,10 +57,6 @@ module _ {S T : Type 0} (bytes : T → List ℕ) where
 
 -- ---- documents
 
--- what the bytes mean
-pub means : (bytes : List ℕ) (ds : List Document) (g : Graph) → IsRead bytes ds → Composed ds g → Means bytes (forest g)
-means bytes ds g r c = record { events = stream_events ds; reads = r.reads; stands = record { documents = ds; cut = refl; unfolded = c.unfolded ∙ ap Ok (sym c.roots) } }
-
 pub all_of : (P : Tree → Type 0) (f : List Tree) → All P f → AllOf P f
 all_of P [] h = tt
 all_of P (t ∷ f) h = (h 0 t (omega arith), all_of P f (λ k d l. h (suc k) d (omega arith)))
@@ -75,12 +68,6 @@ all_roots P ts (r ∷ roots) n h w = (h r.0 (w 0 r (omega arith)), all_roots P t
 -- it is all that they mean
 pub means_alone : (bytes : List ℕ) (f : List Tree) → Means bytes f → AllOf (λ t. height t ≤ height_limit) f → AllOf Keyed f → MeansAlone bytes f
 means_alone bytes f m l k = record { means = m; only = λ h n. one_meaning bytes h f n m; low = l; keyed = k }
-
-pub accepted : (bytes : List ℕ) (ds : List Document) (g : Graph) → IsRead bytes ds → Composed ds g → ((i : ℕ) → i < length (nodes_of g) → Keyed (tree g i)) → MeansAlone bytes (forest g)
-accepted bytes ds g r c k =
-    means_alone bytes (forest g) (means bytes ds g r c)
-    (subst (AllOf (λ t. height t ≤ height_limit)) (sym c.roots) (all_of (λ t. height t ≤ height_limit) c.trees c.low))
-    (all_roots Keyed (graph_trees g) (roots_of g) (length (nodes_of g)) k g.rooted)
 
 -- bytes that mean a forest are a text
 pub is_text : (bytes : List ℕ) (f : List Tree) → Means bytes f → ((cs : List ℕ) → Text bytes cs → ⊥) → ⊥

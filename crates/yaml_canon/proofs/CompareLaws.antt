@@ -1,42 +1,30 @@
--- Joined graphs, and what is told of two sides.
-use Rattle.std.proofs.Common.{◌≡◌, ℕ, zero, suc, ◌+◌, ◌-◌, ◌<◌, ◌≤◌, Bool, true, false, cond, ◌&&◌, List, [], ◌∷◌, ◌++◌, length, map, take, drop, get_or, refl, sym, ◌∙◌, ap, subst, arith, get_or-take}
-use Rattle.std.specs.Prelude.{Result, Ok, Err, IfOk, IfErr, nat_le}
-use Rattle.std.specs.List.{All}
-use Rattle.std.specs.Cmp.Lexicographic.{pointwise}
-use Rattle.std.proofs.Math.Seq.{drop-append_seam, take-append_seam}
+-- What is told of two sides.
+use Rattle.std.proofs.Common.{◌≡◌, ℕ, ◌-◌, Bool, true, false, cond, List, length, refl, sym, subst}
+use Rattle.std.specs.Prelude.{nat_le}
 use Rattle.yaml_definitions.specs.model.Serial.{Document}
 use Rattle.yaml_text.specs.declared.fault.Fault.{Fault}
 use Rattle.yaml_text.specs.declared.fault.Fault.TheVariants as faults
-use Rattle.yaml_graph.specs.GraphView.{nodes_of}
-use Rattle.yaml_graph.specs.JoinModel.{Joined}
+use Rattle.yaml_tree.specs.Closing.{stream_trees}
 use Rattle.yaml_tree.specs.Refused.{RefusesStream}
-use Rattle.yaml_graph.specs.Composed.{Composed}
-use Rattle.yaml_tree.specs.declared.node.NodeId.{NodeId}
-use Rattle.yaml_graph.specs.declared.graph.Graph.{Graph}
-use Rattle.yaml_rank.specs.RanksView.{RefusesGraph}
-use Rattle.yaml_rank.specs.declared.ranks.Ranks.{Ranks}
 use Rattle.yaml_text.specs.declared.side.Side.{Side}
 use Rattle.yaml_text.specs.declared.side.Side.TheVariants.{Left, Right}
 use Rattle.yaml_canon.specs.Claims.{IsRead, GraphRefuses}
-use Rattle.yaml_canon.specs.Comparing.{side_of_fault, RefusesDocuments, IsComposed, ComparerRefuses}
+use Rattle.yaml_canon.specs.Comparing.{AreEqualInBoth, side_of_fault, RefusesDocuments, IsComposed, ComparerRefuses}
 
--- ---- a joined graph
+-- ---- equal keys
 
 abbrev side_of : Bool → ℕ → ℕ → ℕ → ℕ → Side × Fault
 side_of s n i k m = cond s (Right, faults.EqualKeys n i k) (Left, faults.EqualKeys m i k)
 
-module _ (a b both : Graph) (j : Joined a b both) where
-  pub joined-refused : (ds es : List Document) (fault : Fault) (told : Side × Fault) → Composed ds a → Composed es b → RefusesGraph both fault → told ≡ side_of_fault (length (nodes_of a)) fault → RefusesDocuments ds es told.0 told.1
-  joined-refused ds es fault told c d h e = subst (λ z. RefusesDocuments ds es z.0 z.1) (sym e) (by fault h)
-    where
-      keys : (refused : Fault) (s : Bool) (n i k m : ℕ) → RefusesGraph both refused → side_of_fault (length (nodes_of a)) refused ≡ side_of s n i k m → RefusesDocuments ds es (side_of s n i k m).0 (side_of s n i k m).1
-      keys refused true n i k m w q = record { first_graph = a; second_graph = b; both = both; first_composed = c; second_composed = d; joined = j; refused = refused; refuses = w; told = sym q }
-      keys refused false n i k m w q = record { first_graph = a; second_graph = b; both = both; first_composed = c; second_composed = d; joined = j; refused = refused; refuses = w; told = sym q }
+pub keys-refused : (ds es : List Document) (node i j : ℕ) (told : Side × Fault) (h : AreEqualInBoth ds es node i j) → told ≡ side_of_fault (length (stream_trees ds h.lefts)) (faults.EqualKeys node i j) → RefusesDocuments ds es told.0 told.1
+keys-refused ds es node i j told h e = subst (λ z. RefusesDocuments ds es z.0 z.1) (sym e) (by (nat_le nodes node) (node - nodes) i j node refl)
+  where
+    abbrev nodes : ℕ
+    nodes = length (stream_trees ds h.lefts)
 
-      by : (z : Fault) → RefusesGraph both z → RefusesDocuments ds es (side_of_fault (length (nodes_of a)) z).0 (side_of_fault (length (nodes_of a)) z).1
-      by (faults.EqualKeys n i k) w = keys (faults.EqualKeys n i k) (nat_le (length (nodes_of a)) n) (n - length (nodes_of a)) i k n w refl
-      by faults.OutOfMemory w = tt
-      by _ w = absurd w
+    by : (s : Bool) (n k l m : ℕ) → side_of_fault nodes (faults.EqualKeys node i j) ≡ side_of s n k l m → RefusesDocuments ds es (side_of s n k l m).0 (side_of s n k l m).1
+    by true n k l m q = record { node = node; i = i; j = j; equal = h; told = sym q }
+    by false n k l m q = record { node = node; i = i; j = j; equal = h; told = sym q }
 
 -- ---- two sides
 

@@ -16,7 +16,6 @@ use Rattle.yaml_text.specs.declared.counted.Counted.{Counted}
 use Rattle.yaml_text.specs.declared.fault.Fault.{Fault}
 use Rattle.yaml_text.specs.declared.fault.Fault.TheVariants as faults
 use Rattle.yaml_tree.specs.Refused.{RefusesStream}
-use Rattle.yaml_graph.specs.declared.graph.Graph.{Graph}
 use Rattle.yaml_canon.specs.Comparing.{RefusesDocuments}
 use Rattle.yaml_spell.specs.Documents.{RefusesArranged}
 use Rattle.yaml_text.specs.Gathering.{Gathers, GatherFails}

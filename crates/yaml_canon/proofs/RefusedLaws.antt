@@ -58,6 +58,6 @@ no-forest bytes fault h = record { refused = refused_graph bytes fault h.refused
 
 -- nodes without ranks, once the bytes are read as these documents
 pub not-ranked : (bytes : List ℕ) (ds : List Document) (fault : Fault) → IsRead bytes ds → RefusesRanks ds fault → Refuses CanonicalRefuses bytes fault
-not-ranked bytes ds (faults.EqualKeys node i j) r h = record { refused = (ds, h.graph, r, h.composed, h.refuses); placed = tt; no_text = λ never. absurd (read-text bytes ds r never) }
+not-ranked bytes ds (faults.EqualKeys node i j) r h = record { refused = (ds, h.trees, r, h.unfolded, h.low, h.repeats); placed = tt; no_text = λ never. absurd (read-text bytes ds r never) }
 not-ranked bytes ds faults.OutOfMemory r h = record { refused = tt; placed = tt; no_text = λ never. absurd (read-text bytes ds r never) }
 not-ranked bytes ds _ r h = absurd h

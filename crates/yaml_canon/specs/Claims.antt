@@ -1,5 +1,5 @@
 -- What `canonical` promises.
-use Rattle.std.specs.Prelude.{◌≡◌, ◌↔◌, ◌<◌, ◌≤◌, ◌+◌, ◌*◌, ℕ, List, [], ◌∷◌, length}
+use Rattle.std.specs.Prelude.{◌≡◌, ◌↔◌, ◌<◌, ◌≤◌, ◌+◌, ◌*◌, ℕ, List, [], ◌∷◌, length, Ok}
 use Rattle.yaml_definitions.specs.model.Event.{Event}
 use Rattle.yaml_definitions.specs.model.Limits.{text_limit, height_limit}
 use Rattle.yaml_definitions.specs.model.Tree.{Tree, height}
@@ -9,6 +9,7 @@ use Rattle.yaml_definitions.specs.canonical.Spell.{spell_bytes}
 use Rattle.yaml_definitions.specs.model.Proper.{Admitted}
 use Rattle.yaml_definitions.specs.model.Means.{Means}
 use Rattle.yaml_definitions.specs.model.Serial.{Document, stream_events}
+use Rattle.yaml_definitions.specs.model.Unfold.{trees_of}
 use Rattle.yaml_definitions.specs.grammar.Reading.{Reads}
 use Rattle.yaml_text.specs.Refused.{RefusesText}
 use Rattle.yaml_text.specs.declared.fault.Fault.{Fault}
@@ -16,9 +17,9 @@ use Rattle.yaml_text.specs.declared.fault.Fault.TheVariants.{TooLong, NotUtf8, N
 use Rattle.law_length.specs.Sizes.{texts_bytes}
 use Rattle.yaml_text.specs.Unread.{IsNoStream}
 use Rattle.yaml_tree.specs.Refused.{RefusesStream}
-use Rattle.yaml_graph.specs.Composed.{Composed}
-use Rattle.yaml_graph.specs.declared.graph.Graph.{Graph}
-use Rattle.yaml_rank.specs.RanksView.{RefusesGraph}
+use Rattle.yaml_tree.specs.TreeLists.{AreLow}
+use Rattle.yaml_tree.specs.Closing.{stream_trees}
+use Rattle.yaml_tree.specs.FirstRepeat.{IsFirstRepeat}
 use Rattle.yaml_spell.specs.Documents.{arranged_bytes}
 
 -- each of these trees
@@ -56,6 +57,10 @@ pub record IsRead (bytes : List ℕ) (ds : List Document) : Type 0 where
 abbrev pub RefusedComposing : List ℕ → Fault → Type 0
 RefusedComposing bytes fault = (ds : List Document) × IsRead bytes ds × RefusesStream ds fault
 
+-- The bytes are read as documents that unfold, with no tree too high, and of their nodes' trees, in the order in which they close, this is the first mapping with two equal keys, at these two entries first.
+abbrev pub RefusedKeys : List ℕ → ℕ → ℕ → ℕ → Type 0
+RefusedKeys bytes node first second = (ds : List Document) × (ts : List Tree) × IsRead bytes ds × (trees_of ds ≡ Ok ts) × AreLow ts × IsFirstRepeat (stream_trees ds ts) node first second
+
 -- What a refusal by `canonical` says of the bytes. Eight faults mean that it is no stream; which of them is told, and where, is not claimed.
 abbrev pub CanonicalRefuses : List ℕ → Fault → Type 0
 CanonicalRefuses bytes TooLong = RefusesText bytes TooLong
@@ -76,7 +81,7 @@ CanonicalRefuses bytes (BadContent event) = RefusedComposing bytes (BadContent e
 CanonicalRefuses bytes (IntRange event) = RefusedComposing bytes (IntRange event)
 CanonicalRefuses bytes (FloatRange event) = RefusedComposing bytes (FloatRange event)
 CanonicalRefuses bytes (TooHigh document) = RefusedComposing bytes (TooHigh document)
-CanonicalRefuses bytes (EqualKeys node first second) = (ds : List Document) × (g : Graph) × IsRead bytes ds × Composed ds g × RefusesGraph g (EqualKeys node first second)
+CanonicalRefuses bytes (EqualKeys node first second) = RefusedKeys bytes node first second
 CanonicalRefuses bytes TextTooLong = (f : List Tree) × MeansAlone bytes f × (text_limit < length (spell_bytes f))
 CanonicalRefuses bytes OutOfMemory = Unit {0}
 CanonicalRefuses bytes _ = ⊥

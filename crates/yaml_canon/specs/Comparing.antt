@@ -1,16 +1,15 @@
 -- What `same` promises.
-use Rattle.std.specs.Prelude.{◌≡◌, ◌↔◌, ◌-◌, ℕ, Bool, true, cond, nat_le, List, length}
+use Rattle.std.specs.Prelude.{◌≡◌, ◌↔◌, ◌-◌, ℕ, Bool, true, cond, nat_le, List, ◌++◌, length, Ok}
 use Rattle.yaml_definitions.specs.model.Same.{Alike}
 use Rattle.yaml_definitions.specs.model.Tree.{Tree}
 use Rattle.yaml_definitions.specs.model.Serial.{Document}
+use Rattle.yaml_definitions.specs.model.Unfold.{trees_of}
 use Rattle.yaml_text.specs.declared.fault.Fault.{Fault}
 use Rattle.yaml_text.specs.declared.fault.Fault.TheVariants.{EqualKeys, TextTooLong}
 use Rattle.yaml_tree.specs.Refused.{RefusesStream}
-use Rattle.yaml_graph.specs.Composed.{Composed}
-use Rattle.yaml_graph.specs.GraphView.{nodes_of}
-use Rattle.yaml_graph.specs.JoinModel.{Joined}
-use Rattle.yaml_graph.specs.declared.graph.Graph.{Graph}
-use Rattle.yaml_rank.specs.RanksView.{RefusesGraph}
+use Rattle.yaml_tree.specs.TreeLists.{AreLow}
+use Rattle.yaml_tree.specs.Closing.{stream_trees}
+use Rattle.yaml_tree.specs.FirstRepeat.{IsFirstRepeat}
 use Rattle.yaml_text.specs.declared.side.Side.{Side}
 use Rattle.yaml_text.specs.declared.side.Side.TheVariants.{Left, Right}
 use Rattle.yaml_canon.specs.Claims.{MeansAlone, IsRead, CanonicalRefuses}
@@ -28,21 +27,27 @@ abbrev pub side_of_fault : ℕ → Fault → Side × Fault
 side_of_fault nodes (EqualKeys node i j) = cond (nat_le nodes node) (Right, EqualKeys (node - nodes) i j) (Left, EqualKeys node i j)
 side_of_fault nodes fault = (Left, fault)
 
--- Of all mappings of both sides' documents this one, told with its number on its side, is the first with two equal keys.
-pub record HasEqualKeys (first second : List Document) (side : Side) (fault : Fault) : Type 0 where
-  pub first_graph : Graph
-  pub second_graph : Graph
-  pub both : Graph
-  pub first_composed : Composed first first_graph
-  pub second_composed : Composed second second_graph
-  pub joined : Joined first_graph second_graph both
-  pub refused : Fault
-  pub refuses : RefusesGraph both refused
-  pub told : (side, fault) ≡ side_of_fault (length (nodes_of first_graph)) refused
+-- The documents of both sides unfold, with no tree too high. Of the trees of all their nodes, those of the left side before those of the right one, this is the first mapping with two equal keys, at these two entries first.
+pub record AreEqualInBoth (first second : List Document) (node i j : ℕ) : Type 0 where
+  pub lefts : List Tree
+  pub rights : List Tree
+  pub first_unfolded : trees_of first ≡ Ok lefts
+  pub second_unfolded : trees_of second ≡ Ok rights
+  pub first_low : AreLow lefts
+  pub second_low : AreLow rights
+  pub repeats : IsFirstRepeat (stream_trees first lefts ++ stream_trees second rights) node i j
 
--- the documents have a graph
+-- Such a mapping of both sides is told, with its number on its side.
+pub record HasEqualKeys (first second : List Document) (side : Side) (fault : Fault) : Type 0 where
+  pub node : ℕ
+  pub i : ℕ
+  pub j : ℕ
+  pub equal : AreEqualInBoth first second node i j
+  pub told : (side, fault) ≡ side_of_fault (length (stream_trees first equal.lefts)) (EqualKeys node i j)
+
+-- the documents unfold, and no tree is too high
 abbrev pub IsComposable : List Document → Type 0
-IsComposable ds = (g : Graph) × Composed ds g
+IsComposable ds = (ts : List Tree) × (trees_of ds ≡ Ok ts) × AreLow ts
 
 -- why the documents of two sides are not compared
 abbrev pub RefusesDocuments : List Document → List Document → Side → Fault → Type 0

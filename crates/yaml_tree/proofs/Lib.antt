@@ -14,3 +14,4 @@ pub mod TagLaws
 pub mod LevelsLaws
 pub mod NumberLaws
 pub mod Repeats
+pub mod FirstRepeats

@@ -12,5 +12,6 @@ pub mod Tags
 pub mod Places
 pub mod Levels
 pub mod Keys
+pub mod FirstRepeat
 pub mod Numbers
 pub mod Shown

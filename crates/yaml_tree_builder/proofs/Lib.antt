@@ -8,6 +8,5 @@ pub mod NodeLaws
 pub mod KeyLaws
 pub mod RefusalLaws
 pub mod JudgedLaws
-pub mod HoldableLaws
 mod HighLaws
 mod FirstsLaws

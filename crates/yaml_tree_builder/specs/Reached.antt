@@ -5,9 +5,7 @@ use Rattle.yaml_definitions.specs.model.Event.{Event}
 use Rattle.yaml_definitions.specs.model.Serial.{Document, stream_events}
 use Rattle.yaml_definitions.specs.model.Unfold.{trees_of}
 use Rattle.yaml_tree.specs.Closing.{stream_trees}
-use Rattle.yaml_graph.specs.Composed.{Composed}
 use Rattle.yaml_tree.specs.TreeLists.{AreLow}
-use Rattle.yaml_graph.specs.declared.graph.Graph.{Graph}
 use Rattle.yaml_tree.specs.ComposerSteps.{State, initial_state, steps}
 use Rattle.yaml_tree_builder.specs.declared.size.StreamSize.{StreamSize}
 
@@ -22,14 +20,13 @@ StreamIsForest = (ds : List Document) (t : State) → Reaches (stream_events ds)
 abbrev pub StreamCloses : Type 0
 StreamCloses = (ds : List Document) (t : State) → Reaches (stream_events ds) initial_state t → t.done ≡ stream_trees ds t.inner
 
--- The documents unfold to so many trees, none of which is too high, and have so many nodes and a graph.
+-- The documents unfold to so many trees, none of which is too high, and have so many nodes.
 pub record UnfoldTo (ds : List Document) (size : StreamSize) : Type 0 where
   pub trees_are : List Tree
   pub unfolded : trees_of ds ≡ Ok trees_are
   pub low : AreLow trees_are
   pub documents : size.documents ≡ length trees_are
   pub nodes : size.nodes ≡ length (stream_trees ds trees_are)
-  pub graph : (g : Graph) × Composed ds g
 
 -- The documents of two streams unfold to these trees, those of the first stream before those of the second, and their nodes to those, as they close.
 pub record UnfoldBoth (ds es : List Document) (ts closed : List Tree) : Type 0 where
