@@ -1,5 +1,5 @@
-//! Theorems about equal keys, no code. The first equal keys of a store are those of the stream's nodes, as they close; and those are
-//! the keys for which the ranks of the stream's graph are refused.
+//! Theorems about equal keys, no code: the first equal keys of a store are those of the stream's nodes, as they close, and the ranks of
+//! the stream's graph are refused for exactly these.
 #![tactic(auto)]
 
 pub mod laws;

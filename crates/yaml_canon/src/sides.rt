@@ -5,8 +5,8 @@ ghost use Rattle.yaml_canon.specs.Comparing.{side_of_fault};
 use yaml_text::Side;
 use yaml_text::fault::Fault;
 
-/// The side of a fault of the joined graph, of which so many nodes are the left side's. A mapping
-/// with equal keys has its number in its own side's graph.
+/// The side of a fault of both sides' nodes, of which so many are the left side's. A mapping with
+/// equal keys has its number among its own side's nodes.
 pub fn with_side(nodes: usize, fault: Fault) -> (Side, Fault)
     ensures { result ≡ side_of_fault nodes fault }
 {

@@ -253,11 +253,12 @@ def page_of(statement: Statement, definitions: str) -> str:
     said = [line.removeprefix("///").strip() for line in statement.contract.lines if line.startswith("///")]
     names = untied(definitions)
     loose = [it for it in defined if names & {os.path.basename(it.path).removesuffix(".antt"), *it.names}]
+    types = f"{len(statement.types)} type{'s' if len(statement.types) > 1 else ''} of the code"
     head = [
         f"# What `{call}` promises",
         *INTRODUCTION.format(call=call).splitlines(),
         "",
-        f"{count_of(defined)} definitions and {len(statement.types)} types of the code in {total + len(contract)} lines, {comments} of them comments: those of all clauses."
+        f"{count_of(defined)} definitions and {types} in {total + len(contract)} lines, {comments} of them comments: those of all clauses."
         f" No theorem constrains {count_of(loose)} of the definitions: [DEFINITIONS.md](DEFINITIONS.md#definitions-that-no-theorem-constrains)"
         " says which tests do.",
         "## The contract",
