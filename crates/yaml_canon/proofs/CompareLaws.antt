@@ -17,12 +17,11 @@ abbrev side_of : Bool → ℕ → ℕ → ℕ → ℕ → Side × Fault
 side_of s n i k m = cond s (Right, faults.EqualKeys n i k) (Left, faults.EqualKeys m i k)
 
 pub keys-refused : (ds es : List Document) (node i j : ℕ) (told : Side × Fault) (h : AreEqualInBoth ds es node i j) → told ≡ side_of_fault (length (stream_trees ds h.lefts)) (faults.EqualKeys node i j) → RefusesDocuments ds es told.0 told.1
-keys-refused ds es node i j told h e = subst (λ z. RefusesDocuments ds es z.0 z.1) (sym e) (by (nat_le nodes node) (node - nodes) i j node refl)
+keys-refused ds es node i j told h e =
+    let nodes = length (stream_trees ds h.lefts) in
+    subst (λ z. RefusesDocuments ds es z.0 z.1) (sym e) (by (nat_le nodes node) (node - nodes) i j node refl)
   where
-    abbrev nodes : ℕ
-    nodes = length (stream_trees ds h.lefts)
-
-    by : (s : Bool) (n k l m : ℕ) → side_of_fault nodes (faults.EqualKeys node i j) ≡ side_of s n k l m → RefusesDocuments ds es (side_of s n k l m).0 (side_of s n k l m).1
+    by : (s : Bool) (n k l m : ℕ) → side_of_fault (length (stream_trees ds h.lefts)) (faults.EqualKeys node i j) ≡ side_of s n k l m → RefusesDocuments ds es (side_of s n k l m).0 (side_of s n k l m).1
     by true n k l m q = record { node = node; i = i; j = j; equal = h; told = sym q }
     by false n k l m q = record { node = node; i = i; j = j; equal = h; told = sym q }
 
