@@ -1,7 +1,6 @@
 -- Two sides that mean admitted forests are compared, or refused for want of memory alone.
-use Rattle.std.proofs.Common.{◌≡◌, ℕ, Bool, true, List, ◌++◌, sym, ◌∙◌, ap, subst}
+use Rattle.std.proofs.Common.{◌≡◌, ℕ, Bool, true, List, ◌++◌, sym, ◌∙◌, subst}
 use Rattle.std.specs.Prelude.{◌↔◌, Result, Ok, Err, IfOk, IfErr, MatchResult}
-use Rattle.std.specs.Result.{IsErrAnd}
 use Rattle.yaml_definitions.specs.model.Tree.{Tree}
 use Rattle.yaml_definitions.specs.model.Same.{Keyed, Alike}
 use Rattle.yaml_definitions.specs.model.Proper.{Admitted}

@@ -1,6 +1,6 @@
 -- From the layers' answers to what is promised of the bytes.
-use Rattle.std.proofs.Common.{◌≡◌, ℕ, suc, ◌+◌, ◌*◌, ◌<◌, ◌≤◌, ◌⊎◌, inl, inr, List, [], ◌∷◌, length, map, refl, sym, ◌∙◌, ap, subst, arith}
-use Rattle.std.specs.Prelude.{Result, Ok, Err, None, IfOk, IfErr, MatchResult}
+use Rattle.std.proofs.Common.{◌≡◌, ℕ, suc, ◌+◌, ◌*◌, ◌<◌, ◌≤◌, ◌⊎◌, List, [], ◌∷◌, length, map, refl, sym, ◌∙◌, ap, subst, arith}
+use Rattle.std.specs.Prelude.{None}
 use Rattle.std.specs.List.{All}
 use Rattle.std.specs.Str.{encode_utf8_all}
 use Rattle.std.proofs.lemmas.List.{append-nil}
@@ -13,14 +13,13 @@ use Rattle.yaml_definitions.specs.canonical.Spell.{spell_bytes}
 use Rattle.yaml_definitions.specs.model.Proper.{AreAdmitted, Admitted}
 use Rattle.yaml_definitions.specs.model.Sound.{AllProper}
 use Rattle.yaml_definitions.specs.model.Means.{Means}
-use Rattle.yaml_definitions.specs.model.Serial.{Document, stream_events}
+use Rattle.yaml_definitions.specs.model.Serial.{Document}
 use Rattle.yaml_definitions.specs.model.Text.{Text}
 use Rattle.yaml_text.specs.Refused.{RefusesText}
 use Rattle.yaml_definitions.specs.grammar.Reading.{Reads}
 use Rattle.yaml_text.specs.LeafAnswer.{IsRefusal}
 use Rattle.yaml_definitions.proofs.MeaningLaws.{meaning_is_proper}
 use Rattle.yaml_definitions.proofs.Law.{texts_tell}
-use Rattle.yaml_text.specs.declared.event.Event as code
 use Rattle.yaml_text.specs.declared.fault.Fault.{Fault}
 use Rattle.yaml_text.specs.declared.fault.Fault.TheVariants as faults
 use Rattle.law_one_reading.proofs.Documents.{one_reading, one_meaning}

@@ -1,6 +1,6 @@
 -- From the places that a reader tells to places of the bytes.
-use Rattle.std.proofs.Common.{◌≡◌, ◌+◌, ℕ, inl, inr, List, drop, ◌∙◌, ap, subst}
-use Rattle.std.specs.Prelude.{Result, Ok, Err, Option, Some, None, IfErr, MatchResult, slice_get}
+use Rattle.std.proofs.Common.{◌≡◌, ◌+◌, ℕ, List, drop, ◌∙◌, ap, subst}
+use Rattle.std.specs.Prelude.{Option, Some, slice_get}
 use Rattle.std.specs.Str.{chars, IsCharBoundary}
 use Rattle.yaml_definitions.specs.grammar.Characters.{s-tab, c-escape, c-directive, c-tag}
 use Rattle.yaml_definitions.specs.model.Limits.{text_limit}
