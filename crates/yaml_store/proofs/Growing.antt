@@ -1,5 +1,5 @@
 -- Lists of nodes with one more at their end.
-use Rattle.std.proofs.Common.{◌≡◌, ◌⊎◌, inl, inr, ℕ, zero, suc, min, ◌+◌, ◌-◌, ◌<◌, ◌≤◌, true, List, [], ◌∷◌, ◌++◌, length, map, take, drop, get_or, refl, sym, ◌∙◌, ap, subst, arith, length-append, length-drop}
+use Rattle.std.proofs.Common.{◌≡◌, ◌⊎◌, inl, inr, ℕ, suc, min, ◌+◌, ◌-◌, ◌<◌, ◌≤◌, true, List, [], ◌∷◌, ◌++◌, length, map, take, drop, get_or, refl, sym, ◌∙◌, ap, subst, arith, length-append, length-drop}
 use Rattle.std.specs.Prelude.{Some}
 use Rattle.std.specs.List.{slice_get, slice_range}
 use Rattle.std.proofs.lemmas.List.{take_all, take-append-le, drop-append-le, drop_at, map-append, length-map, get_or_append_left}
@@ -8,7 +8,7 @@ use Rattle.yaml_definitions.specs.model.Limits.{height_limit}
 use Rattle.yaml_definitions.specs.model.Tree.{Tree, scalar, height}
 use Rattle.yaml_tree.specs.TreeLists.{tree_at, cut}
 use Rattle.yaml_tree.proofs.Lists.{get-end, push-get, get-some}
-use Rattle.yaml_tree.specs.View.{Inside, content, items, entries, items_in, entries_in, InsideBelow, inside_tree}
+use Rattle.yaml_tree.specs.View.{Inside, content, items, entries, InsideBelow, inside_tree}
 use Rattle.yaml_tree.specs.Insides.{Held, held_tree, more_held, trees_held}
 use Rattle.yaml_tree.proofs.InsideLaws.{held-length}
 use Rattle.yaml_tree.proofs.Numbers.{below_or}
@@ -46,22 +46,6 @@ stands-at tags text is es nodes s i n e =
     let ts = trees_stored nodes text is es tags in
     let l = get-within nodes i n e in
     get-there ts i (scalar [] []) (omega (arith, trees-count nodes text is es tags)) ∙ ap Some (stored-made nodes text is es tags s.below i l ∙ (λ z. inside_tree (tree_at ts) (tag_in tags (e z)) (inside_at text is es (e z))))
-
--- ---- how many parts a node has
-
-take-within : {X : Type 0} (n : ℕ) (xs : List X) → length (take n xs) ≤ length xs
-take-within zero xs = omega arith
-take-within (suc n) [] = omega arith
-take-within (suc n) (x ∷ xs) = let l = take-within n xs in omega arith
-
-range-within : {X : Type 0} (xs : List X) (a b : ℕ) → length (slice_range xs a b) ≤ length xs
-range-within xs a b = omega (arith, take-within (b - a) (drop a xs), length-drop a xs)
-
--- no more than its list has
-pub inside-few : (text is : List ℕ) (es : List (ℕ × ℕ)) (p : Place) → (length (items_in (inside_of text is es p)) ≤ length is) × (length (entries_in (inside_of text is es p)) ≤ length es)
-inside-few text is es (Scalar s) = (omega arith, omega arith)
-inside-few text is es (Sequence s) = (range-within is s.start s.end, omega arith)
-inside-few text is es (Mapping s) = (omega arith, range-within es s.start s.end)
 
 module _ (text mt is mi : List ℕ) (es me : List (ℕ × ℕ)) where
   inside-grown : (p : Place) → start_of p ≤ end_of p → end_of p ≤ room_of (length text) (length is) (length es) p → inside_of (text ++ mt) (is ++ mi) (es ++ me) p ≡ inside_of text is es p
