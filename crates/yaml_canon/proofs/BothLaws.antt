@@ -1,6 +1,5 @@
 -- What two streams in one store come to.
 use Rattle.std.proofs.Common.{◌≡◌, ℕ, List, [], ◌∷◌, map, refl, sym, ◌∙◌, ap, subst, length, Ok}
-use Rattle.std.specs.Prelude.{Result, Err, IfOk}
 use Rattle.yaml_definitions.specs.model.Tree.{Tree}
 use Rattle.yaml_definitions.specs.model.Means.{Means}
 use Rattle.yaml_definitions.specs.model.Serial.{Document, stream_events}

@@ -7,7 +7,6 @@ use Rattle.std.proofs.lemmas.List.{append-nil}
 use Rattle.yaml_definitions.specs.model.Event.{Event}
 use Rattle.yaml_definitions.specs.model.Limits.{text_limit, height_limit}
 use Rattle.yaml_definitions.specs.model.Tree.{Tree, height}
-use Rattle.yaml_definitions.specs.model.Order.{arranged}
 use Rattle.yaml_definitions.specs.model.Same.{Keyed}
 use Rattle.yaml_definitions.specs.canonical.Spell.{spell_bytes}
 use Rattle.yaml_definitions.specs.model.Proper.{AreAdmitted, Admitted}

@@ -1,8 +1,7 @@
-use Rattle.std.proofs.Common.{[], sym, ◌∙◌, ap, subst}
+use Rattle.std.proofs.Common.{[], sym, subst}
 use Rattle.yaml_definitions.specs.model.Serial.{stream_events}
 use Rattle.yaml_canon.specs.Refused.{Refuses}
 use Rattle.yaml_canon.specs.Claims.{GraphRefuses}
-use Rattle.yaml_text.specs.declared.side.Side.TheVariants.{Left}
 use Rattle.yaml_canon.proofs.BothLaws.{has-both}
 use Rattle.yaml_canon.proofs.RefusedLaws.{no-memory, not-made}
 use Rattle.yaml_canon.proofs.SideLaws.{left-refused, right-refused, composed-left}
