@@ -17,3 +17,8 @@ pub mod RanksOf
 pub mod RanksView
 mod TagOrder
 pub mod WalkedLaws
+pub mod KeyOrderLaws
+mod OrderLaws
+mod WrittenLaws
+pub mod ForestLaws
+mod ArrangedForests

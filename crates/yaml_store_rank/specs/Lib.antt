@@ -9,3 +9,7 @@ pub mod StoreRanks
 pub mod Refused
 pub mod RanksView
 pub mod Walked
+pub mod Forests
+pub mod KeyOrder
+pub mod Written
+pub mod ArrangedForests
