@@ -8,8 +8,8 @@ ghost use Rattle.yaml_text.specs.declared.fault.Fault.TheVariants.{OutOfMemory};
 ghost use Rattle.yaml_sink.specs.Held.{Keeps, Puts, Alters};
 ghost use Rattle.yaml_sink.specs.PropertyRules.{props_of};
 ghost use Rattle.yaml_sink.specs.SinkModel.{start_of, end_of};
-ghost use Rattle.yaml_tree_builder.specs.Reached.{UnfoldTo};
-ghost use Rattle.yaml_tree_builder.specs.BuilderModel.{IsForest, AreForests};
+ghost use Rattle.yaml_tree_builder.specs.Reached.{UnfoldTo, all_events};
+ghost use Rattle.yaml_tree_builder.specs.BuilderModel.{IsForest, AreForests, AreStreams};
 ghost use Rattle.yaml_store_composer.specs.KeeperModel.{Composes, MakesRoom, CountsOn, DressesOne};
 ghost use Rattle.yaml_tree.specs.Refused.{RefusesStream};
 
@@ -281,10 +281,11 @@ impl<'s> Composing<'s> {
         Ok(documents)
     }
 
-    /// The nodes of a whole stream, or of two.
+    /// The nodes of a whole stream, or of some one behind the other.
     pub fn finish(self) -> Result<Forest<'s>, Fault>
         ensures forest { (ds : List Document) → Composes self.entry (stream_events ds) → IfOk result (IsForest ds) }
         ensures both { (ds es : List Document) → Composes self.entry (stream_events ds ++ stream_events es) → IfOk result (AreForests ds es) }
+        ensures streams { (dss : List (List Document)) → Composes self.entry (all_events dss) → IfOk result (AreStreams dss) }
         ensures refused { (ds : List Document) → Composes self.entry (stream_events ds) → IfErr result (RefusesStream ds) }
     {
         let Composing {

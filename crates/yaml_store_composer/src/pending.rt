@@ -11,8 +11,8 @@ ghost use Rattle.yaml_text.specs.EventModel.{style_of};
 ghost use Rattle.yaml_sink.specs.Held.{Puts, Alters};
 ghost use Rattle.yaml_sink.specs.PropertyRules.{props_of, with_props, dressed};
 ghost use Rattle.yaml_sink.specs.SinkModel.{start_of, end_of};
-ghost use Rattle.yaml_tree_builder.specs.Reached.{UnfoldTo};
-ghost use Rattle.yaml_tree_builder.specs.BuilderModel.{IsForest, AreForests};
+ghost use Rattle.yaml_tree_builder.specs.Reached.{UnfoldTo, all_events};
+ghost use Rattle.yaml_tree_builder.specs.BuilderModel.{IsForest, AreForests, AreStreams};
 ghost use Rattle.yaml_tree_builder.specs.TagModel.{kind_in};
 ghost use Rattle.yaml_store_composer.specs.PendingModel.{settled, Tells, IsPaid, Settles, GoesOn};
 ghost use Rattle.yaml_tree.specs.Refused.{RefusesStream};
@@ -433,6 +433,7 @@ impl<'s> PendingProperties<'s> {
     pub(crate) fn finish(self) -> Result<Forest<'s>, Fault>
         ensures forest { (ds : List Document) → Tells self.entry (stream_events ds) → IfOk result (IsForest ds) }
         ensures both { (ds es : List Document) → Tells self.entry (stream_events ds ++ stream_events es) → IfOk result (AreForests ds es) }
+        ensures streams { (dss : List (List Document)) → Tells self.entry (all_events dss) → IfOk result (AreStreams dss) }
         ensures refused { (ds : List Document) → Tells self.entry (stream_events ds) → IfErr result (RefusesStream ds) }
     {
         let mut pending = self;

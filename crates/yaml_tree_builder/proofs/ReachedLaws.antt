@@ -1,5 +1,5 @@
 -- Events and the states that they come to, where nothing is refused.
-use Rattle.std.proofs.Common.{◌≡◌, ℕ, suc, List, [], ◌∷◌, ◌++◌, refl, sym, ◌∙◌, ap, subst, append-nil, Result, Ok, Err}
+use Rattle.std.proofs.Common.{◌≡◌, ℕ, suc, List, [], ◌∷◌, ◌++◌, refl, sym, ◌∙◌, ap, subst, append-nil, append_assoc, Result, Ok, Err}
 use Rattle.std.specs.Prelude.{Option, None, Some}
 use Rattle.yaml_definitions.specs.model.Tree.{Tree}
 use Rattle.yaml_definitions.specs.model.Event.{Event, stream_start, stream_end, document_start, document_end, sequence_start, sequence_end, mapping_start, mapping_end, scalar_event, alias_event}
@@ -9,7 +9,7 @@ use Rattle.yaml_definitions.specs.model.Unfold.{Outcome, Table, and_then, placed
 use Rattle.yaml_tree.specs.Closing.{stream_trees}
 use Rattle.yaml_tree.specs.ComposerSteps.{State, Open, initial_state, scalar_added, added, collection_begun, step, next, steps}
 use Rattle.yaml_tree.proofs.StepLaws.{comes_to, with_all, run-documents}
-use Rattle.yaml_tree_builder.specs.Reached.{Reaches, StreamIsForest, StreamCloses, TwoStreamsAreForests}
+use Rattle.yaml_tree_builder.specs.Reached.{Reaches, StreamIsForest, StreamCloses, TwoStreamsAreForests, AllUnfold, all_trees, all_closed, all_events, StreamsAreForests}
 
 -- ---- numbers of events
 
@@ -165,3 +165,31 @@ two-streams-are-forests ds es t h =
       is = a.is;
       nodes = a.nodes ∙ ap (λ us. us ++ stream_trees es a.added) (stream-closes ds m b.front);
     }
+
+-- ---- any streams
+
+record AddsAll (dss : List (List Document)) (before after closed more : List Tree) : Type 0 where
+  forests : List (List Tree)
+  unfolded : AllUnfold dss forests
+  is : after ≡ before ++ all_trees forests
+  nodes : more ≡ closed ++ all_closed dss forests
+
+adds-all : (dss : List (List Document)) (s t : State) → Reaches (all_events dss) s t → AddsAll dss s.inner t.inner s.done t.done
+unfolding steps
+adds-all [] s t h =
+    let q : s ≡ t = cc in
+    record { forests = []; unfolded = tt; is = sym (ap (λ z. z.inner) q) ∙ sym (append-nil s.inner); nodes = sym (ap (λ z. z.done) q) ∙ sym (append-nil s.done) }
+adds-all (ds ∷ dss) s t h =
+    let p = reaches-parts (stream_events ds) (all_events dss) s t h in
+    let m = p.middle in
+    let a = adds ds s.inner s.done s.outer s.table m p.front in
+    let r = adds-all dss m t p.back in
+    record {
+      forests = a.added ∷ r.forests;
+      unfolded = (a.unfolded, r.unfolded);
+      is = r.is ∙ (ap (λ z. z ++ all_trees r.forests) a.is ∙ append_assoc s.inner a.added (all_trees r.forests));
+      nodes = r.nodes ∙ (ap (λ z. z ++ all_closed dss r.forests) a.nodes ∙ append_assoc s.done (stream_trees ds a.added) (all_closed dss r.forests));
+    }
+
+pub streams-are-forests : StreamsAreForests
+streams-are-forests dss t h = let a = adds-all dss initial_state t h in record { forests = a.forests; unfolded = a.unfolded; is = a.is; nodes = a.nodes }

@@ -16,7 +16,7 @@ use Rattle.yaml_store.specs.StoreGrows.{tags_of, Good, IsLow, trees_of}
 use Rattle.yaml_store.specs.declared.store.Store.{Store}
 use Rattle.yaml_store.specs.declared.nodes.Collection.{Collection}
 use Rattle.yaml_store.specs.declared.nodes.Collection.TheVariants.{Sequence, Mapping}
-use Rattle.yaml_tree_builder.specs.Reached.{UnfoldBoth}
+use Rattle.yaml_tree_builder.specs.Reached.{UnfoldBoth, UnfoldAll}
 use Rattle.yaml_tree_builder.specs.AnchorsModel.{Names}
 use Rattle.yaml_tree_builder.specs.FirstsModel.{Counted}
 use Rattle.yaml_tree_builder.specs.TagModel.{collection_number, AreCore}
@@ -132,6 +132,18 @@ pub record AreForests (ds es : List Document) (f : Forest) : Type 0 where
   pub trees_are : List Tree
   pub nodes_are : List Tree
   pub unfolded : UnfoldBoth ds es trees_are nodes_are
+  pub low : AreLow trees_are
+  pub good : Good f.store
+  pub level : IsLow f.store
+  pub roots : AllAt (trees_of f.store) f.roots.items trees_are
+  pub numbered : Numbers (trees_of f.store) f.firsts.items nodes_are
+  pub few : length nodes_are < 4294967296
+
+-- the same of the documents of any streams, the roots and nodes of each before those of the next
+pub record AreStreams (dss : List (List Document)) (f : Forest) : Type 0 where
+  pub trees_are : List Tree
+  pub nodes_are : List Tree
+  pub unfolded : UnfoldAll dss trees_are nodes_are
   pub low : AreLow trees_are
   pub good : Good f.store
   pub level : IsLow f.store

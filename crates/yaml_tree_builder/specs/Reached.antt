@@ -1,5 +1,5 @@
 -- What events come to where nothing is refused.
-use Rattle.std.specs.Prelude.{◌≡◌, List, ◌++◌, length, Ok, Some}
+use Rattle.std.specs.Prelude.{◌≡◌, List, [], ◌∷◌, ◌++◌, length, Ok, Some}
 use Rattle.yaml_definitions.specs.model.Tree.{Tree}
 use Rattle.yaml_definitions.specs.model.Event.{Event}
 use Rattle.yaml_definitions.specs.model.Serial.{Document, stream_events}
@@ -39,3 +39,34 @@ pub record UnfoldBoth (ds es : List Document) (ts closed : List Tree) : Type 0 w
 
 abbrev pub TwoStreamsAreForests : Type 0
 TwoStreamsAreForests = (ds es : List Document) (t : State) → Reaches (stream_events ds ++ stream_events es) initial_state t → UnfoldBoth ds es t.inner t.done
+
+-- the documents of each stream unfold to trees
+abbrev pub AllUnfold : List (List Document) → List (List Tree) → Type 0
+AllUnfold [] [] = Unit {0}
+AllUnfold (ds ∷ dss) (ts ∷ tss) = (trees_of ds ≡ Ok ts) × AllUnfold dss tss
+AllUnfold _ _ = ⊥
+
+-- the trees of all streams, those of one before those of the next
+abbrev pub all_trees : List (List Tree) → List Tree
+all_trees [] = []
+all_trees (ts ∷ tss) = ts ++ all_trees tss
+
+-- the same of their nodes as they close
+abbrev pub all_closed : List (List Document) → List (List Tree) → List Tree
+all_closed (ds ∷ dss) (ts ∷ tss) = stream_trees ds ts ++ all_closed dss tss
+all_closed _ _ = []
+
+-- the events of all streams
+abbrev pub all_events : List (List Document) → List Event
+all_events [] = []
+all_events (ds ∷ dss) = stream_events ds ++ all_events dss
+
+-- The documents of these streams unfold to these trees, and their nodes to those, as they close.
+pub record UnfoldAll (dss : List (List Document)) (ts closed : List Tree) : Type 0 where
+  pub forests : List (List Tree)
+  pub unfolded : AllUnfold dss forests
+  pub is : ts ≡ all_trees forests
+  pub nodes : closed ≡ all_closed dss forests
+
+abbrev pub StreamsAreForests : Type 0
+StreamsAreForests = (dss : List (List Document)) (t : State) → Reaches (all_events dss) initial_state t → UnfoldAll dss t.inner t.done

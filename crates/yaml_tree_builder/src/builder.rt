@@ -8,10 +8,10 @@ ghost use Rattle.yaml_tree.specs.Anchors.{names_of, Placed};
 ghost use Rattle.yaml_tree.specs.ComposerSteps.{State, initial_state, node_begun, whole};
 ghost use Rattle.yaml_store.specs.StoreGrows.{Stands, Keeps, trees_of};
 ghost use Rattle.yaml_store.specs.declared.store.Store.{Store};
-ghost use Rattle.yaml_tree_builder.specs.Reached.{Reaches, UnfoldTo};
+ghost use Rattle.yaml_tree_builder.specs.Reached.{Reaches, UnfoldTo, all_events};
 ghost use Rattle.yaml_tree_builder.specs.Nodes.{AreNodes};
 ghost use Rattle.yaml_tree_builder.specs.FirstsModel.{Comes};
-ghost use Rattle.yaml_tree_builder.specs.BuilderModel.{with_store, Holds, Stepped, IsForest, AreForests, IsNumber, IsOnePlace, start_of, end_of, OpensBare};
+ghost use Rattle.yaml_tree_builder.specs.BuilderModel.{with_store, Holds, Stepped, IsForest, AreForests, AreStreams, IsNumber, IsOnePlace, start_of, end_of, OpensBare};
 ghost use Rattle.yaml_tree_builder.specs.BuilderLog.{Follows, SettlesAlone, SettlesKey};
 ghost use Rattle.yaml_tree.specs.Refused.{RefusesStream};
 ghost use Rattle.yaml_tree_builder.specs.Refusals.{Stops};
@@ -137,11 +137,12 @@ impl<'s> TreeBuilder<'s> {
         })
     }
 
-    /// The stream ends, or the second of two.
+    /// The stream ends, or the last one of more.
     pub(crate) fn finish(self) -> Result<Forest<'s>, Fault>
         ensures forest { (ds : List Document) (s : State) → Reaches (stream_events ds) initial_state s → Holds self.entry s → IfOk result (IsForest ds) }
         ensures refused { (ds : List Document) (s : State) → Reaches (stream_events ds) initial_state s → Holds self.entry s → IfErr result (RefusesStream ds) }
         ensures both { (ds es : List Document) (s : State) → Reaches (stream_events ds ++ stream_events es) initial_state s → Holds self.entry s → IfOk result (AreForests ds es) }
+        ensures streams { (dss : List (List Document)) (s : State) → Reaches (all_events dss) initial_state s → Holds self.entry s → IfOk result (AreStreams dss) }
     {
         let TreeBuilder {
             store,

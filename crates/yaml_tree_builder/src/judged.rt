@@ -7,9 +7,9 @@ ghost use Rattle.yaml_definitions.specs.model.Serial.{Document, stream_events};
 ghost use Rattle.yaml_text.specs.EventModel.{style_of};
 ghost use Rattle.yaml_sink.specs.Held.{Puts};
 ghost use Rattle.yaml_sink.specs.PropertyRules.{props_of};
-ghost use Rattle.yaml_tree_builder.specs.Reached.{UnfoldTo};
+ghost use Rattle.yaml_tree_builder.specs.Reached.{UnfoldTo, all_events};
 ghost use Rattle.yaml_tree_builder.specs.Nodes.{AreNodes};
-ghost use Rattle.yaml_tree_builder.specs.BuilderModel.{IsForest, AreForests, start_of, end_of};
+ghost use Rattle.yaml_tree_builder.specs.BuilderModel.{IsForest, AreForests, AreStreams, start_of, end_of};
 ghost use Rattle.yaml_tree.specs.Refused.{RefusesStream};
 ghost use Rattle.yaml_tree_builder.specs.BuilderLog.{SettlesAlone, SettlesKey};
 ghost use Rattle.yaml_tree_builder.specs.JudgedModel.{Judges, Takes, IsBefore, IsNoneBefore};
@@ -235,6 +235,7 @@ impl<'s> Judged<'s> {
     pub fn finish(self) -> Result<Forest<'s>, Fault>
         ensures forest { (ds : List Document) → Judges self.entry (stream_events ds) → IfOk result (IsForest ds) }
         ensures both { (ds es : List Document) → Judges self.entry (stream_events ds ++ stream_events es) → IfOk result (AreForests ds es) }
+        ensures streams { (dss : List (List Document)) → Judges self.entry (all_events dss) → IfOk result (AreStreams dss) }
         ensures refused { (ds : List Document) → Judges self.entry (stream_events ds) → IfErr result (RefusesStream ds) }
     {
         let Judged { builder, refusal } = self;

@@ -4,7 +4,7 @@ use Rattle.yaml_tree.specs.TreeLists.{IsFirstTooHigh, AreLow}
 use Rattle.yaml_store.specs.StoreGrows.{trees_of}
 use Rattle.yaml_tree_builder.specs.BuilderModel.{AllAt}
 use Rattle.yaml_tree_builder.proofs.BuilderLaws.{roots-of, are-low}
-use Rattle.yaml_tree_builder.proofs.ReachedLaws.{stream-is-forest, stream-closes, two-streams-are-forests}
+use Rattle.yaml_tree_builder.proofs.ReachedLaws.{stream-is-forest, stream-closes, two-streams-are-forests, streams-are-forests}
 use Rattle.yaml_store.specs.StoreGrows.{IsLow}
 use Rattle.yaml_tree.specs.Numbers.{Numbers}
 use Rattle.yaml_tree_builder.proofs.builder.TreeBuilder.finish.Goals as goal
@@ -34,6 +34,23 @@ returns-clause-both c = λ ds es s r h.
       trees_are = s.inner;
       nodes_are = s.done;
       unfolded = two-streams-are-forests ds es s r;
+      low = are-low self.store low self.stack.items s.inner roots.at;
+      good = h.good.store;
+      level = low;
+      roots = roots.at;
+      numbered = h.counted.numbers;
+      few = omega (arith, h.counted.count, h.counted.few);
+    }
+
+pub returns-clause-streams : goal.returns-clause-streams
+returns-clause-streams c = λ dss s r h.
+    let self = c.args.self in
+    let roots = roots-of self s h (omega (arith, c.len.ensures, self.opens.ok.0, c.if-len-gt0.false)) in
+    let low : IsLow self.store = c.if-not-is_low.ensures.low h.good.store in
+    record {
+      trees_are = s.inner;
+      nodes_are = s.done;
+      unfolded = streams-are-forests dss s r;
       low = are-low self.store low self.stack.items s.inner roots.at;
       good = h.good.store;
       level = low;
