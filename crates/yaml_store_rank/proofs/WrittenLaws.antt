@@ -1,7 +1,12 @@
 -- The nodes of a store, with their entries as they are written.
-use Rattle.std.proofs.Common.{◌≡◌, ℕ, zero, suc, ◌-◌, ◌<◌, ◌≤◌, true, List, [], ◌∷◌, length, map, drop, get_or, slice_index, refl, sym, ◌∙◌, ap, subst, arith}
+use Rattle.std.proofs.Common.{◌≡◌, inl, inr, ℕ, zero, suc, ◌-◌, ◌<◌, ◌≤◌, true, false, eqb, List, [], ◌∷◌, length, map, drop, get_or, slice_index, refl, sym, ◌∙◌, ap, subst, arith}
 use Rattle.std.specs.Prelude.{◌↔◌, Some}
 use Rattle.std.specs.List.{slice_get, slice_range, All}
+use Rattle.std.proofs.lemmas.Bool.{eqb-true}
+use Rattle.std.proofs.lemmas.Bool.Decides.{eqb_tells}
+use Rattle.std.proofs.lemmas.Map.Keys.{IsDistinct-from_apart}
+use Rattle.std.proofs.lemmas.Map.Steps.{length-le_from_distinct_below}
+use Rattle.std.proofs.lemmas.Map.Views.{Contains-from_any}
 use Rattle.std.proofs.lemmas.List.{length-map}
 use Rattle.std.proofs.lemmas.List.Elements.{All-cons, All-take, All-drop, All-nil}
 use Rattle.yaml_definitions.specs.model.Limits.{height_limit}
@@ -115,6 +120,25 @@ module _ (s : Store) (good : Good s) (ranks first : List ℕ) (text is : List �
       shared : {x y : Place} {p q : Span} → x ≡ Mapping p → y ≡ Mapping q → share x y ≡ true
       shared e f = (λ z. share (e z) (f z))
 
+-- ---- ranks are below the number of nodes
+
+module _ (v : View) (nodes : List Node) (text is : List ℕ) (es : List (ℕ × ℕ)) (ranks first : List ℕ) (r : AllRanked v nodes text is es ranks first) where
+  differs : (i j d : ℕ) → i < j → j < length first → eqb (get_or first i d) (get_or first j d) ≡ false
+  differs i j d l m = elim (eqb_tells (get_or first i d) (get_or first j d)) [
+    | inl a ↦ (
+        let x = (r.firsts i (get_or first i d) (get-there first i d (omega arith))).1 in
+        let y = (r.firsts j (get_or first j d) (get-there first j d m)).1 in
+        let z : slice_index ranks (get_or first i d) ≡ slice_index ranks (get_or first j d) = ap (slice_index ranks) a.1 in
+        absurd (omega arith))
+    | inr a ↦ a.0
+  ]
+
+  few-first : length first ≤ v.count
+  few-first = length-le_from_distinct_below first v.count (IsDistinct-from_apart eqb first differs) (λ q h. let c = Contains-from_any eqb-true q first h in subst (λ z. z < v.count) c.2 (r.firsts c.0 (get_or first c.0 q) (get-there first c.0 q c.1)).0)
+
+  rank-below : (i : ℕ) → i < v.count → slice_index ranks i < v.count
+  rank-below i l = let w = r.within i l in let f = few-first in omega arith
+
 -- ---- the laws of what a store holds
 
 -- what ranks tell of two trees
@@ -182,6 +206,7 @@ module _ (s : Store) (good : Good s) (low : IsLow s) (ranks first : List ℕ) (t
     is-ranked roots ends e all = record {
       below = held-below;
       long = ap length ranks-are ∙ (ranked.long ∙ sym count-is);
+      within = λ i l. let b = rank-below (view_of s good) nodes text is es ranks first ranked i (omega (arith, l, count-is)) in omega (arith, b, rank-is i, count-is);
       ranked = tells;
       keyed = λ i l. subst Keyed (sym (tree-is i)) (ranked.keyed i (omega (arith, l, count-is)));
       low = low-tree;

@@ -52,10 +52,11 @@ abbrev pub IsPlaceOf : (ℕ → ℕ) → List (ℕ × ℕ) → ℕ → Option �
 IsPlaceOf rank es r (Some k) = (p : ℕ × ℕ) × (slice_get es k ≡ Some p) × (rank p.0 ≡ r)
 IsPlaceOf rank es r None = (k : ℕ) (p : ℕ × ℕ) → slice_get es k ≡ Some p → rank p.0 ≡ r → ⊥
 
--- Parts stand before their node. Ranks are equal exactly for trees that are the same, and rise in the order of trees. No mapping has two equal keys, no tree is higher than the limit, and roots are nodes. Each mapping's entries have an order by their keys.
+-- Parts stand before their node. Ranks are below the number of nodes, equal exactly for trees that are the same, and rise in the order of trees. No mapping has two equal keys, no tree is higher than the limit, and roots are nodes. Each mapping's entries have an order by their keys.
 pub record IsRanked (f : Forests) : Type 0 where
   pub below : HeldBelow f.nodes
   pub long : length f.ranks ≡ count f
+  pub within : (i : ℕ) → i < count f → rank f i < count f
   pub ranked : (i j : ℕ) → i < count f → j < count f → ((rank f i ≡ rank f j) ↔ Same (tree f i) (tree f j)) × ((rank f i < rank f j) ↔ Before (tree f i) (tree f j))
   pub keyed : (i : ℕ) → i < count f → Keyed (tree f i)
   pub low : (i : ℕ) → i < count f → height (tree f i) ≤ height_limit
