@@ -15,3 +15,4 @@ mod KeyLaws
 mod SideLaws
 mod TargetLaws
 mod RunLaws
+mod StreamLaws

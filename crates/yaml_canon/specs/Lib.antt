@@ -12,3 +12,4 @@ pub mod Accepting
 pub mod Runs
 pub mod Targets
 pub mod Rooms
+pub mod Written

@@ -15,10 +15,12 @@ pub mod spell;
 mod spelled_ranks;
 mod target;
 mod two;
+pub mod written;
 
 pub use canonical_text::canonical;
 pub use placing::canonical_into;
 pub use run::run_canonical;
 pub use same_streams::same;
 pub use spell::canonical_len;
+pub use written::ranked_stream;
 pub use yaml_text::{Side, gather, gathering, side};

@@ -23,7 +23,7 @@ pub(crate) struct RankedForest<'s> {
 }
 
 /// Equal keys of a node of a store, told of the first node of the stream that it stands for.
-fn in_stream(fault: Fault, firsts: &[u32]) -> Fault
+pub(crate) fn in_stream(fault: Fault, firsts: &[u32]) -> Fault
     ensures { IsInStream firsts.now fault result }
 {
     let Fault::EqualKeys(stored, first, second) = fault else {
