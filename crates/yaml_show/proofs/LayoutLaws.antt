@@ -194,7 +194,3 @@ module _ {X : Type 0} (f : X → Tree) (xs : List X) (i : ℕ) where
 -- the roots of a graph, arranged, are its forest, arranged
 pub roots_arranged : (g : Graph) (roots : List NodeId) → roots ≡ roots_of g → map (λ i. arranged (tree g i.0)) roots ≡ map arranged (forest g)
 roots_arranged g roots e = ap (map (λ (i : NodeId). arranged (tree g i.0))) e ∙ sym (map-twice (λ (i : NodeId). tree g i.0) arranged (roots_of g))
-
--- the roots of a graph are its forest
-pub roots_source : (g : Graph) (roots : List NodeId) → roots ≡ roots_of g → map (λ i. tree g i.0) roots ≡ forest g
-roots_source g roots e = ap (map (λ (i : NodeId). tree g i.0)) e

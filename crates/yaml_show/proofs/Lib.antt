@@ -9,3 +9,4 @@ pub mod SharingLaws
 pub mod ShownLaws
 pub mod SourceLaws
 pub mod StopLaws
+mod StreamLaws

@@ -8,3 +8,4 @@ pub mod Lines
 pub mod Refused
 pub mod Sharing
 pub mod Shows
+pub mod SourceRanks

@@ -1,5 +1,5 @@
 -- What is shown of a stream.
-use Rattle.std.specs.Prelude.{◌≡◌, ◌⊎◌, ℕ, List, map}
+use Rattle.std.specs.Prelude.{◌≡◌, ◌⊎◌, ℕ, Bool, true, false, List, map}
 use Rattle.yaml_definitions.specs.model.Tree.{Tree}
 use Rattle.yaml_definitions.specs.model.Order.{arranged}
 use Rattle.yaml_definitions.specs.model.Same.{Alike}
@@ -18,6 +18,11 @@ readable f = shown_text (map arranged f)
 -- the same with the anchors and aliases of their canonical text
 abbrev pub readable_sharing : List Tree → List ℕ
 readable_sharing f = sharing_shown (map arranged f)
+
+-- what is written with entries in the order of their keys, with anchors and aliases or without
+abbrev pub written_by : Bool → List Tree → List ℕ
+written_by false = readable
+written_by true = readable_sharing
 
 -- what is written of documents: their readable text; the same with entries in the order of the source; or with anchors and aliases
 abbrev pub written_in : Manner → List Tree → List ℕ

@@ -11,14 +11,15 @@ ghost use Rattle.yaml_show.specs.JsonTrees.{Lacks, Overruns};
 ghost use Rattle.yaml_show.specs.Lines.{all_have_json, AreTheirs};
 ghost use Rattle.yaml_show_scalar.specs.Stops.{Stops};
 ghost use Rattle.yaml_show.specs.Refused.{RefusesBy, JsonRefuses, lines_text, fault_of};
-ghost use Rattle.yaml_show.specs.Shows.{written_in};
+ghost use Rattle.yaml_show.specs.Shows.{written_by, written_in};
+ghost use Rattle.yaml_show.specs.Layout.{shown_text};
 
 use crate::manner::Manner;
 use crate::unshown::Unshown;
 use crate::{Nodes, Unwritten, block_text, json_lines, sharing_text, source_text};
 use std::alloc::Global;
 use yaml_canon::both::{BothForests, forest_of_both};
-use yaml_canon::canonical;
+use yaml_canon::{canonical, ranked_stream};
 use yaml_rank::rank;
 use yaml_show_scalar::Stop;
 use yaml_text::fault::Fault;
@@ -58,27 +59,23 @@ fn stopped(stop: Stop) -> Fault
     }
 }
 
-/// The text of ranked documents, written so.
-fn text_in(alloc: Global, nodes: &Nodes<'_>, manner: Manner) -> Result<String, Stop>
+/// The text of ranked documents, with anchors and aliases or without.
+fn text_by(alloc: Global, nodes: &Nodes<'_>, shares: bool) -> Result<String, Stop>
     requires { RanksAre nodes.now.graph nodes.now.ranks }
-    ensures ok { IfOk result (λ text. string_bytes text ≡ written_in manner (root_trees nodes.now.graph)) }
-    ensures err { IfErr result (Stops text_limit (written_in manner (root_trees nodes.now.graph))) }
+    ensures ok { IfOk result (λ text. string_bytes text ≡ written_by shares (root_trees nodes.now.graph)) }
+    ensures err { IfErr result (Stops text_limit (written_by shares (root_trees nodes.now.graph))) }
 {
-    match manner {
-        Manner::ByKey => block_text(alloc, nodes),
-        Manner::AsRead => source_text(alloc, nodes),
-        Manner::Sharing => sharing_text(alloc, nodes),
+    match shares {
+        false => block_text(alloc, nodes),
+        true => sharing_text(alloc, nodes),
     }
 }
 
-/// The readable text of the documents that these bytes mean, written so.
-///
-/// # Errors
-/// Those of `canonical`. 20: the readable text would be too long.
+/// The readable text of the documents that these bytes mean, entries in the order of their keys, with anchors and aliases or without.
 #[tactic(auto, using(crate::proofs::ShownLaws::refused_shown))]
-pub(crate) fn readable_text(alloc: Global, bytes: &[u8], manner: Manner) -> Result<String, Fault>
-    ensures text { IfOk result (λ text. (f : List Tree) → Means bytes.now f → string_bytes text ≡ written_in manner f) }
-    ensures refused { IfErr result (RefusesBy (written_in manner) bytes.now) }
+fn text_by_key(alloc: Global, bytes: &[u8], shares: bool) -> Result<String, Fault>
+    ensures text { IfOk result (λ text. (f : List Tree) → Means bytes.now f → string_bytes text ≡ written_by shares f) }
+    ensures refused { IfErr result (RefusesBy (written_by shares) bytes.now) }
 {
     let Ok(forests) = forest_of_both(alloc, bytes, b"") else {
         return Err(rejection(alloc, bytes));
@@ -86,9 +83,41 @@ pub(crate) fn readable_text(alloc: Global, bytes: &[u8], manner: Manner) -> Resu
     let Some(nodes) = ranked(alloc, &forests) else {
         return Err(rejection(alloc, bytes));
     };
-    match text_in(alloc, &nodes, manner) {
+    match text_by(alloc, &nodes, shares) {
         Ok(text) => Ok(text),
         Err(stop) => Err(stopped(stop)),
+    }
+}
+
+/// The same with entries in the order of the source.
+#[tactic(auto, using(crate::proofs::ShownLaws::refused_shown))]
+fn text_as_read(alloc: Global, bytes: &[u8]) -> Result<String, Fault>
+    ensures text { IfOk result (λ text. (f : List Tree) → Means bytes.now f → string_bytes text ≡ shown_text f) }
+    ensures refused { IfErr result (RefusesBy shown_text bytes.now) }
+{
+    let forests = match ranked_stream(alloc, bytes) {
+        Ok(forests) => forests,
+        Err(fault) => return Err(fault),
+    };
+    forests.laws();
+    match source_text(alloc, &forests, forests.stream(0)) {
+        Ok(text) => Ok(text),
+        Err(stop) => Err(stopped(stop)),
+    }
+}
+
+/// The readable text of the documents that these bytes mean, written so.
+///
+/// # Errors
+/// Those of `canonical`. 20: the readable text would be too long.
+pub(crate) fn readable_text(alloc: Global, bytes: &[u8], manner: Manner) -> Result<String, Fault>
+    ensures text { IfOk result (λ text. (f : List Tree) → Means bytes.now f → string_bytes text ≡ written_in manner f) }
+    ensures refused { IfErr result (RefusesBy (written_in manner) bytes.now) }
+{
+    match manner {
+        Manner::ByKey => text_by_key(alloc, bytes, false),
+        Manner::AsRead => text_as_read(alloc, bytes),
+        Manner::Sharing => text_by_key(alloc, bytes, true),
     }
 }
 

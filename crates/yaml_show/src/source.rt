@@ -1,66 +1,42 @@
-//! A graph whose mappings have their entries in the order of the source.
-use yaml_graph::graph::Graph;
-use yaml_graph::node::NodeKind;
-use yaml_rank::ranked_graph::RankedGraph;
-use yaml_rank::ranks::Ranks;
+//! Ranked forests whose mappings have their entries in the order of the source.
 use yaml_spell::node::short_len;
 use yaml_spell::ranked::RankedNodes;
+use yaml_store_rank::RankedForests;
 use yaml_tree::node::NodeId;
-use yaml_tree::shown::{Inside, Shown};
+use yaml_tree::shown::Shown;
 
-/// A graph whose mappings have their entries in the order of the source. The ranks are those of its nodes.
+/// Ranked forests whose mappings have their entries in the order of the source.
 #[derive(Clone, Copy)]
-pub(crate) struct SourceGraph<'g, 't> {
-    pub graph: &'g Graph<'t>,
-    pub ranks: &'g Ranks,
+pub(crate) struct SourceForests<'f, 's> {
+    pub forests: &'f RankedForests<'s>,
 }
 
-impl<'g, 't> RankedNodes<NodeId> for SourceGraph<'g, 't> {
-    ghost use Rattle.std.specs.Prelude.{length};
-    ghost use Rattle.yaml_definitions.specs.model.Order.{arranged};
-    ghost use Rattle.yaml_graph.specs.GraphView.{nodes_of, tree};
-    ghost use Rattle.yaml_rank.specs.RanksView.{RanksAre};
-    ghost use Rattle.yaml_rank.specs.TreeRanks.{rank_in};
+impl<'f, 's> RankedNodes<NodeId> for SourceForests<'f, 's> {
+    ghost use Rattle.yaml_store_rank.specs.Forests.{count, tree};
+    ghost use Rattle.yaml_show.specs.SourceRanks.{rank_in};
 
-    ghost stands = { λ s. RanksAre s.graph.now s.ranks.now };
+    ghost stands = { λ _. Unit {0} };
 
-    ghost count = { λ s. length (nodes_of s.graph.now) };
+    ghost count = { λ s. count s.forests.now };
 
     ghost number = { λ i. i.0 };
 
-    ghost tree = { λ s i. tree s.graph.now i };
+    ghost tree = { λ s i. tree s.forests.now i };
 
-    ghost rank = { λ s t. rank_in s.graph.now s.ranks.now (arranged t) };
+    ghost rank = { λ s t. rank_in s.forests.now t };
 
     fn len(&self) -> usize {
-        self.graph.len()
+        self.forests.len()
     }
 
     fn node(&self, id: NodeId) -> Shown<'_, NodeId> {
-        let node = self.graph.node(id);
-        let tag = node.tag.as_str();
-        match &node.kind {
-            NodeKind::Scalar(content) => Shown {
-                tag,
-                inside: Inside::Scalar(content.as_str()),
-            },
-            NodeKind::Sequence(items) => Shown {
-                tag,
-                inside: Inside::Sequence(items),
-            },
-            NodeKind::Mapping(entries) => Shown {
-                tag,
-                inside: Inside::Mapping(entries),
-            },
-        }
+        self.forests.laws();
+        self.forests.node(id)
     }
 
     fn rank(&self, id: NodeId) -> usize {
-        let sorted = RankedGraph {
-            graph: self.graph,
-            ranks: self.ranks,
-        };
-        sorted.rank(id)
+        self.forests.laws();
+        self.forests.rank(id) as usize
     }
 
     fn short_len(&self, id: NodeId) -> usize {
@@ -68,10 +44,6 @@ impl<'g, 't> RankedNodes<NodeId> for SourceGraph<'g, 't> {
     }
 
     fn tells(&self) {
-        let sorted = RankedGraph {
-            graph: self.graph,
-            ranks: self.ranks,
-        };
-        sorted.tells();
+        self.forests.laws();
     }
 }
