@@ -1,5 +1,5 @@
 -- Events that wait.
-use Rattle.std.proofs.Common.{◌≡◌, ℕ, ◌+◌, List, [], ◌∷◌, ◌++◌, length, refl, sym, ◌∙◌, ap, subst, arith, append-nil, append_assoc, length-append}
+use Rattle.std.proofs.Common.{◌≡◌, ℕ, ◌-◌, List, [], ◌∷◌, ◌++◌, length, refl, sym, ◌∙◌, ap, subst, arith, append-nil, append_assoc, length-append}
 use Rattle.std.specs.Prelude.{Option, Some, None, Bool}
 use Rattle.yaml_definitions.specs.model.Event.{Event, mapping_start, untagged}
 use Rattle.yaml_text.specs.declared.event.Style.{Style}
@@ -35,6 +35,19 @@ one-buffered Nothing p x h = absurd (h refl)
 one-buffered (Scalar style) p x h = record { event = _; is = refl }
 one-buffered Alias p x h = record { event = _; is = refl }
 one-buffered (Start k flow) p x h = record { event = _; is = refl }
+
+-- one event waits where anything does
+pub one-there : (l : Buffered) (m : Option Bool) (o p : Props) (x : List ℕ) → (behind_start m o (buffered_event l p x) ≡ [] → ⊥) → IsOne (buffered_event l p x)
+one-there l m o p x h = one-buffered l p x (λ e. h (none-buffered l m o p x e))
+
+there-one : (m : Option Bool) (o : Props) (e : Event) (es : List Event) → behind_start m o (e ∷ es) ≡ [] → ⊥
+there-one None o e es q = absurd (cc)
+there-one (Some flow) o e es q = absurd (cc)
+
+pub there : (l : Buffered) (m : Option Bool) (o p : Props) (x : List ℕ) → (l ≡ Nothing → ⊥) → behind_start m o (buffered_event l p x) ≡ [] → ⊥
+there l m o p x h q =
+    let w = one-buffered l p x h in
+    there-one m o w.event [] (sym (ap (behind_start m o) w.is) ∙ q)
 
 buffered-dressed : (l : Buffered) (p q : Props) (x : List ℕ) → dressed p (buffered_event l q x) ≡ buffered_event l p x
 buffered-dressed Nothing p q x = refl
@@ -99,7 +112,7 @@ puts-buffered number es fs a b e p = record { is = λ log n t. subst (λ z. Tell
 pub starts-none : (m : Option Bool) (o : Props) (number : ℕ) (a : PendingProperties) → m ≡ None → ComposesWaits number (start_before m o) a a
 starts-none m o number a e = record { is = λ log l t. subst (Tells a) (sym (append-nil log) ∙ ap (λ z. log ++ start_before z o) (sym e)) t }
 
-pub starts-some : (m : Option Bool) (flow : Bool) (o : Props) (number at : ℕ) (a b : PendingProperties) → m ≡ Some flow → number ≡ at + 1 → ((log : List Event) → at ≡ length log → Tells a log → Tells b (log ++ (mapping_start flow o.anchor o.tag ∷ [])))
+pub starts-some : (m : Option Bool) (flow : Bool) (o : Props) (number at : ℕ) (a b : PendingProperties) → m ≡ Some flow → at ≡ number - 1 → ((log : List Event) → at ≡ length log → Tells a log → Tells b (log ++ (mapping_start flow o.anchor o.tag ∷ [])))
     → ComposesWaits number (start_before m o) a b
 starts-some m flow o number at a b e n k = record {
   is = λ log l t.
@@ -108,7 +121,7 @@ starts-some m flow o number at a b e n k = record {
       subst (Tells b) (sym is) (k log (omega (arith, n, l, ap length is, length-append log start)) t);
 }
 
-pub composes-both : (m : Option Bool) (o : Props) (es : List Event) (count number : ℕ) (a b c : PendingProperties) → IsOne es → count ≡ number + 1 → ComposesWaits number (start_before m o) a b → PutsBuffered number es b c → ComposesWaits count (behind_start m o es) a c
+pub composes-both : (m : Option Bool) (o : Props) (es : List Event) (count number : ℕ) (a b c : PendingProperties) → IsOne es → number ≡ count - 1 → ComposesWaits number (start_before m o) a b → PutsBuffered number es b c → ComposesWaits count (behind_start m o es) a c
 composes-both m o es count number a b c w n p q = record {
   is = λ log l t.
       let s = start_before m o in

@@ -1,5 +1,5 @@
 -- What a builder was told, as the log grows.
-use Rattle.std.proofs.Common.{◌≡◌, ℕ, ◌+◌, ◌≤◌, List, [], ◌∷◌, ◌++◌, length, reverse, refl, sym, ◌∙◌, ap, subst, arith, append_assoc, length-append}
+use Rattle.std.proofs.Common.{◌≡◌, ℕ, ◌+◌, ◌-◌, ◌≤◌, ◌<◌, List, [], ◌∷◌, ◌++◌, length, reverse, refl, sym, ◌∙◌, ap, subst, arith, append_assoc, length-append}
 use Rattle.std.specs.Prelude.{Option, Some, None, Bool, false}
 use Rattle.std.proofs.lemmas.List.{reverse-append}
 use Rattle.yaml_definitions.specs.model.Event.{Event, Anchor, WrittenTag, untagged, mapping_start, stream_start, stream_end, document_end}
@@ -261,18 +261,34 @@ tells-ended old new ended after opens left b k early n m q v step log t =
       size = omega (arith, t.size, length-append log fs, length-append t.told fs);
     }
 
+-- what the builder was told is no shorter than the log
+opens-longer : (bs : List Begun) (log told : List Event) → OpensTold bs log told → length log ≤ length told
+opens-longer [] log told o = omega (arith, ap length o)
+opens-longer (b ∷ bs) log told s =
+    let es = settled b.due s.first ∷ s.rest in
+    omega (arith, opens-longer bs s.front s.before s.outside_is, ap length s.log_is, ap length s.told_is, length-append s.front (s.first ∷ s.rest), length-append s.before (start_above b.above ++ es), length-append (start_above b.above) es)
+
+-- and longer where the innermost collection may be a key
+above-longer : (bs : List Begun) (b : Begun) (above : Above) (log told : List Event) → b.above ≡ Some above → Since IsOpen (OpensTold bs) b log told → length log < length told
+above-longer bs b above log told v s =
+    let es = settled b.due s.first ∷ s.rest in
+    let one : length (start_above b.above) ≡ 1 = ap (λ z. length (start_above z)) v in
+    omega (arith, one, opens-longer bs s.front s.before s.outside_is, ap length s.log_is, ap length s.told_is, length-append s.front (s.first ∷ s.rest), length-append s.before (start_above b.above ++ es), length-append (start_above b.above) es)
+
 -- one of which it is not known whether it is a key
-pub tells-held : (j : Judged) (ended after : Option Begun) (opens left : List Begun) (b : Begun) (above : Above) (early less : ℕ) → ended ≡ None → opens ≡ left ++ (b ∷ []) → after ≡ Some b → b.above ≡ Some above → early ≡ less + 1
+pub tells-held : (j : Judged) (ended after : Option Begun) (opens left : List Begun) (b : Begun) (above : Above) (early less : ℕ) → ended ≡ None → opens ≡ left ++ (b ∷ []) → after ≡ Some b → b.above ≡ Some above → less ≡ early - 1
     → (log : List Event) → TellsOf j ended (reverse opens) early log → TellsOf j after (reverse left) less (log ++ (end_of above.kind ∷ []))
 tells-held j ended after opens left b above early less n m q v l log t =
     let fs = end_of above.kind ∷ [] in
     let bs = reverse left in
-    let h : Held (OpensTold bs) b above (log ++ fs) t.told = record { inner = log; log_is = refl; since = inner-told j ended opens left b early log n m t } in
+    let s = inner-told j ended opens left b early log n m t in
+    let h : Held (OpensTold bs) b above (log ++ fs) t.told = record { inner = log; log_is = refl; since = s } in
+    let more = above-longer bs b above log t.told v s in
     record {
       told = t.told;
       is = subst (λ z. EndedTold z bs (log ++ fs) t.told) (sym q) (subst (λ z. OverTold z (OpensTold bs) b (log ++ fs) t.told) (sym v) h);
       judges = t.judges;
-      size = omega (arith, t.size, l, length-append log fs);
+      size = omega (arith, t.size, l, more, length-append log fs);
     }
 
 -- the collection that ended gets what was due

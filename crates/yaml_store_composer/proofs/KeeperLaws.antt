@@ -23,8 +23,8 @@ all-composed k log pending h g c =
     let b = h.is g in
     subst (Tells pending) (sym b.split) (c.is b.front (h.count ∙ ap length b.split) b.tells)
 
-pub makes-room : (k new : Composing) → k.is_void ≡ false → new.is_void ≡ false → ComposesWaits k.count (waits k.buffer) k.pending new.pending → waits new.buffer ≡ [] → new.count ≡ k.count + 1 → MakesRoom k new
-makes-room k new g f c w n = record { count = n; is_void = f; none = w; tells = λ log h. all-composed k log new.pending h g c }
+pub makes-room : (k new : Composing) → new.is_void ≡ k.is_void → ComposesWaits k.count (waits k.buffer) k.pending new.pending → waits new.buffer ≡ [] → new.count ≡ k.count + 1 → MakesRoom k new
+makes-room k new f c w n = record { count = n; is_void = f; none = w; tells = λ log h g. all-composed k log new.pending h (sym f ∙ g) c }
 
 -- what waited is composed, and nothing is known of what ended then
 pub goes-on : (n : ℕ) (es : List Event) (a b d : PendingProperties) → ComposesWaits n es a b → GoesOn b d → ComposesWaits n es a d
@@ -40,39 +40,39 @@ settles k new g c w n = record {
 }
 
 -- an event waits
-pub puts-waiting : (old room new : Composing) (e : Event) → MakesRoom old room → new.pending ≡ room.pending → new.count ≡ room.count → waits new.buffer ≡ e ∷ [] → Puts Composes old (e ∷ []) new
-puts-waiting old room new e r a n w = record {
+pub puts-waiting : (old room new : Composing) (e : Event) → MakesRoom old room → new.is_void ≡ room.is_void → new.pending ≡ room.pending → new.count ≡ room.count → waits new.buffer ≡ e ∷ [] → Puts Composes old (e ∷ []) new
+puts-waiting old room new e r v a n w = record {
   is = λ log h. record {
     count = omega (arith, n, r.count, h.count, length-append log (e ∷ []));
-    is = λ g. record { front = log; split = ap (λ z. log ++ z) (sym w); tells = subst (λ z. Tells z log) (sym a) (r.tells log h) };
+    is = λ g. record { front = log; split = ap (λ z. log ++ z) (sym w); tells = subst (λ z. Tells z log) (sym a) (r.tells log h (sym v ∙ g)) };
   };
 }
 
 -- an event is composed at once
-pub puts-told : (old room new : Composing) (e : Event) → MakesRoom old room → Puts Tells room.pending (e ∷ []) new.pending → new.count ≡ room.count → waits new.buffer ≡ [] → Puts Composes old (e ∷ []) new
-puts-told old room new e r p n w = record {
+pub puts-told : (old room new : Composing) (e : Event) → MakesRoom old room → new.is_void ≡ room.is_void → Puts Tells room.pending (e ∷ []) new.pending → new.count ≡ room.count → waits new.buffer ≡ [] → Puts Composes old (e ∷ []) new
+puts-told old room new e r v p n w = record {
   is = λ log h. record {
     count = omega (arith, n, r.count, h.count, length-append log (e ∷ []));
-    is = λ g. record { front = log ++ (e ∷ []); split = sym (append-nil (log ++ (e ∷ []))) ∙ ap (λ z. (log ++ (e ∷ [])) ++ z) (sym w); tells = p.is log (r.tells log h) };
+    is = λ g. record { front = log ++ (e ∷ []); split = sym (append-nil (log ++ (e ∷ []))) ∙ ap (λ z. (log ++ (e ∷ [])) ++ z) (sym w); tells = p.is log (r.tells log h (sym v ∙ g)) };
   };
 }
 
 -- and it is the one of this number
-pub puts-numbered : (old room new : Composing) (e : Event) → MakesRoom old room → ((log : List Event) → old.count ≡ length log → Tells room.pending log → Tells new.pending (log ++ (e ∷ []))) → new.count ≡ room.count → waits new.buffer ≡ [] → Puts Composes old (e ∷ []) new
-puts-numbered old room new e r p n w = record {
+pub puts-numbered : (old room new : Composing) (e : Event) → MakesRoom old room → new.is_void ≡ room.is_void → ((log : List Event) → old.count ≡ length log → Tells room.pending log → Tells new.pending (log ++ (e ∷ []))) → new.count ≡ room.count → waits new.buffer ≡ [] → Puts Composes old (e ∷ []) new
+puts-numbered old room new e r v p n w = record {
   is = λ log h. record {
     count = omega (arith, n, r.count, h.count, length-append log (e ∷ []));
-    is = λ g. record { front = log ++ (e ∷ []); split = sym (append-nil (log ++ (e ∷ []))) ∙ ap (λ z. (log ++ (e ∷ [])) ++ z) (sym w); tells = p log h.count (r.tells log h) };
+    is = λ g. record { front = log ++ (e ∷ []); split = sym (append-nil (log ++ (e ∷ []))) ∙ ap (λ z. (log ++ (e ∷ [])) ++ z) (sym w); tells = p log h.count (r.tells log h (sym v ∙ g)) };
   };
 }
 
 -- nothing is known of what ended
 pub passes : (old mid new : Composing) → MakesRoom old mid → GoesOn mid.pending new.pending → new.count ≡ mid.count → new.is_void ≡ mid.is_void → waits new.buffer ≡ [] → MakesRoom old new
-passes old mid new r g n f w = record { count = n ∙ r.count; is_void = f ∙ r.is_void; none = w; tells = λ log h. g.tells log (r.tells log h) }
+passes old mid new r g n f w = record { count = n ∙ r.count; is_void = f ∙ r.is_void; none = w; tells = λ log h v. g.tells log (r.tells log h (sym f ∙ v)) }
 
 -- an event of which the builder is not told
 puts-rest : (old room : Composing) (e : Event) → MakesRoom old room → ((log : List Event) → Tells room.pending log → Tells room.pending (log ++ (e ∷ []))) → Puts Composes old (e ∷ []) room
-puts-rest old room e r t = puts-told old room room e r (record { is = t }) refl r.none
+puts-rest old room e r t = puts-told old room room e r refl (record { is = t }) refl r.none
 
 pub puts-stream-start : (old room : Composing) → MakesRoom old room → room.pending.ended ≡ None → Puts Composes old (stream_start ∷ []) room
 puts-stream-start old room r n = puts-rest old room stream_start r (λ log t. (tells-rest room.pending log n t).0)
@@ -84,32 +84,34 @@ pub puts-document-end : (old room : Composing) (explicit : Bool) → MakesRoom o
 puts-document-end old room explicit r n = puts-rest old room (document_end explicit) r (λ log t. (tells-rest room.pending log n t).2 explicit)
 
 -- a mapping's start waits, too
-pub inserts : (old new : Composing) (start : ℕ) (flow : Bool) → old.is_void ≡ false → old.count - start ≡ 1 → new.count ≡ old.count + 1 → new.pending ≡ old.pending → Precedes flow (waits old.buffer) (waits new.buffer)
+pub inserts : (old new : Composing) (start : ℕ) (flow : Bool) → new.is_void ≡ old.is_void → old.count - start ≡ 1 → new.count ≡ old.count + 1 → new.pending ≡ old.pending → Precedes flow (waits old.buffer) (waits new.buffer)
     → Alters Composes start (λ es. mapping_start flow None untagged ∷ es) old new
-inserts old new start flow g d n a p = record {
+inserts old new start flow v d n a p = record {
   is = λ log es s h.
-      let b = h.is g in
       let size : length es ≡ length (waits old.buffer) = omega (arith, h.count, length-append log es, s, d, p.one) in
-      let r = split-ends log es b.front (waits old.buffer) b.split size in
       let m = mapping_start flow None untagged in
       record {
         count = omega (arith, n, h.count, length-append log es, length-append log (m ∷ es));
-        is = λ f. record { front = b.front; split = (λ z. r.0 z ++ (m ∷ r.1 z)) ∙ ap (λ z. b.front ++ z) (sym p.is); tells = subst (λ z. Tells z b.front) (sym a) b.tells };
+        is = λ f.
+            let b = h.is (sym v ∙ f) in
+            let r = split-ends log es b.front (waits old.buffer) b.split size in
+            record { front = b.front; split = (λ z. r.0 z ++ (m ∷ r.1 z)) ∙ ap (λ z. b.front ++ z) (sym p.is); tells = subst (λ z. Tells z b.front) (sym a) b.tells };
       };
 }
 
 -- a mapping's start is put before a collection that ended
-pub inserts-ended : (old new : Composing) (start : ℕ) (flow : Bool) → old.is_void ≡ false → waits old.buffer ≡ [] → new.buffer ≡ old.buffer → new.count ≡ old.count + 1 → Alters Tells start (λ es. mapping_start flow None untagged ∷ es) old.pending new.pending
+pub inserts-ended : (old new : Composing) (start : ℕ) (flow : Bool) → new.is_void ≡ old.is_void → waits old.buffer ≡ [] → new.buffer ≡ old.buffer → new.count ≡ old.count + 1 → Alters Tells start (λ es. mapping_start flow None untagged ∷ es) old.pending new.pending
     → Alters Composes start (λ es. mapping_start flow None untagged ∷ es) old new
-inserts-ended old new start flow g w v n a = record {
+inserts-ended old new start flow x w v n a = record {
   is = λ log es s h.
-      let b = h.is g in
-      let whole : log ++ es ≡ b.front = b.split ∙ (ap (λ z. b.front ++ z) w ∙ append-nil b.front) in
       let fs = mapping_start flow None untagged ∷ es in
-      let told = a.is log es s (subst (Tells old.pending) (sym whole) b.tells) in
       record {
         count = omega (arith, n, h.count, length-append log es, length-append log fs);
-        is = λ f. record { front = log ++ fs; split = sym (append-nil (log ++ fs)) ∙ ap (λ z. (log ++ fs) ++ z) (sym (ap waits v ∙ w)); tells = told };
+        is = λ f.
+            let b = h.is (sym x ∙ f) in
+            let whole : log ++ es ≡ b.front = b.split ∙ (ap (λ z. b.front ++ z) w ∙ append-nil b.front) in
+            let told = a.is log es s (subst (Tells old.pending) (sym whole) b.tells) in
+            record { front = log ++ fs; split = sym (append-nil (log ++ fs)) ∙ ap (λ z. (log ++ fs) ++ z) (sym (ap waits v ∙ w)); tells = told };
       };
 }
 

@@ -32,6 +32,10 @@ behind_start mapping p (e ∷ es) = start_before mapping p ++ (e ∷ es)
 abbrev pub waits : EventBuffer → List Event
 waits w = behind_start w.mapping (props_of w.outer) (buffered_event w.buffered (props_of w.own) (cow_str_bytes w.text))
 
+-- something waits
+abbrev pub IsThere : EventBuffer → Type 0
+IsThere w = waits w ≡ [] → ⊥
+
 -- There is one event.
 pub record IsOne (es : List Event) : Type 0 where
   pub event : Event

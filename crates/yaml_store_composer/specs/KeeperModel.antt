@@ -21,12 +21,12 @@ pub record Composes (k : Composing) (log : List Event) : Type 0 where
 
 -- ---- what calls do
 
--- One event more is counted, and nothing waits.
+-- One event more is counted, and nothing waits. What is composed counts as before.
 pub record MakesRoom (before after : Composing) : Type 0 where
   pub count : after.count ≡ before.count + 1
-  pub is_void : after.is_void ≡ false
+  pub is_void : after.is_void ≡ before.is_void
   pub none : waits after.buffer ≡ []
-  pub tells : (log : List Event) → Composes before log → Tells after.pending log
+  pub tells : (log : List Event) → Composes before log → after.is_void ≡ false → Tells after.pending log
 
 -- One event more is counted, and not composed.
 pub record CountsOn (before after : Composing) : Type 0 where

@@ -4,7 +4,7 @@ ghost use Rattle.std.specs.Bool.{OnTrue, OnFalse};
 ghost use Rattle.std.specs.Cow.{cow_str_bytes};
 ghost use Rattle.yaml_definitions.specs.grammar.Events.{no_props};
 ghost use Rattle.yaml_sink.specs.PropertyRules.{props_of};
-ghost use Rattle.yaml_store_composer.specs.BufferModel.{buffered_event, start_before, waits, IsOne, PutsBuffered, ComposesWaits, Precedes, DressesWaits};
+ghost use Rattle.yaml_store_composer.specs.BufferModel.{buffered_event, start_before, waits, IsThere, PutsBuffered, ComposesWaits, Precedes, DressesWaits};
 
 use crate::copies::{copy_over, fill, keep};
 use crate::pending::PendingProperties;
@@ -72,7 +72,7 @@ impl<'s> EventBuffer<'s> {
     /// Whether nothing waits.
     pub(crate) fn is_none(&self) -> bool
         ensures yes { OnTrue result (waits self.now ≡ []) }
-        ensures no { OnFalse result (IsOne (buffered_event self.now.buffered (props_of self.now.own) (cow_str_bytes self.now.text))) }
+        ensures no { OnFalse result (IsThere self.now) }
     {
         matches!(self.buffered, Buffered::Nothing)
     }
@@ -114,13 +114,10 @@ impl<'s> EventBuffer<'s> {
         Ok(())
     }
 
-    /// A mapping's start without properties waits before the event, where none does yet.
+    /// A mapping's start without properties waits before the event that does, where none does yet.
     pub(crate) fn precede(&mut self, flow: bool) -> Result<(), NoMemory>
-        ensures { IfOk result (λ _. Precedes flow (waits self.old) (waits self.new)) }
+        ensures { IfOk result (λ _. IsThere self.old → Precedes flow (waits self.old) (waits self.new)) }
     {
-        if self.is_none() {
-            return Err(NoMemory);
-        }
         let None = self.mapping else {
             return Err(NoMemory);
         };
@@ -165,11 +162,8 @@ impl<'s> EventBuffer<'s> {
 
     /// Puts properties on the first of the last so many events, which wait.
     pub(crate) fn dress(&mut self, count: usize, properties: Properties<'s>) -> Result<(), NoMemory>
-        ensures { IfOk result (λ _. DressesWaits count (props_of properties.entry) (waits self.old) (waits self.new)) }
+        ensures { IfOk result (λ _. IsThere self.old → DressesWaits count (props_of properties.entry) (waits self.old) (waits self.new)) }
     {
-        if self.is_none() {
-            return Err(NoMemory);
-        }
         if count == 1 {
             self.own = properties;
             return Ok(());
@@ -196,9 +190,7 @@ impl<'s> EventBuffer<'s> {
         let Some(_) = self.mapping else {
             return Ok(());
         };
-        let Some(at) = number.checked_sub(1) else {
-            return Err(NoMemory);
-        };
+        let at = number.saturating_sub(1);
         pending.begin(alloc, Collection::Mapping, at, &self.outer)?;
         Ok(())
     }
@@ -242,9 +234,7 @@ impl<'s> EventBuffer<'s> {
         if self.is_none() {
             return Ok(());
         }
-        let Some(number) = count.checked_sub(1) else {
-            return Err(NoMemory);
-        };
+        let number = count.saturating_sub(1);
         self.compose_start(alloc, pending, number)?;
         self.compose_buffered(alloc, pending, number)?;
         self.buffered = Buffered::Nothing;

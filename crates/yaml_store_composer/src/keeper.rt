@@ -14,7 +14,7 @@ ghost use Rattle.yaml_store_composer.specs.KeeperModel.{Composes, MakesRoom, Cou
 ghost use Rattle.yaml_tree.specs.Refused.{RefusesStream};
 
 use crate::event_buffer::{Buffered, EventBuffer};
-use crate::pending::PendingProperties;
+use crate::pending::{PendingProperties, sum};
 use std::alloc::Global;
 use std::borrow::CowStr;
 use std::mem;
@@ -77,14 +77,9 @@ impl<'s> Composing<'s> {
     fn make_room(&mut self) -> Result<(), NoMemory>
         ensures { IfOk result (λ _. MakesRoom self.old self.new) }
     {
-        if self.is_void {
-            return Err(NoMemory);
-        }
         self.buffer
             .compose(self.alloc, &mut self.pending, self.count)?;
-        let Some(count) = self.count.checked_add(1) else {
-            return Err(NoMemory);
-        };
+        let count = sum(self.count, 1)?;
         self.count = count;
         Ok(())
     }
@@ -95,9 +90,7 @@ impl<'s> Composing<'s> {
         ensures ok { IfOk result (λ _. CountsOn self.old self.new) }
         ensures err { IfErr result (λ e. e ≡ OutOfMemory) }
     {
-        let Some(count) = self.count.checked_add(1) else {
-            return Err(Fault::OutOfMemory);
-        };
+        let count = sum(self.count, 1)?;
         self.count = count;
         self.is_void = true;
         Ok(())
@@ -224,12 +217,7 @@ impl<'s> Composing<'s> {
     fn put_before(&mut self, start: usize, flow: bool) -> Result<(), NoMemory>
         ensures { IfOk result (λ _. Alters Composes start (λ es. mapping_start flow None untagged ∷ es) self.old self.new) }
     {
-        if self.is_void {
-            return Err(NoMemory);
-        }
-        let Some(count) = self.count.checked_add(1) else {
-            return Err(NoMemory);
-        };
+        let count = sum(self.count, 1)?;
         if self.buffer.is_none() {
             self.pending.precede(self.alloc, start, flow)?;
             self.count = count;
@@ -276,7 +264,6 @@ impl<'s> Composing<'s> {
         }
         self.buffer
             .compose(self.alloc, &mut self.pending, self.count)?;
-        self.pending.go_on()?;
         let documents = self.pending.documents()?;
         Ok(documents)
     }

@@ -59,6 +59,16 @@ pub(crate) struct PendingProperties<'s> {
     early: usize,
 }
 
+/// A sum of counts, if it fits.
+pub(crate) fn sum(a: usize, b: usize) -> Result<usize, NoMemory>
+    ensures { IfOk result (λ n. n ≡ a + b) }
+{
+    match a.checked_add(b) {
+        Some(n) => Ok(n),
+        None => Err(NoMemory),
+    }
+}
+
 /// A kind of collection, as nodes have it.
 fn kind_of(collection: Collection) -> nodes::Collection
     ensures { result ≡ kind_in collection }
@@ -142,10 +152,7 @@ impl<'s> PendingProperties<'s> {
     fn number(&self, at: usize) -> Result<usize, NoMemory>
         ensures { IfOk result (λ n. n ≡ at + self.now.early) }
     {
-        let Some(number) = at.checked_add(self.early) else {
-            return Err(NoMemory);
-        };
-        Ok(number)
+        sum(at, self.early)
     }
 
     /// An event follows behind the collection that ended last, to which nothing may be due then.
@@ -249,12 +256,8 @@ impl<'s> PendingProperties<'s> {
     {
         self.go_on()?;
         let number = self.number(at)?;
-        let Some(behind) = number.checked_add(1) else {
-            return Err(NoMemory);
-        };
-        let Some(early) = self.early.checked_add(1) else {
-            return Err(NoMemory);
-        };
+        let behind = sum(number, 1)?;
+        let early = sum(self.early, 1)?;
         let kind = kind_of(collection);
         self.judged.begin_untagged(&outer)?;
         self.judged.begin(alloc, behind, kind, &given)?;
@@ -270,18 +273,16 @@ impl<'s> PendingProperties<'s> {
         ensures { IfOk result (λ _. Puts Tells self.old (end_of collection ∷ []) self.new) }
     {
         self.go_on()?;
-        let Some(begun) = self.opens.pop() else {
-            return Err(NoMemory);
-        };
         let kind = kind_of(collection);
+        let Some(begun) = self.opens.pop() else {
+            self.judged.end(kind)?;
+            return Ok(());
+        };
         if let Some(above) = &begun.above {
             if above.kind != kind {
                 return Err(NoMemory);
             }
-            let Some(early) = self.early.checked_sub(1) else {
-                return Err(NoMemory);
-            };
-            self.early = early;
+            self.early = self.early.saturating_sub(1);
             self.ended = Some(begun);
             return Ok(());
         }
@@ -408,21 +409,13 @@ impl<'s> PendingProperties<'s> {
         Ok(())
     }
 
-    /// Whether a collection ended last, with nothing behind it.
-    fn is_behind_end(&self) -> bool
-        ensures { OnFalse result (self.now.ended ≡ None) }
+    /// How many documents and nodes there are, where no collection is open.
+    pub(crate) fn documents(&mut self) -> Result<StreamSize, Fault>
+        ensures count { (ds : List Document) → Tells self.old (stream_events ds) → IfOk result (UnfoldTo ds) }
+        ensures keeps { IfOk result (λ _. GoesOn self.old self.new) }
+        ensures refused { (ds : List Document) → Tells self.old (stream_events ds) → IfErr result (RefusesStream ds) }
     {
-        self.ended.is_some()
-    }
-
-    /// How many documents and nodes there are, where no collection is open or just ended.
-    pub(crate) fn documents(&self) -> Result<StreamSize, Fault>
-        ensures count { (ds : List Document) → Tells self.now (stream_events ds) → IfOk result (UnfoldTo ds) }
-        ensures refused { (ds : List Document) → Tells self.now (stream_events ds) → IfErr result (RefusesStream ds) }
-    {
-        if self.is_behind_end() {
-            return Err(Fault::OutOfMemory);
-        }
+        self.go_on()?;
         if self.opens.len() > 0 {
             return Err(Fault::OutOfMemory);
         }

@@ -1,4 +1,3 @@
-use Rattle.std.proofs.Common.{arith}
 use Rattle.yaml_sink.specs.PropertyRules.{props_of}
 use Rattle.yaml_store_composer.proofs.BufferLaws.{starts-none, starts-some}
 use Rattle.yaml_store_composer.proofs.event_buffer.EventBuffer.compose_start.Goals as goal
@@ -9,4 +8,4 @@ returns-in_default c = starts-none c.args.self.now.mapping (props_of c.args.self
 pub returns : goal.returns
 returns c =
     let w = c.args.self.now in
-    starts-some w.mapping c.in-Some.field-0 (props_of w.outer) c.args.number c.in-Some-checked_sub.at c.args.pending.now c.begin.new.self c.in-Some.is (omega (arith, c.in-Some-checked_sub.ensures.0, c.in-Some-checked_sub.ensures.1)) (c.in_ok-begin.ensures c.in-Some.field-0)
+    starts-some w.mapping c.in-Some.field-0 (props_of w.outer) c.args.number c.saturating_sub-at.result c.args.pending.now c.begin.new.self c.in-Some.is c.saturating_sub-at.ensures (c.in_ok-begin.ensures c.in-Some.field-0)

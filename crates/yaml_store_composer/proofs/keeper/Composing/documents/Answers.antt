@@ -4,11 +4,9 @@ use Rattle.yaml_store_composer.proofs.KeeperLaws.{all-composed, goes-on, settles
 use Rattle.yaml_store_composer.proofs.keeper.Composing.documents.Goals as goal
 
 pub returns-clause-count : goal.returns-clause-count
-returns-clause-count c = λ ds h.
-    let w = goes-on _ _ _ _ c.go_on.new.self c.in_ok-compose.ensures.composes c.in_ok-go_on.ensures in
-    c.in_ok-documents.ensures.count ds (all-composed c.args.self.now (stream_events ds) c.go_on.new.self h c.if-self.false w)
+returns-clause-count c = λ ds h. c.in_ok-documents.ensures.count ds (all-composed c.args.self.now (stream_events ds) c.compose.new.pending h c.if-self.false c.in_ok-compose.ensures.composes)
 
 pub returns-clause-keeps : goal.returns-clause-keeps
 returns-clause-keeps c =
-    let w = goes-on _ _ _ _ c.go_on.new.self c.in_ok-compose.ensures.composes c.in_ok-go_on.ensures in
+    let w = goes-on _ _ _ _ c.documents.new.self c.in_ok-compose.ensures.composes c.in_ok-documents.ensures.keeps in
     settles c.args.self.now _ c.if-self.false w c.in_ok-compose.ensures.none refl

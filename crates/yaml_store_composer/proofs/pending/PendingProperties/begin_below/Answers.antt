@@ -27,7 +27,7 @@ returns c = λ flow p log at t.
     let was = c.in_ok-go_on.ensures.tells log t in
     let m = mapping_start false (props_of c.args.outer).anchor untagged in
     let map = c.in_ok-begin_untagged.ensures.is was.told was.judges in
-    let takes = subst (λ z. Takes c.in-Some.behind z c.begin_untagged.new.self c.begin.new.self) (ap (λ z. start_of z flow g.anchor g.tag) c.kind_of-kind.ensures ∙ sym is) (c.in_ok-begin.ensures flow) in
-    let told = takes.is (was.told ++ (m ∷ [])) (omega (arith, c.in_ok-number.ensures, c.in-Some.ensures.1, at, was.size, length-append was.told (m ∷ []))) map in
-    tells-opened mid.judged c.begin.new.self mid.ended mid.opens.items c.push.new.self.items b e (kind_in k) flow g.anchor g.tag mid.early c.in-Some-checked_add.early c.in_ok-go_on.ensures.none c.in_ok-push.ensures.items is w (omega (arith, c.in-Some-checked_add.ensures.1)) log at was
+    let takes = subst (λ z. Takes c.in_ok-behind.behind z c.begin_untagged.new.self c.begin.new.self) (ap (λ z. start_of z flow g.anchor g.tag) c.kind_of-kind.ensures ∙ sym is) (c.in_ok-begin.ensures flow) in
+    let told = takes.is (was.told ++ (m ∷ [])) (omega (arith, c.in_ok-number.ensures, c.in_ok-behind.ensures, at, was.size, length-append was.told (m ∷ []))) map in
+    tells-opened mid.judged c.begin.new.self mid.ended mid.opens.items c.push.new.self.items b e (kind_in k) flow g.anchor g.tag mid.early c.in_ok-early.early c.in_ok-go_on.ensures.none c.in_ok-push.ensures.items is w (omega (arith, c.in_ok-early.ensures)) log at was
     (subst (Judges c.begin.new.self) (append_assoc was.told (m ∷ []) _) told)

@@ -5,10 +5,10 @@ use Rattle.yaml_store_composer.proofs.pending.PendingProperties.documents.Goals 
 
 pub returns-clause-count : goal.returns-clause-count
 returns-clause-count c = λ ds t.
-    let self = c.args.self.now in
-    c.documents.ensures.count ds (tells-all self.judged self.ended self.opens.items self.early (stream_events ds) c.if-is_behind_end.ensures (omega (arith, c.len.ensures, self.opens.ok.0, c.if-len-gt0.false)) t)
+    let mid = c.go_on.new.self in
+    c.documents.ensures.count ds (tells-all mid.judged mid.ended mid.opens.items mid.early (stream_events ds) c.in_ok-go_on.ensures.none (omega (arith, c.len.ensures, mid.opens.ok.0, c.if-len-gt0.false)) (c.in_ok-go_on.ensures.tells (stream_events ds) t))
 
 pub returns-clause-refused : goal.returns-clause-refused
 returns-clause-refused c = λ ds t.
-    let self = c.args.self.now in
-    c.documents.ensures.refused ds (tells-all self.judged self.ended self.opens.items self.early (stream_events ds) c.if-is_behind_end.ensures (omega (arith, c.len.ensures, self.opens.ok.0, c.if-len-gt0.false)) t)
+    let mid = c.go_on.new.self in
+    c.documents.ensures.refused ds (tells-all mid.judged mid.ended mid.opens.items mid.early (stream_events ds) c.in_ok-go_on.ensures.none (omega (arith, c.len.ensures, mid.opens.ok.0, c.if-len-gt0.false)) (c.in_ok-go_on.ensures.tells (stream_events ds) t))
