@@ -2,7 +2,7 @@
 use Rattle.std.proofs.Common.{◌≡◌, ℕ, zero, suc, ◌<◌, ◌≤◌, Bool, List, [], ◌∷◌, ◌++◌, length, set, take, drop, reverse, get_or, refl, sym, ◌∙◌, ap, subst, arith, append_assoc, length-append}
 use Rattle.std.specs.Prelude.{Option, None, Some, Ok}
 use Rattle.std.specs.List.{slice_get, All}
-use Rattle.std.proofs.lemmas.Option.{slice_get_within, get_or_from_slice_get, slice_get_read}
+use Rattle.std.proofs.lemmas.Option.{slice_get_within, get_or_from_slice_get, slice_get-get_or}
 use Rattle.std.proofs.lemmas.List.{reverse-append, map-append}
 use Rattle.std.proofs.lemmas.List.Elements.{All-nil, All-cons}
 use Rattle.yaml_definitions.specs.model.Limits.{height_limit}
@@ -232,16 +232,14 @@ module _ (tags : List (List ℕ)) (ts : List Tree) (anchored : List (Option ℕ)
   alias-within : (name : List ℕ) (place : ℕ) → last_place name (names_of table) ≡ Some place → place < length anchored
   alias-within name place e = omega (arith, found-within place (last_named name table) table (place-found name place e), table-length ts anchored table h.anchors)
 
-  pub alias-at : (name : List ℕ) (place i : ℕ) (a : Option ℕ) → last_place name (names_of table) ≡ Some place → a ≡ get_or anchored place a → a ≡ Some i → AliasAt ts i (last_named name table)
-  alias-at name place i a e q r =
-      alias-found ts anchored table place i (last_named name table) h.anchors (place-found name place e) (slice_get_read anchored (length anchored) place a refl (alias-within name place e) q ∙ ap Some r)
+  pub alias-at : (name : List ℕ) (place i : ℕ) → last_place name (names_of table) ≡ Some place → get_or anchored place None ≡ Some i → AliasAt ts i (last_named name table)
+  alias-at name place i e q = alias-found ts anchored table place i (last_named name table) h.anchors (place-found name place e) (slice_get-get_or anchored place None (alias-within name place e) ∙ ap Some q)
 
   pub alias-unnamed : (name : List ℕ) → last_place name (names_of table) ≡ None → last_named name table ≡ None
   alias-unnamed name e = found-none (last_named name table) table (subst (λ p. Found p (last_named name table) table) e (found name table))
 
-  pub alias-open : (name : List ℕ) (place : ℕ) (a : Option ℕ) → last_place name (names_of table) ≡ Some place → a ≡ get_or anchored place a → a ≡ None → last_named name table ≡ Some None
-  alias-open name place a e q r =
-      open-found ts anchored table place (last_named name table) h.anchors (place-found name place e) (slice_get_read anchored (length anchored) place a refl (alias-within name place e) q ∙ ap Some r)
+  pub alias-open : (name : List ℕ) (place : ℕ) → last_place name (names_of table) ≡ Some place → get_or anchored place None ≡ None → last_named name table ≡ Some None
+  alias-open name place e q = open-found ts anchored table place (last_named name table) h.anchors (place-found name place e) (slice_get-get_or anchored place None (alias-within name place e) ∙ ap Some q)
 
   -- a collection begins, with the nodes behind `before` as its first
   pub keeping-entered : (o : Open) (a : Anchor) (slot : ℕ) (g : List ℕ) (before rest : List Tree) (new : List Open) → new ≡ opens ++ (o ∷ []) → before ++ rest ≡ inner → Placed (names_of table) o.place a slot → o.mark ≡ length (below outer ++ before)
@@ -338,15 +336,14 @@ are-low s low stack us a = all-low height_limit us (low-all s low stack us a)
 pub left-in : (c : TreeBuilder) (s : machine.State) (os : List Open) (o : Open) → c.opens.items ≡ os ++ (o ∷ []) → Holds c s → Left (tags_of c.store) (trees_of c.store) c.anchored.items c.stack.items os o s.inner s.outer s.table
 left-in c s os o e h = keeping-left (tags_of c.store) (trees_of c.store) c.anchored.items c.stack.items c.opens.items os o s.inner s.outer s.table e h.keeping
 
--- the roots where no collection is open
+-- the roots where the state has no open collection
 pub record Roots (c : TreeBuilder) (s : machine.State) : Type 0 where
   pub at : AllAt (trees_of c.store) c.stack.items s.inner
   pub count : length c.stack.items ≡ length s.inner
 
-pub roots-of : (c : TreeBuilder) (s : machine.State) → Holds c s → length c.opens.items ≤ 0 → Roots c s
-roots-of c s h l =
+pub roots-of : (c : TreeBuilder) (s : machine.State) → Holds c s → s.outer ≡ [] → Roots c s
+roots-of c s h n =
     let k = c.store in
-    let n = outer-none (tags_of k) (trees_of k) c.anchored.items c.stack.items c.opens.items s.inner s.outer s.table h.keeping l in
     let a = roots-only (tags_of k) (trees_of k) c.anchored.items c.stack.items c.opens.items s.inner s.outer s.table h.keeping n in
     record {
       at = a;

@@ -1,5 +1,5 @@
 -- A builder up to the first event that is refused, as more events come.
-use Rattle.std.proofs.Common.{◌≡◌, ℕ, ◌+◌, ◌<◌, ◌≤◌, List, [], ◌∷◌, ◌++◌, length, sym, ◌∙◌, subst, arith, append_assoc, Ok, Err}
+use Rattle.std.proofs.Common.{◌-◌, ◌≡◌, ℕ, ◌+◌, ◌<◌, ◌≤◌, List, [], ◌∷◌, ◌++◌, length, sym, ◌∙◌, subst, arith, append_assoc, Ok, Err}
 use Rattle.std.specs.Prelude.{Bool, Option, None, Some}
 use Rattle.yaml_definitions.specs.model.Core.{Cause, collection_tag}
 use Rattle.yaml_definitions.specs.model.Event.{Event, untagged, mapping_start, stream_start, stream_end, document_end}
@@ -122,7 +122,7 @@ stops-there j new start front es fs e stop r n w k l b h =
 none-before : (start : ℕ) (o : Option Refusal) (r : Refusal) → o ≡ Some r → IsNoneBefore start o → start ≤ r.at
 none-before start o r e b = subst (IsNoneBefore start) e b
 
-pub settles-alone-refused : (j new : Judged) (start : ℕ) (k : Collection) (p : Props) (tag : List ℕ) (r s : Refusal) → j.refusal ≡ Some r → new.refusal ≡ Some s → s.cause ≡ r.cause → r.at ≡ s.at + 1 → IsNoneBefore start j.refusal → collection_tag (collection_number k) p.tag ≡ Ok tag → SettlesAlone Judges start k p j new
+pub settles-alone-refused : (j new : Judged) (start : ℕ) (k : Collection) (p : Props) (tag : List ℕ) (r s : Refusal) → j.refusal ≡ Some r → new.refusal ≡ Some s → s.cause ≡ r.cause → s.at ≡ r.at - 1 → IsNoneBefore start j.refusal → collection_tag (collection_number k) p.tag ≡ Ok tag → SettlesAlone Judges start k p j new
 settles-alone-refused j new start k p tag r s e q c n b t = record {
   is = λ front es m flow outer own l w one g h.
       let x = first-refused j r (keyed front outer untagged k flow own es) e h in

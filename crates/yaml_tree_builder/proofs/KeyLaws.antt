@@ -17,7 +17,7 @@ use Rattle.yaml_store.specs.declared.nodes.Collection.TheVariants as kinds
 use Rattle.yaml_tree_builder.specs.Reached.{Reaches}
 use Rattle.yaml_tree_builder.specs.Nodes.{with_nodes, Adding, Alike, AreNodes}
 use Rattle.yaml_tree_builder.specs.TagModel.{collection_number}
-use Rattle.yaml_tree_builder.specs.BuilderModel.{AllAt, below, OpensHold, Keeping, IsOnePlace, start_of}
+use Rattle.yaml_tree_builder.specs.BuilderModel.{AllAt, below, OpensHold, Keeping, start_of}
 use Rattle.yaml_tree_builder.specs.BuilderLog.{IsOneAnchor, HasOwnTag, keyed}
 use Rattle.yaml_tree_builder.specs.declared.builder.Open.{Open}
 use Rattle.yaml_tree_builder.proofs.ReachedLaws.{reaches-both, reaches-parts, reaches-one, one-reached, reaches-same, steps-any}
@@ -83,28 +83,33 @@ placed-none : (names : List (List ℕ)) (place : Option ℕ) (slot : ℕ) → Pl
 placed-none names None slot h = refl
 placed-none names (Some i) slot h = absurd h
 
-own-place : (outer own place : Option ℕ) → outer ≡ None → IsOnePlace outer own place → place ≡ own
-own-place outer own place n (inl (e, q)) = q
-own-place outer own place n (inr (e, q)) = q ∙ (n ∙ sym e)
-
-outer-place : (outer own place : Option ℕ) → own ≡ None → IsOnePlace outer own place → place ≡ outer
-outer-place outer own place n (inl (e, q)) = q ∙ (n ∙ sym e)
-outer-place outer own place n (inr (e, q)) = q
-
-pub placed-one : (names : List (List ℕ)) (op kp place : Option ℕ) (outer own both : Anchor) (table : Table) → IsOnePlace op kp place → IsOneAnchor outer own both → Placed names op outer (length table) → Placed names kp own (length (opened outer table)) → Placed names place both (length table)
-placed-one names op kp place outer own both table w (inl (e, q)) hm hk =
+pub placed-one : (names : List (List ℕ)) (op kp place : Option ℕ) (outer own both : Anchor) (table : Table) → (op ≡ None → place ≡ kp) → (kp ≡ None → place ≡ op) → IsOneAnchor outer own both → Placed names op outer (length table) → Placed names kp own (length (opened outer table)) → Placed names place both (length table)
+placed-one names op kp place outer own both table w v (inl (e, q)) hm hk =
     let none = placed-none names op (length table) (subst (λ a. Placed names op a (length table)) e hm) in
     let here : Placed names kp own (length table) = subst (λ a. Placed names kp own (length (opened a table))) e hk in
-    subst (λ z. Placed names z both (length table)) (sym (own-place op kp place none w)) (subst (λ a. Placed names kp a (length table)) (sym q) here)
-placed-one names op kp place outer own both table w (inr (e, q)) hm hk =
+    subst (λ z. Placed names z both (length table)) (sym (w none)) (subst (λ a. Placed names kp a (length table)) (sym q) here)
+placed-one names op kp place outer own both table w v (inr (e, q)) hm hk =
     let none = placed-none names kp (length (opened outer table)) (subst (λ a. Placed names kp a (length (opened outer table))) e hk) in
-    subst (λ z. Placed names z both (length table)) (sym (outer-place op kp place none w)) (subst (λ a. Placed names op a (length table)) (sym q) hm)
+    subst (λ z. Placed names z both (length table)) (sym (v none)) (subst (λ a. Placed names op a (length table)) (sym q) hm)
 
 reverse-push : {X : Type 0} (xs : List X) (x : X) → reverse (xs ++ (x ∷ [])) ≡ x ∷ reverse xs
 reverse-push xs x = reverse-append xs (x ∷ [])
 
 reverse-two : {X : Type 0} (os ms opens : List X) (m k : X) → opens ≡ ms ++ (k ∷ []) → ms ≡ os ++ (m ∷ []) → reverse opens ≡ k ∷ (m ∷ reverse os)
 reverse-two os ms opens m k e q = ap reverse e ∙ (reverse-push ms k ∙ ap (λ z. k ∷ z) (ap reverse q ∙ reverse-push os m))
+
+-- fewer than two are open
+no-open : (os : List Open) → length os ≤ 0 → os ≡ []
+no-open [] l = refl
+no-open (o ∷ os) l = absurd (omega arith)
+
+pub two-none : {X : Type 0} (tags names : List (List ℕ)) (opens : List Open) (p q : machine.Open) (ps : List machine.Open) → length opens ≤ 0 → OpensHold tags names (reverse opens) (p ∷ (q ∷ ps)) → X
+two-none tags names opens p q ps l h = absurd (subst (λ z. OpensHold tags names (reverse z) (p ∷ (q ∷ ps))) (no-open opens l) h)
+
+pub two-one : {X : Type 0} (tags names : List (List ℕ)) (opens ms : List Open) (k : Open) (p q : machine.Open) (ps : List machine.Open) → opens ≡ ms ++ (k ∷ []) → length ms ≤ 0 → OpensHold tags names (reverse opens) (p ∷ (q ∷ ps)) → X
+two-one tags names opens ms k p q ps e l h =
+    let one : reverse opens ≡ k ∷ [] = ap reverse (e ∙ ap (λ z. z ++ (k ∷ [])) (no-open ms l)) in
+    absurd (subst (λ z. OpensHold tags names z (p ∷ (q ∷ ps))) one h).1
 
 module _ (tags : List (List ℕ)) (ts : List Tree) (anchored : List (Option ℕ)) (stack : List ℕ) (opens ms os : List Open) (k m o : Open) (inner : List Tree) (kf mf : machine.Open) (ps : List machine.Open) (table : Table) (ek : opens ≡ ms ++ (k ∷ [])) (em : ms ≡ os ++ (m ∷ []))
     (h : Keeping tags ts anchored stack opens inner (kf ∷ (mf ∷ ps)) table) where
@@ -173,7 +178,7 @@ own-tagged k own both tag (inr e) q = record { tag = tag; is = ap (collection_ta
 
 -- there is no mapping
 pub alone-refused : (front es : List Event) (n : ℕ) (k : Collection) (flow : Bool) (outer : Anchor) (own p : Props) (tag : List ℕ) (cause : Cause) (at to : ℕ) → AreNodes n es → IsOneAnchor outer own.anchor p.anchor → HasOwnTag own.tag p.tag → collection_tag (collection_number k) p.tag ≡ Ok tag
-    → length front ≤ at → at ≡ to + 1 → steps 0 (keyed front outer untagged k flow own es) initial_state ≡ Some (Err (cause, at)) → steps 0 (front ++ (start_of k flow p.anchor p.tag ∷ es)) initial_state ≡ Some (Err (cause, to))
+    → length front ≤ at → to ≡ at - 1 → steps 0 (keyed front outer untagged k flow own es) initial_state ≡ Some (Err (cause, at)) → steps 0 (front ++ (start_of k flow p.anchor p.tag ∷ es)) initial_state ≡ Some (Err (cause, to))
 alone-refused front es n k flow outer own p tag cause at to w o g t l e h =
     let m = mapping_start false outer untagged in
     let c = start_of k flow own.anchor own.tag in
@@ -187,7 +192,7 @@ alone-refused front es n k flow outer own p tag cause at to w o g t l e h =
     let one : steps (size + 1) (c ∷ es) u ≡ Some (Err (cause, at)) = sym (step-behind size kinds.Mapping false outer untagged map (c ∷ es) b.state (untagged-is kinds.Mapping)) ∙ b.refused in
     let two : steps (size + 1 + 1) es v ≡ Some (Err (cause, at)) = sym (step-behind (size + 1) k flow own.anchor own.tag d.tag es u d.is) ∙ one in
     let same : v.table ≡ x.table = sym (same-anchors outer own.anchor p.anchor b.state.table o) in
-    let number : at + (size + 1) ≡ to + (size + 1 + 1) = omega (arith, e) in
+    let number : at + (size + 1) ≡ to + (size + 1 + 1) = omega (arith, e, steps-at (c ∷ es) (size + 1) u (cause, at) one) in
     front-behind front (start_of k flow p.anchor p.tag ∷ es) b.state b.is ∙ (step-behind size k flow p.anchor p.tag tag es b.state t ∙ alike-at es v x (size + 1 + 1) (size + 1) at to cause (w.alike v x same) number two)
 
 -- there is one

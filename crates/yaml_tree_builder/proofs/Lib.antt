@@ -1,4 +1,5 @@
 pub mod ReachedLaws
+mod LevelLaws
 pub mod AnchorLaws
 pub mod TagLaws
 pub mod BuilderLaws

@@ -32,17 +32,17 @@ step-any at to stream_start s t h = h
 step-any at to stream_end s t h = h
 
 -- the first step, and those of the rest
-record First (at : ℕ) (e : Event) (es : List Event) (s t : State) : Type 0 where
-  middle : State
-  is : step at e s ≡ Some (Ok middle)
-  rest : steps (suc at) es middle ≡ Some (Ok t)
+pub record First (at : ℕ) (e : Event) (es : List Event) (s t : State) : Type 0 where
+  pub middle : State
+  pub is : step at e s ≡ Some (Ok middle)
+  pub rest : steps (suc at) es middle ≡ Some (Ok t)
 
 first-of : (at : ℕ) (e : Event) (es : List Event) (s t : State) (o : Option (Outcome State)) → step at e s ≡ o → next o (steps (suc at) es) ≡ Some (Ok t) → First at e es s t
 first-of at e es s t None q h = absurd (cc)
 first-of at e es s t (Some (Err x)) q h = absurd (cc)
 first-of at e es s t (Some (Ok m)) q h = record { middle = m; is = q; rest = h }
 
-first : (at : ℕ) (e : Event) (es : List Event) (s t : State) → steps at (e ∷ es) s ≡ Some (Ok t) → First at e es s t
+pub first : (at : ℕ) (e : Event) (es : List Event) (s t : State) → steps at (e ∷ es) s ≡ Some (Ok t) → First at e es s t
 unfolding steps
 first at e es s t h = first-of at e es s t (step at e s) refl h
 

@@ -1,5 +1,5 @@
 -- What the builder holds, as plain values.
-use Rattle.std.specs.Prelude.{◌≡◌, ◌⊎◌, ◌<◌, ℕ, Bool, List, [], ◌∷◌, ◌++◌, length, reverse, Option, Some, None, Result, Ok, IfOk}
+use Rattle.std.specs.Prelude.{◌≡◌, ◌<◌, ℕ, Bool, List, [], ◌∷◌, ◌++◌, length, reverse, Option, Some, None, Result, Ok, IfOk}
 use Rattle.std.specs.List.{slice_get}
 use Rattle.yaml_definitions.specs.model.Tree.{Tree}
 use Rattle.yaml_definitions.specs.model.Event.{Anchor, Event, WrittenTag, sequence_start, sequence_end, mapping_start, mapping_end}
@@ -85,15 +85,15 @@ pub record Stepped (e : Event) (s : machine.State) (c : TreeBuilder) : Type 0 wh
   pub is : machine.step 0 e s ≡ Some (Ok state)
   pub holds : Holds c state
 
+-- A collection of the kind may have this tag as it is written, and then has this one.
+abbrev pub HasTag : Collection → WrittenTag → List ℕ → Type 0
+HasTag k g tag = collection_tag (collection_number k) g ≡ Ok tag
+
 -- A collection of the kind may have this tag, and this is the tag's number.
 pub record IsNumber (k : Collection) (g : WrittenTag) (c : TreeBuilder) (n : ℕ) : Type 0 where
   pub tag : List ℕ
   pub is : collection_tag (collection_number k) g ≡ Ok tag
   pub at : slice_get (tags_of c.store) n ≡ Some tag
-
--- not two places, and the one that there is
-abbrev pub IsOnePlace : Option ℕ → Option ℕ → Option ℕ → Type 0
-IsOnePlace outer own place = ((outer ≡ None) × (place ≡ own)) ⊎ ((own ≡ None) × (place ≡ outer))
 
 abbrev pub start_of : Collection → (flow : Bool) → Anchor → WrittenTag → Event
 start_of Sequence flow a g = sequence_start flow a g

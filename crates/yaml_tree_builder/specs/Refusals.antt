@@ -1,5 +1,5 @@
 -- Why an event is not taken.
-use Rattle.std.specs.Prelude.{◌≡◌, ℕ, List, Result, Some, Err}
+use Rattle.std.specs.Prelude.{◌≡◌, ℕ, Result, Some, Err}
 use Rattle.yaml_definitions.specs.model.Event.{Event}
 use Rattle.yaml_definitions.specs.model.Core as core
 use Rattle.yaml_text.specs.declared.fault.Fault.{Fault}

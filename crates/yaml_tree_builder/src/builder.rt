@@ -1,8 +1,10 @@
 //! From nodes, as they begin and end, to nodes of a store. Where a node has no tree it says why.
-ghost use Rattle.std.specs.Prelude.{◌≡◌, ℕ, Bool, false, List, ◌∷◌, ◌++◌, length, drop, None, Ok, IfOk, IfErr, MatchResult};
+ghost use Rattle.std.specs.Prelude.{◌≡◌, ℕ, Bool, false, List, ◌∷◌, ◌++◌, length, drop, get_or, None, Ok, IfOk, IfErr, MatchResult};
 ghost use Rattle.yaml_definitions.specs.model.Tree.{Tree};
-ghost use Rattle.yaml_definitions.specs.model.Event.{Anchor, Event, untagged, document_start, mapping_start, alias_event};
+ghost use Rattle.yaml_definitions.specs.model.Event.{Anchor, WrittenTag, Event, untagged, document_start, mapping_start, alias_event};
 ghost use Rattle.yaml_definitions.specs.model.Serial.{Document, stream_events};
+ghost use Rattle.yaml_definitions.specs.grammar.Events.{Props};
+ghost use Rattle.yaml_store.specs.declared.nodes.Collection.TheVariants.{Mapping};
 ghost use Rattle.yaml_sink.specs.PropertyRules.{props_of, props_in};
 ghost use Rattle.yaml_tree.specs.Anchors.{names_of, Placed};
 ghost use Rattle.yaml_tree.specs.ComposerSteps.{State, initial_state, node_begun, whole};
@@ -11,7 +13,7 @@ ghost use Rattle.yaml_store.specs.declared.store.Store.{Store};
 ghost use Rattle.yaml_tree_builder.specs.Reached.{Reaches, UnfoldTo, all_events};
 ghost use Rattle.yaml_tree_builder.specs.Nodes.{AreNodes};
 ghost use Rattle.yaml_tree_builder.specs.FirstsModel.{Comes};
-ghost use Rattle.yaml_tree_builder.specs.BuilderModel.{with_store, Holds, Stepped, IsForest, AreForests, AreStreams, IsNumber, IsOnePlace, start_of, end_of, OpensBare};
+ghost use Rattle.yaml_tree_builder.specs.BuilderModel.{with_store, Holds, Stepped, IsForest, AreForests, AreStreams, IsNumber, HasTag, start_of, end_of, OpensBare};
 ghost use Rattle.yaml_tree_builder.specs.BuilderLog.{Follows, SettlesAlone, SettlesKey};
 ghost use Rattle.yaml_tree.specs.Refused.{RefusesStream};
 ghost use Rattle.yaml_tree_builder.specs.Refusals.{Stops};
@@ -21,7 +23,7 @@ use crate::core_tags::CoreTags;
 use crate::firsts::Firsts;
 use crate::size::StreamSize;
 use crate::stop::{Cause, Stop};
-use crate::tag::{tag_given, tag_of};
+use crate::tag::tag_of;
 use crate::too_high::first_too_high;
 use std::alloc::Global;
 use yaml_sink::properties::{Given, Properties};
@@ -36,7 +38,6 @@ use yaml_text::fault::Fault;
 pub(crate) struct Open {
     /// Its place among the anchored nodes, if it has an anchor.
     place: Option<usize>,
-    collection: Collection,
     /// The number of its tag.
     tag: u32,
     /// How many whole nodes stand before its own.
@@ -61,23 +62,31 @@ pub(crate) struct TreeBuilder<'s> {
 }
 
 /// The nodes from this place on.
-fn parts_from(stack: &[u32], mark: usize) -> Result<&[u32], NoMemory>
-    ensures { IfOk result (λ parts. parts.now ≡ drop mark stack.now) }
+fn parts_from(stack: &[u32], mark: usize) -> &[u32]
+    ensures { result.now ≡ drop mark stack.now }
 {
-    if mark > stack.len() {
-        return Err(NoMemory);
-    }
-    Ok(&stack[mark..])
+    &stack[mark.min(stack.len())..]
 }
 
-/// The place of a node among the anchored ones, which it has as its own or from lines above, but not both.
-fn one_place(outer: Option<usize>, own: Option<usize>) -> Result<Option<usize>, NoMemory>
-    ensures { IfOk result (IsOnePlace outer own) }
+/// The place of a node among the anchored ones, which it has from lines above or as its own.
+fn one_place(outer: Option<usize>, own: Option<usize>) -> Option<usize>
+    ensures own { outer ≡ None → result ≡ own }
+    ensures outer { own ≡ None → result ≡ outer }
 {
-    match (outer, own) {
-        (None, place) => Ok(place),
-        (place, None) => Ok(place),
-        _ => Err(NoMemory),
+    match outer {
+        None => own,
+        Some(_) => outer,
+    }
+}
+
+/// The node at this place among the anchored ones, unless it is still open.
+fn whole_at(anchored: &[Option<u32>], place: usize) -> Option<u32>
+    ensures { result ≡ get_or anchored.now place None }
+{
+    if place < anchored.len() {
+        anchored[place]
+    } else {
+        None
     }
 }
 
@@ -120,14 +129,11 @@ impl<'s> TreeBuilder<'s> {
         Ok(())
     }
 
-    /// How many documents and nodes there are, where no collection is open.
+    /// How many documents and nodes there are.
     pub(crate) fn documents(&self) -> Result<StreamSize, Fault>
         ensures size { (ds : List Document) (s : State) → Reaches (stream_events ds) initial_state s → Holds self.now s → IfOk result (UnfoldTo ds) }
         ensures refused { (ds : List Document) (s : State) → Reaches (stream_events ds) initial_state s → Holds self.now s → IfErr result (RefusesStream ds) }
     {
-        if self.opens.len() > 0 {
-            return Err(Fault::OutOfMemory);
-        }
         if let Some(document) = first_too_high(&self.store, &self.stack) {
             return Err(Fault::TooHigh(document));
         }
@@ -150,12 +156,9 @@ impl<'s> TreeBuilder<'s> {
             anchors: _,
             anchored: _,
             stack,
-            opens,
+            opens: _,
             firsts,
         } = self;
-        if opens.len() > 0 {
-            return Err(Fault::OutOfMemory);
-        }
         if let Some(document) = first_too_high(&store, &stack) {
             return Err(Fault::TooHigh(document));
         }
@@ -193,10 +196,9 @@ impl<'s> TreeBuilder<'s> {
         self.firsts.note(self.store.len())?;
         self.stack.push(id)?;
         if let Some(place) = place {
-            if place >= self.anchored.len() {
-                return Err(NoMemory);
+            if place < self.anchored.len() {
+                self.anchored[place] = Some(id);
             }
-            self.anchored[place] = Some(id);
         }
         Ok(())
     }
@@ -209,10 +211,7 @@ impl<'s> TreeBuilder<'s> {
         let Some(place) = found else {
             return Err(Stop::Refused(Cause::UndefinedAlias));
         };
-        if place >= self.anchored.len() {
-            return Err(Stop::NoMemory);
-        }
-        let Some(id) = self.anchored[place] else {
+        let Some(id) = whole_at(&self.anchored, place) else {
             return Err(Stop::Refused(Cause::CyclicAlias));
         };
         self.stack.push(id)?;
@@ -236,7 +235,6 @@ impl<'s> TreeBuilder<'s> {
         let mark = self.stack.len();
         self.opens.push(Open {
             place,
-            collection,
             tag: number,
             mark,
         })?;
@@ -249,12 +247,7 @@ impl<'s> TreeBuilder<'s> {
     {
         let tag = self.core.collection(collection);
         let mark = self.stack.len();
-        self.opens.push(Open {
-            place,
-            collection,
-            tag,
-            mark,
-        })?;
+        self.opens.push(Open { place, tag, mark })?;
         Ok(())
     }
 
@@ -314,70 +307,47 @@ impl<'s> TreeBuilder<'s> {
         }
     }
 
-    /// The number of the tag of a collection with these properties, which it may have.
-    fn number_of(
-        &mut self,
-        alloc: Global,
-        collection: Collection,
-        properties: &Properties<'_>,
-    ) -> Result<u32, NoMemory>
-        ensures { (s : State) → Holds self.old s → IfOk result (λ n. IsNumber collection (props_of properties.now).tag self.new n × Holds self.new s) }
+    /// The number of the tag that a collection has.
+    fn number_of(&mut self, alloc: Global, tag: &str) -> Result<u32, NoMemory>
+        ensures { (s : State) → Holds self.old s → (k : Collection) (g : WrittenTag) → HasTag k g tag.now → IfOk result (λ n. IsNumber k g self.new n × Holds self.new s) }
     {
-        let Ok(text) = tag_given(collection, properties) else {
-            return Err(NoMemory);
-        };
-        let number = self.store.tag(alloc, text)?;
+        let number = self.store.tag(alloc, tag)?;
         Ok(number)
     }
 
-    /// The innermost collection stands in the place of the mapping around it, and has these properties.
-    pub(crate) fn settle_alone(
-        &mut self,
-        alloc: Global,
-        collection: Collection,
-        properties: &Properties<'_>,
-    ) -> Result<(), NoMemory>
-        ensures { (start : ℕ) → IfOk result (λ _. SettlesAlone Follows start collection (props_of properties.now) self.old self.new) }
+    /// The innermost collection stands in the place of the mapping around it, and has this tag.
+    pub(crate) fn settle_alone(&mut self, alloc: Global, tag: &str) -> Result<(), NoMemory>
+        ensures { (start : ℕ) (k : Collection) (p : Props) → HasTag k p.tag tag.now → IfOk result (λ _. SettlesAlone Follows start k p self.old self.new) }
     {
-        let tag = self.number_of(alloc, collection, properties)?;
-        let Some(own) = self.opens.pop() else {
-            return Err(NoMemory);
-        };
-        let Some(outer) = self.opens.pop() else {
-            return Err(NoMemory);
-        };
-        let place = one_place(outer.place, own.place)?;
-        self.opens.push(Open {
-            place,
-            collection,
-            tag,
-            mark: outer.mark,
-        })?;
+        let tag = self.number_of(alloc, tag)?;
+        if let Some(own) = self.opens.pop() {
+            if let Some(outer) = self.opens.pop() {
+                let place = one_place(outer.place, own.place);
+                self.opens.push(Open {
+                    place,
+                    tag,
+                    mark: outer.mark,
+                })?;
+            }
+        }
         Ok(())
     }
 
-    /// The mapping around the innermost collection has the tag of these properties.
-    pub(crate) fn settle_key(
-        &mut self,
-        alloc: Global,
-        properties: &Properties<'_>,
-    ) -> Result<(), NoMemory>
-        ensures { (start : ℕ) → IfOk result (λ _. SettlesKey Follows start (props_of properties.now) self.old self.new) }
+    /// The mapping around the innermost collection has this tag.
+    pub(crate) fn settle_key(&mut self, alloc: Global, tag: &str) -> Result<(), NoMemory>
+        ensures { (start : ℕ) (p : Props) → HasTag Mapping p.tag tag.now → IfOk result (λ _. SettlesKey Follows start p self.old self.new) }
     {
-        let tag = self.number_of(alloc, Collection::Mapping, properties)?;
-        let Some(own) = self.opens.pop() else {
-            return Err(NoMemory);
-        };
-        let Some(outer) = self.opens.pop() else {
-            return Err(NoMemory);
-        };
-        self.opens.push(Open {
-            place: outer.place,
-            collection: outer.collection,
-            tag,
-            mark: outer.mark,
-        })?;
-        self.opens.push(own)?;
+        let tag = self.number_of(alloc, tag)?;
+        if let Some(own) = self.opens.pop() {
+            if let Some(outer) = self.opens.pop() {
+                self.opens.push(Open {
+                    place: outer.place,
+                    tag,
+                    mark: outer.mark,
+                })?;
+                self.opens.push(own)?;
+            }
+        }
         Ok(())
     }
 
@@ -386,12 +356,9 @@ impl<'s> TreeBuilder<'s> {
         ensures { (front es : List Event) → AreNodes 1 es → Follows self.old (front ++ es) → IfOk result (λ _. (flow : Bool) → Follows self.new (front ++ (mapping_start flow None untagged ∷ es))) }
     {
         let tag = self.core.collection(Collection::Mapping);
-        let Some(mark) = self.stack.len().checked_sub(1) else {
-            return Err(NoMemory);
-        };
+        let mark = self.stack.len().saturating_sub(1);
         self.opens.push(Open {
             place: None,
-            collection: Collection::Mapping,
             tag,
             mark,
         })?;
@@ -405,11 +372,8 @@ impl<'s> TreeBuilder<'s> {
         let Some(open) = self.opens.pop() else {
             return Err(NoMemory);
         };
-        if open.collection != collection {
-            return Err(NoMemory);
-        }
-        let parts = parts_from(&self.stack, open.mark)?;
-        let id = self.store.collection(open.collection, open.tag, parts)?;
+        let parts = parts_from(&self.stack, open.mark);
+        let id = self.store.collection(collection, open.tag, parts)?;
         self.stack.truncate(open.mark);
         self.put(open.place, id)?;
         Ok(())

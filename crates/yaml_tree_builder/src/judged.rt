@@ -179,17 +179,18 @@ impl<'s> Judged<'s> {
         if self.is_refused_before(start) {
             return Ok(());
         }
-        if let Err(stop) = tag_given(collection, properties) {
-            self.refusal = Some(stop.refusal(start)?);
-            return Ok(());
-        }
+        let tag = match tag_given(collection, properties) {
+            Ok(tag) => tag,
+            Err(stop) => {
+                self.refusal = Some(stop.refusal(start)?);
+                return Ok(());
+            }
+        };
         let Some(refusal) = self.refusal else {
-            self.builder.settle_alone(alloc, collection, properties)?;
+            self.builder.settle_alone(alloc, tag)?;
             return Ok(());
         };
-        let Some(at) = refusal.at.checked_sub(1) else {
-            return Err(NoMemory);
-        };
+        let at = refusal.at.saturating_sub(1);
         self.refusal = Some(Refusal {
             cause: refusal.cause,
             at,
@@ -209,14 +210,17 @@ impl<'s> Judged<'s> {
         if self.is_refused_before(start) {
             return Ok(());
         }
-        if let Err(stop) = tag_given(Collection::Mapping, properties) {
-            self.refusal = Some(stop.refusal(start)?);
-            return Ok(());
-        }
+        let tag = match tag_given(Collection::Mapping, properties) {
+            Ok(tag) => tag,
+            Err(stop) => {
+                self.refusal = Some(stop.refusal(start)?);
+                return Ok(());
+            }
+        };
         if let Some(_) = self.refusal {
             return Ok(());
         }
-        self.builder.settle_key(alloc, properties)?;
+        self.builder.settle_key(alloc, tag)?;
         Ok(())
     }
 

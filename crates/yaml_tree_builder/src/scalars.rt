@@ -1,8 +1,8 @@
 //! Scalars, put down as nodes of the builder's store.
-ghost use Rattle.std.specs.Prelude.{ℕ, None, Ok, IfOk, MatchResult};
+ghost use Rattle.std.specs.Prelude.{◌≡◌, ℕ, None, Ok, IfOk, MatchResult};
 ghost use Rattle.std.specs.Cow.{cow_str_bytes};
 ghost use Rattle.yaml_definitions.specs.model.Tree.{scalar};
-ghost use Rattle.yaml_definitions.specs.model.Event.{Anchor, Style as PlainStyle, untagged, plain, scalar_event};
+ghost use Rattle.yaml_definitions.specs.model.Event.{Anchor, Style as PlainStyle, untagged, full, plain, scalar_event};
 ghost use Rattle.yaml_text.specs.EventModel.{style_of};
 ghost use Rattle.yaml_core.specs.Kind.{kind_tag};
 ghost use Rattle.yaml_sink.specs.PropertyRules.{props_of, props_in};
@@ -14,7 +14,7 @@ ghost use Rattle.yaml_tree_builder.specs.Refusals.{Stops};
 
 use crate::builder::TreeBuilder;
 use crate::stop::Stop;
-use crate::tag::keeps_texts;
+use crate::tag::kept_tag;
 use std::alloc::Global;
 use std::borrow::CowStr;
 use yaml_core::PlainKind;
@@ -26,22 +26,20 @@ use yaml_store::no_memory::NoMemory;
 use yaml_text::event::{EventTag, Style};
 
 impl<'s> TreeBuilder<'s> {
-    /// A scalar with this anchor and a tag under which each text stands for itself.
+    /// A scalar with this anchor and this tag, under which each text stands for itself.
     fn put_kept(
         &mut self,
         alloc: Global,
         given: &Given<'_>,
+        tag: &str,
         text: &mut CowStr<'_>,
         offset: usize,
     ) -> Result<(), NoMemory>
-        ensures { (y : PlainStyle) (s : State) → Holds self.old s → KeepsTexts (props_in given.now).tag →
+        ensures { (y : PlainStyle) (s : State) → Holds self.old s → (props_in given.now).tag ≡ full tag.now → KeepsTexts (full tag.now) →
             IfOk result (λ _. Stepped (scalar_event (props_in given.now).anchor (props_in given.now).tag y (cow_str_bytes text.old)) s self.new) }
     {
         let place = self.begin_node(given)?;
-        let EventTag::Full(tag) = &given.tag else {
-            return Err(NoMemory);
-        };
-        let id = self.store.scalar(alloc, tag.as_str(), text, offset)?;
+        let id = self.store.scalar(alloc, tag, text, offset)?;
         self.put(place, id)?;
         Ok(())
     }
@@ -59,8 +57,8 @@ impl<'s> TreeBuilder<'s> {
             let event = scalar_event (props_in given.now).anchor (props_in given.now).tag (style_of style) (cow_str_bytes text.old) in
             MatchResult result (λ _. Stepped event s self.new) (Stops event s) }
     {
-        if keeps_texts(&given.tag) {
-            self.put_kept(alloc, given, text, offset)?;
+        if let Some(tag) = kept_tag(&given.tag) {
+            self.put_kept(alloc, given, tag, text, offset)?;
             return Ok(());
         }
         let scalar = resolve(alloc, &given.tag, style, text.as_str())?;

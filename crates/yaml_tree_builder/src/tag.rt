@@ -1,8 +1,8 @@
 //! Tags of collections.
-ghost use Rattle.std.specs.Prelude.{MatchResult, Ok, ◌≡◌};
-ghost use Rattle.std.specs.Bool.{OnTrue};
+ghost use Rattle.std.specs.Prelude.{MatchResult, Ok, IfSome, ◌≡◌};
 ghost use Rattle.yaml_definitions.specs.model.Tag.{default_tag, is_core};
 ghost use Rattle.yaml_definitions.specs.model.Core.{collection_tag};
+ghost use Rattle.yaml_definitions.specs.model.Event.{full};
 ghost use Rattle.yaml_text.specs.EventModel.{written_of};
 ghost use Rattle.yaml_sink.specs.PropertyRules.{props_of};
 ghost use Rattle.yaml_tree_builder.specs.TagModel.{collection_number, KeepsTexts};
@@ -42,13 +42,18 @@ pub(crate) fn default_tag(collection: Collection) -> &'static str
     }
 }
 
-/// Whether this is a tag that is written out, and each text stands for itself under it.
-pub(crate) fn keeps_texts(tag: &EventTag<'_>) -> bool
-    ensures { OnTrue result (KeepsTexts (written_of tag.now)) }
+/// The tag that is written out, if each text stands for itself under it.
+pub(crate) fn kept_tag<'t>(tag: &'t EventTag<'_>) -> Option<&'t str>
+    ensures is { IfSome result (λ text. written_of tag.now ≡ full text.now) }
+    ensures keeps { IfSome result (λ text. KeepsTexts (full text.now)) }
 {
-    match tag {
-        EventTag::Full(full) => matches!(tag_use(full.as_str()), TagUse::Kept),
-        EventTag::None | EventTag::NonSpecific => false,
+    let EventTag::Full(full) = tag else {
+        return None;
+    };
+    let text = full.as_str();
+    match tag_use(text) {
+        TagUse::Kept => Some(text),
+        _ => None,
     }
 }
 

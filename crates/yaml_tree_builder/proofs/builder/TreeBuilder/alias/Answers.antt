@@ -1,4 +1,4 @@
-use Rattle.std.proofs.Common.{◌∷◌, [], ◌++◌, Some, refl, ap, ◌∙◌}
+use Rattle.std.proofs.Common.{◌∷◌, [], ◌++◌, Some, refl, sym, ap, get_or, ◌∙◌}
 use Rattle.std.specs.Prelude.{None}
 use Rattle.yaml_definitions.specs.model.Unfold.{and_then, placed, tree_named}
 use Rattle.yaml_tree.specs.Anchors.{names_of}
@@ -15,20 +15,20 @@ returns-in_default c = λ s h.
     let e = c.in_ok-found.ensures.place (names_of s.table) h.names ∙ c.in_default.is in
     alias-stops c.args.name.now s causes.UndefinedAlias (ap tree_named (alias-unnamed (tags_of self.store) (trees_of self.store) self.anchored.items self.stack.items self.opens.items s.inner s.outer s.table h.keeping c.args.name.now e))
 
-pub returns-in_default-index : goal.returns-in_default-index
-returns-in_default-index c = λ s h.
+pub returns-in_default-whole_at : goal.returns-in_default-whole_at
+returns-in_default-whole_at c = λ s h.
     let self = c.args.self.now in
     let e = c.in_ok-found.ensures.place (names_of s.table) h.names ∙ c.in-Some.is in
-    alias-stops c.args.name.now s causes.CyclicAlias (ap tree_named (alias-open (tags_of self.store) (trees_of self.store) self.anchored.items self.stack.items self.opens.items s.inner s.outer s.table h.keeping c.args.name.now c.in-Some.place c.index.result.now e c.index.ensures c.in_default-index.is))
+    alias-stops c.args.name.now s causes.CyclicAlias (ap tree_named (alias-open (tags_of self.store) (trees_of self.store) self.anchored.items self.stack.items self.opens.items s.inner s.outer s.table h.keeping c.args.name.now c.in-Some.place e (sym (c.whole_at.ensures ∙ ap (λ z. get_or z c.in-Some.place None) c.deref.ensures.value) ∙ c.in_default-whole_at.is)))
 
 pub returns : goal.returns
 unfolding step
 returns c = λ s h.
     let self = c.args.self.now in
-    let i = c.in-Some-index.id in
+    let i = c.in-Some-whole_at.id in
     let place = c.in-Some.place in
     let e = c.in_ok-found.ensures.place (names_of s.table) h.names ∙ c.in-Some.is in
-    let f = alias-at (tags_of self.store) (trees_of self.store) self.anchored.items self.stack.items self.opens.items s.inner s.outer s.table h.keeping c.args.name.now place i c.index.result.now e c.index.ensures c.in-Some-index.is in
+    let f = alias-at (tags_of self.store) (trees_of self.store) self.anchored.items self.stack.items self.opens.items s.inner s.outer s.table h.keeping c.args.name.now place i e (sym (c.whole_at.ensures ∙ ap (λ z. get_or z place None) c.deref.ensures.value) ∙ c.in-Some-whole_at.is) in
     let t : State = record { inner = s.inner ++ (f.tree ∷ []); outer = s.outer; table = s.table; done = s.done } in
     record {
       state = t;

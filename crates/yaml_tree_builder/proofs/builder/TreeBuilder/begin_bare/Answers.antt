@@ -17,7 +17,7 @@ returns c = λ a s w h g e flow.
     let tag = c.collection-tag.result in
     let text = default_tag (collection_number c.args.collection) in
     let at : slice_get tags tag ≡ Some text = subst (λ i. slice_get tags i ≡ Some text) (sym c.collection-tag.ensures) (h.good.core.collections c.args.collection) in
-    let o : Open = record { place = c.args.place; collection = c.args.collection; tag = tag; mark = c.len-mark.result } in
+    let o : Open = record { place = c.args.place; tag = tag; mark = c.len-mark.result } in
     let n = node_begun a s in
     let l = stack-length tags ts self.anchored.items self.stack.items self.opens.items n.inner n.outer n.table h.keeping in
     record {

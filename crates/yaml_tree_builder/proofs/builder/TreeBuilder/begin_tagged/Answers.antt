@@ -19,7 +19,7 @@ returns c = λ s h flow.
     let new = c.tag.new.self in
     let text = c.in_ok-text.text.now in
     let k : Holds (record middle { store = new }) n = holds-tagged middle n new (c.in_ok-number.ensures.kept b.1.good.store) b.1 c.in_ok-number.ensures.nodes in
-    let o : Open = record { place = c.in_ok-place.place; collection = c.args.collection; tag = c.in_ok-number.number; mark = c.len-mark.result } in
+    let o : Open = record { place = c.in_ok-place.place; tag = c.in_ok-number.number; mark = c.len-mark.result } in
     let l = stack-length (tags_of new) (trees_of new) middle.anchored.items middle.stack.items middle.opens.items n.inner n.outer n.table k.keeping in
     record {
       state = collection_begun a s text;

@@ -5,26 +5,27 @@ use Rattle.yaml_store.specs.StoreGrows.{trees_of}
 use Rattle.yaml_tree_builder.specs.BuilderModel.{AllAt}
 use Rattle.yaml_tree_builder.proofs.BuilderLaws.{roots-of}
 use Rattle.yaml_tree_builder.proofs.ReachedLaws.{stream-is-forest, stream-closes}
+use Rattle.yaml_tree_builder.proofs.LevelLaws.{closed-stream}
 use Rattle.yaml_tree_builder.proofs.builder.TreeBuilder.documents.Goals as goal
 
 pub returns-clause-size : goal.returns-clause-size
 returns-clause-size c = λ ds s r h.
     let self = c.args.self.now in
-    let roots = roots-of self s h (omega (arith, c.len.ensures, self.opens.ok.0, c.if-len-gt0.false)) in
+    let roots = roots-of self s h (closed-stream ds s r) in
     let at : AllAt (trees_of self.store) c.deref.result.now s.inner = subst (λ z. AllAt (trees_of self.store) z s.inner) (sym c.deref.ensures.value) roots.at in
     let low : AreLow s.inner = subst (λ o. MatchOption o (AreLow s.inner) (IsFirstTooHigh s.inner)) c.in_default.is (c.first_too_high.ensures h.good.store s.inner at) in
     record {
       trees_are = s.inner;
       unfolded = stream-is-forest ds s r;
       low = low;
-      documents = omega (arith, roots.count, c.len-2.ensures, self.stack.ok.0);
+      documents = omega (arith, roots.count, c.len.ensures, self.stack.ok.0);
       nodes = omega (arith, ap length (stream-closes ds s r), h.counted.count);
     }
 
 pub returns-in-Some-clause-refused : goal.returns-in-Some-clause-refused
 returns-in-Some-clause-refused c = λ ds s r h.
     let self = c.args.self.now in
-    let roots = roots-of self s h (omega (arith, c.len.ensures, self.opens.ok.0, c.if-len-gt0.false)) in
+    let roots = roots-of self s h (closed-stream ds s r) in
     let at : AllAt (trees_of self.store) c.deref.result.now s.inner = subst (λ z. AllAt (trees_of self.store) z s.inner) (sym c.deref.ensures.value) roots.at in
     let first : IsFirstTooHigh s.inner c.in-Some.document = subst (λ o. MatchOption o (AreLow s.inner) (IsFirstTooHigh s.inner)) c.in-Some.is (c.first_too_high.ensures h.good.store s.inner at) in
     record { trees = s.inner; unfolded = stream-is-forest ds s r; tree = first.tree; is = first.is; high = first.high; before = first.before }

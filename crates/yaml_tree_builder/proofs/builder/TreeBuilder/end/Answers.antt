@@ -1,4 +1,4 @@
-use Rattle.std.proofs.Common.{rules, ◌≡◌, ◌<◌, length, drop, sym, ◌∙◌, ap, subst}
+use Rattle.std.proofs.Common.{◌≡◌, ◌<◌, length, drop, sym, ◌∙◌, ap, subst}
 use Rattle.std.specs.Prelude.{Some}
 use Rattle.std.specs.List.{All}
 use Rattle.yaml_tree.specs.ComposerSteps.{State, collection_from, collection_ended, whole}
@@ -23,16 +23,15 @@ returns c = λ s h.
     let rest : State = record { inner = l.last.before; outer = l.others; table = s.table; done = s.done } in
     let cut : TreeBuilder = record self { opens = c.pop.new.self; stack = c.truncate.new.self } in
     let held : Holds cut rest = record { good = h.good; names = h.names; keeping = subst (λ z. Keeping ms ts self.anchored.items z os l.last.before l.others s.table) (sym c.truncate.ensures.items) l.keeping; counted = h.counted } in
-    let piece : c.in_ok-parts.parts.now ≡ drop o.mark self.stack.items = c.in_ok-parts.ensures ∙ ap (drop o.mark) c.deref.ensures.value in
-    let fits : Fits cut.store o.tag c.in_ok-parts.parts.now = record { good = h.good.store; tagged = (tag-is ms o.tag l.last.tag l.tag).within; below = subst (All (λ i. i < length ts)) (sym piece) l.within } in
+    let piece : c.parts_from-parts.result.now ≡ drop o.mark self.stack.items = c.parts_from-parts.ensures ∙ ap (drop o.mark) c.deref.ensures.value in
+    let fits : Fits cut.store o.tag c.parts_from-parts.result.now = record { good = h.good.store; tagged = (tag-is ms o.tag l.last.tag l.tag).within; below = subst (All (λ i. i < length ts)) (sym piece) l.within } in
     let kept = c.in_ok-id.ensures.kept fits in
     let d = tag-is ms o.tag l.last.tag l.tag in
     let parts = ap (parts_at ts) piece ∙ l.parts in
-    let t = collection_from (is_mapping o.collection) l.last.tag s.inner in
-    let there : Stands new c.in_ok-id.id t = c.in_ok-id.ensures.stands fits ∙ (λ z. Some (collection_from (is_mapping o.collection) (d.is z) (parts z))) in
-    let same : o.collection ≡ c.args.collection = search rules in
+    let t = collection_from (is_mapping c.args.collection) l.last.tag s.inner in
+    let there : Stands new c.in_ok-id.id t = c.in_ok-id.ensures.stands fits ∙ (λ z. Some (collection_from (is_mapping c.args.collection) (d.is z) (parts z))) in
     record {
       state = whole l.last.anchor l.last.slot t rest;
-      is = ended-step c.args.collection s ∙ (ap (λ b. collection_ended (is_mapping b) s s.outer) (sym same) ∙ ap (collection_ended (is_mapping o.collection) s) l.is);
+      is = ended-step c.args.collection s ∙ ap (collection_ended (is_mapping c.args.collection) s) l.is;
       holds = c.in_ok-put.ensures rest self.store held kept l.last.anchor l.last.slot t l.place there (comes self.store new c.in_ok-id.id t kept c.in_ok-id.ensures.one there);
     }

@@ -27,12 +27,12 @@ returns c = λ front es p f flow.
     let a = l.adding in
     let s : State = with_nodes l.state a.nodes a.inside a.after in
     let k : Holds self s = l.holds in
-    let o : Open = record { place = None; collection = kinds.Mapping; tag = tag; mark = c.in-Some.mark } in
+    let o : Open = record { place = None; tag = tag; mark = c.saturating_sub-mark.result } in
     let final : TreeBuilder = record self { opens = c.push.new.self } in
     let under = below l.state.outer in
     let size = stack-length tags (trees_of self.store) self.anchored.items self.stack.items self.opens.items s.inner s.outer s.table k.keeping in
     let mark : o.mark ≡ length (under ++ l.state.inner) =
-    omega (arith, size, a.count, c.in-Some.ensures.0, c.in-Some.ensures.1, c.len.ensures, self.stack.ok.0, length-append under (l.state.inner ++ a.nodes), length-append l.state.inner a.nodes, length-append under l.state.inner) in
+    omega (arith, size, a.count, c.saturating_sub-mark.ensures, c.len.ensures, self.stack.ok.0, length-append under (l.state.inner ++ a.nodes), length-append l.state.inner a.nodes, length-append under l.state.inner) in
     follows-before self final front es text l refl (record {
       good = k.good;
       names = k.names;

@@ -23,11 +23,11 @@ returns-in-Err c =
     record {
       is = λ front es n k flow own l w h.
           let behind = start_of k flow own.anchor own.tag ∷ es in
-          stops-there c.args.self.now (record c.args.self.now { refusal = Some c.in_ok-refusal.field-0 }) c.args.start front (mapping_start false p.anchor untagged ∷ behind) behind (mapping_start false p.anchor p.tag) c.in-Err.stop c.in_ok-refusal.field-0 refl c.in_ok-refusal.ensures (λ s. begin-stops kinds.Mapping false p.anchor p.tag s c.in-Err.stop c.in-Err.ensures) l c.if-is_refused_before.ensures.no h;
+          stops-there c.args.self.now (record c.args.self.now { refusal = Some c.in_ok-refusal-in-Err.field-0 }) c.args.start front (mapping_start false p.anchor untagged ∷ behind) behind (mapping_start false p.anchor p.tag) c.in-Err.stop c.in_ok-refusal-in-Err.field-0 refl c.in_ok-refusal-in-Err.ensures (λ s. begin-stops kinds.Mapping false p.anchor p.tag s c.in-Err.stop c.in-Err.ensures) l c.if-is_refused_before.ensures.no h;
     }
 
 pub returns-in-Some : goal.returns-in-Some
-returns-in-Some c = settles-key-refused c.args.self.now c.args.start (props_of c.args.properties.now) c.in_default.field-0.now c.in-Some.field-0 c.in-Some.is c.if-is_refused_before.ensures.no c.in_default.ensures
+returns-in-Some c = settles-key-refused c.args.self.now c.args.start (props_of c.args.properties.now) c.in-Ok.tag.now c.in-Some.field-0 c.in-Some.is c.if-is_refused_before.ensures.no c.in-Ok.ensures
 
 pub returns : goal.returns
-returns c = settles-key-followed c.args.self.now _ c.args.start (props_of c.args.properties.now) c.in_default-refusal.is c.in_default-refusal.is (c.in_ok-settle_key.ensures c.args.start)
+returns c = settles-key-followed c.args.self.now _ c.args.start (props_of c.args.properties.now) c.in_default.is c.in_default.is (c.in_ok-settle_key.ensures c.args.start (props_of c.args.properties.now) c.in-Ok.ensures)
