@@ -21,4 +21,5 @@ pub mod KeyOrderLaws
 mod OrderLaws
 mod WrittenLaws
 pub mod ForestLaws
+pub mod ForestTrees
 mod ArrangedForests

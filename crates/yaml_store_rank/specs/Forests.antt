@@ -1,10 +1,10 @@
 -- The nodes of some streams, ranked, as plain values.
-use Rattle.std.specs.Prelude.{◌≡◌, ◌↔◌, ℕ, ◌<◌, ◌≤◌, List, [], ◌∷◌, length, slice_index, Option, Some, None}
+use Rattle.std.specs.Prelude.{◌≡◌, ◌↔◌, ℕ, ◌<◌, ◌≤◌, List, [], ◌∷◌, map, length, slice_index, Option, Some, None}
 use Rattle.std.specs.List.{slice_get, slice_index_or, slice_range, All, Contains}
 use Rattle.yaml_definitions.specs.model.Limits.{height_limit}
 use Rattle.yaml_definitions.specs.model.Tree.{Tree, height}
 use Rattle.yaml_definitions.specs.model.Same.{Same, Keyed}
-use Rattle.yaml_definitions.specs.model.Order.{Before}
+use Rattle.yaml_definitions.specs.model.Order.{Before, arranged}
 use Rattle.yaml_tree.specs.TreeLists.{tree_at}
 use Rattle.yaml_tree.specs.View.{entries_in}
 use Rattle.yaml_tree.specs.Insides.{Held, trees_held, HeldBelow}
@@ -27,6 +27,22 @@ tree f i = tree_at (trees_held f.nodes) i
 
 abbrev pub rank : Forests → ℕ → ℕ
 rank f i = slice_index f.ranks i
+
+-- the trees of these nodes
+abbrev pub item_trees : Forests → List NodeId → List Tree
+item_trees f items = map (λ i. tree f i.0) items
+
+-- the trees of the keys and values of these entries
+abbrev pub entry_trees : Forests → List (NodeId × NodeId) → List (Tree × Tree)
+entry_trees f entries = map (λ p. (tree f p.0.0, tree f p.1.0)) entries
+
+-- a key and its value, both arranged
+abbrev pub key_pair : Forests → NodeId × NodeId → Tree × Tree
+key_pair f p = (arranged (tree f p.0.0), arranged (tree f p.1.0))
+
+-- the roots of the documents of a stream; none where there is no such stream
+abbrev pub documents_of : Forests → ℕ → List ℕ
+documents_of f k = slice_index_or f.streams k []
 
 -- what is shown of a node
 abbrev pub held_shown : Shown NodeId → Held

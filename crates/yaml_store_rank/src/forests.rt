@@ -6,7 +6,7 @@ ghost use Rattle.yaml_store.specs.StoreGrows.{Good, IsLow};
 ghost use Rattle.yaml_store_rank.specs.Refused.{RefusesStore};
 ghost use Rattle.yaml_store_rank.specs.KeyOrder.{numbers};
 ghost use Rattle.yaml_store_rank.specs.Written.{ShowsStore};
-ghost use Rattle.yaml_store_rank.specs.Forests.{count, rank as rank_at, tree, held_shown, entries_at, InKeyOrder, IsPlaceOf, IsRanked, AreEnds};
+ghost use Rattle.yaml_store_rank.specs.Forests.{count, rank as rank_at, tree, documents_of, held_shown, entries_at, InKeyOrder, IsPlaceOf, IsRanked, AreEnds};
 
 use crate::copies::{copied_entries, copied_items};
 use crate::key_order::{entries_span, find_key, key_order};
@@ -152,6 +152,17 @@ impl<'s> RankedForests<'s> {
     {
         let start = start_of(&self.ends, place);
         &self.roots[start..self.ends[place]]
+    }
+
+    /// The roots of the documents of a stream; none where there is no such stream.
+    pub fn documents(&self, stream: usize) -> &[NodeId]
+        ensures { numbers result.now ≡ documents_of self.now stream }
+    {
+        if stream < self.ends.len() {
+            self.stream(stream)
+        } else {
+            &[]
+        }
     }
 
     /// Says that parts stand before their node, that ranks tell trees apart and rise in their order, that no mapping has two equal
