@@ -2,21 +2,20 @@
 ghost use Rattle.std.specs.Prelude.{◌≡◌, ◌&&◌, ◌==◌, not, length, map, reverse, option_map, bytes_eq, nat_le, IfOk};
 ghost use Rattle.std.specs.List.{list_all};
 ghost use Rattle.yaml_definitions.specs.model.Tag.{str_tag};
-ghost use Rattle.yaml_graph.specs.GraphView.{tree};
-ghost use Rattle.yaml_rank.specs.RanksView.{RanksAre};
+ghost use Rattle.yaml_store_rank.specs.Forests.{tree};
 ghost use Rattle.yaml_diff.specs.Lines.{step_of};
 ghost use Rattle.review_text.specs.Hidden.{visible};
 ghost use Rattle.review_text.specs.Terminal.{terminal};
 ghost use Rattle.review_paths.specs.Pasted.{str_content, is_no_tab, is_seen, is_short, is_fit, fits_step};
 
-use review_text::both::Both;
 use review_text::text::WHOLE;
 use review_text::{put_shown, put_visible};
 use std::alloc::{AllocError, Global};
 use yaml_diff::Step;
-use yaml_graph::node::NodeKind;
+use yaml_store_rank::RankedForests;
 use yaml_text::core_tag;
 use yaml_tree::node::NodeId;
+use yaml_tree::shown::Inside;
 
 /// Whether a tag is that of strings.
 #[tactic(auto, unfolding(yaml_definitions::specs::model::Tag::core_tag))]
@@ -27,16 +26,16 @@ fn is_str(tag: &str) -> bool
 }
 
 /// The content of a key that is a string.
-pub(crate) fn content_of<'b>(both: &'b Both<'_>, key: NodeId) -> Option<&'b str>
-    ensures { option_map (λ content. content.now) result ≡ str_content (tree both.now.graph key.0) }
+pub(crate) fn content_of<'b>(forests: &'b RankedForests<'_>, key: NodeId) -> Option<&'b str>
+    ensures { option_map (λ content. content.now) result ≡ str_content (tree forests.now key.0) }
 {
-    let Some(node) = both.node(key) else {
+    let Some(shown) = forests.get(key) else {
         return None;
     };
-    match &node.kind {
-        NodeKind::Scalar(content) => {
-            if is_str(node.tag.as_str()) {
-                Some(content.as_str())
+    match shown.inside {
+        Inside::Scalar(content) => {
+            if is_str(shown.tag) {
+                Some(content)
             } else {
                 None
             }
@@ -88,12 +87,12 @@ fn is_fit(alloc: Global, text: &str) -> Result<bool, AllocError>
 }
 
 /// Whether a step can be pasted: to an item, or to the value of a key that is a string, short and seen.
-fn fits_step(alloc: Global, both: &Both<'_>, step: Step) -> Result<bool, AllocError>
-    ensures ok { IfOk result (λ fits. fits ≡ fits_step (step_of both.now.graph step)) }
+fn fits_step(alloc: Global, forests: &RankedForests<'_>, step: Step) -> Result<bool, AllocError>
+    ensures ok { IfOk result (λ fits. fits ≡ fits_step (step_of forests.now step)) }
 {
     match step {
         Step::Item(_) => Ok(true),
-        Step::Value(key) => match content_of(both, key) {
+        Step::Value(key) => match content_of(forests, key) {
             Some(content) => is_fit(alloc, content),
             None => Ok(false),
         },
@@ -108,12 +107,16 @@ fn are(one: bool, other: bool) -> bool
 }
 
 /// Whether all steps can be pasted, of which the last one comes first.
-pub(crate) fn fits(alloc: Global, both: &Both<'_>, steps: &[Step]) -> Result<bool, AllocError>
-    ensures ok { IfOk result (λ fits. fits ≡ list_all (λ step. fits_step (step_of both.now.graph step)) (reverse steps.now)) }
+pub(crate) fn fits(
+    alloc: Global,
+    forests: &RankedForests<'_>,
+    steps: &[Step],
+) -> Result<bool, AllocError>
+    ensures ok { IfOk result (λ fits. fits ≡ list_all (λ step. fits_step (step_of forests.now step)) (reverse steps.now)) }
 {
     let mut all = true;
     'steps: for step in steps.iter().rev() {
-        let fit = fits_step(alloc, both, *step)?;
+        let fit = fits_step(alloc, forests, *step)?;
         all = are(all, fit);
     }
     Ok(all)

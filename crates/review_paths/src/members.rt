@@ -1,14 +1,13 @@
 //! What a program reads of a difference beside its texts.
 ghost use Rattle.std.specs.Prelude.{◌≡◌, string_bytes, IfOk};
-ghost use Rattle.yaml_rank.specs.RanksView.{RanksAre};
 ghost use Rattle.review_paths.specs.Members.{SaysNode, SaysMembers};
 
 use crate::room::Room;
 use crate::steps::steps_text;
 use crate::value::value_text;
-use review_text::Both;
 use std::alloc::{AllocError, Global};
 use yaml_diff::Difference;
+use yaml_store_rank::RankedForests;
 use yaml_tree::node::NodeId;
 
 /// A difference as JSON: its path, and the values of its nodes where JSON has them.
@@ -22,15 +21,14 @@ pub struct Members {
 /// The value of a node as JSON, if there is a node.
 fn value_of(
     alloc: Global,
-    both: &Both<'_>,
+    forests: &RankedForests<'_>,
     id: Option<NodeId>,
     room: &mut Room,
 ) -> Result<Option<String>, AllocError>
-    requires ranked { RanksAre both.now.graph both.now.ranks }
-    ensures ok { IfOk result (SaysNode both.now.graph id) }
+    ensures ok { IfOk result (SaysNode forests.now id) }
 {
     match id {
-        Some(id) => value_text(alloc, both, id, room),
+        Some(id) => value_text(alloc, forests, id, room),
         None => Ok(None),
     }
 }
@@ -41,16 +39,15 @@ fn value_of(
 /// `OutOfMemory`
 pub fn members_of(
     alloc: Global,
-    both: &Both<'_>,
+    forests: &RankedForests<'_>,
     difference: &Difference,
     room: &mut Room,
 ) -> Result<Members, AllocError>
-    requires ranked { RanksAre both.now.graph both.now.ranks }
-    ensures ok { IfOk result (SaysMembers both.now.graph difference.now) }
+    ensures ok { IfOk result (SaysMembers forests.now difference.now) }
 {
     Ok(Members {
-        steps: steps_text(alloc, both, &difference.path)?,
-        left: value_of(alloc, both, difference.left, room)?,
-        right: value_of(alloc, both, difference.right, room)?,
+        steps: steps_text(alloc, forests, &difference.path)?,
+        left: value_of(alloc, forests, difference.left, room)?,
+        right: value_of(alloc, forests, difference.right, room)?,
     })
 }

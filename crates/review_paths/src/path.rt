@@ -1,21 +1,20 @@
 //! Paths as filters of jq and as JSON pointers.
 ghost use Rattle.std.specs.Prelude.{◌≡◌, ◌++◌, map, reverse, string_bytes, IfOk};
 ghost use Rattle.std.specs.List.{list_all, flat_map};
-ghost use Rattle.yaml_graph.specs.declared.graph.Graph.{Graph};
-ghost use Rattle.yaml_rank.specs.RanksView.{RanksAre};
+ghost use Rattle.yaml_store_rank.specs.Forests.{Forests};
 ghost use Rattle.yaml_diff.specs.Lines.{step_of, way_of};
 ghost use Rattle.review_paths.specs.Pasted.{pasted_step, has_dot, dotted, begun, kept_steps, unfit, side_text, column_text, pasted};
 
 use crate::fit::fits;
 use crate::step::put_steps;
-use review_text::both::Both;
 use review_text::path::path_text;
 use std::alloc::{AllocError, Global};
 use yaml_diff::Step;
+use yaml_store_rank::RankedForests;
 
 /// The steps that are written: without that to the document, unless its number is told.
 fn kept<'p>(path: &'p [Step], numbered: bool) -> &'p [Step]
-    ensures { (g : Graph) → map (step_of g) (reverse result.now) ≡ kept_steps numbered (way_of g path.now) }
+    ensures { (g : Forests) → map (step_of g) (reverse result.now) ≡ kept_steps numbered (way_of g path.now) }
 {
     if numbered {
         return path;
@@ -63,14 +62,13 @@ fn begun(alloc: Global, text: String, is_filter: bool) -> Result<String, AllocEr
 /// What is written where a step cannot be pasted: the path as `path_text` has it, behind `!`.
 fn unfit(
     alloc: Global,
-    both: &Both<'_>,
+    forests: &RankedForests<'_>,
     path: &[Step],
     numbered: bool,
 ) -> Result<String, AllocError>
-    requires ranked { RanksAre both.now.graph both.now.ranks }
-    ensures ok { IfOk result (λ s. string_bytes s ≡ unfit numbered (way_of both.now.graph path.now)) }
+    ensures ok { IfOk result (λ s. string_bytes s ≡ unfit numbered (way_of forests.now path.now)) }
 {
-    let plain = path_text(alloc, both, path, numbered)?;
+    let plain = path_text(alloc, forests, path, numbered)?;
     let mut text = String::new(alloc);
     text.push('!')?;
     text.push_str(&plain)?;
@@ -80,42 +78,40 @@ fn unfit(
 /// The path on one side.
 fn side_text(
     alloc: Global,
-    both: &Both<'_>,
+    forests: &RankedForests<'_>,
     path: &[Step],
     numbered: bool,
     is_filter: bool,
     is_left: bool,
 ) -> Result<String, AllocError>
-    requires ranked { RanksAre both.now.graph both.now.ranks }
-    ensures ok { IfOk result (λ s. string_bytes s ≡ side_text is_filter numbered is_left (way_of both.now.graph path.now)) }
+    ensures ok { IfOk result (λ s. string_bytes s ≡ side_text is_filter numbered is_left (way_of forests.now path.now)) }
 {
     let steps = kept(path, numbered);
-    let fit = fits(alloc, both, steps)?;
+    let fit = fits(alloc, forests, steps)?;
     if fit {
         let mut text = String::new(alloc);
-        put_steps(&mut text, both, steps, is_filter, is_left)?;
+        put_steps(&mut text, forests, steps, is_filter, is_left)?;
         let told = begun(alloc, text, is_filter)?;
         return Ok(told);
     }
-    let told = unfit(alloc, both, path, numbered)?;
+    let told = unfit(alloc, forests, path, numbered)?;
     Ok(told)
 }
 
 /// The path on one side, or `-` if that has no node there.
 fn column_text(
     alloc: Global,
-    both: &Both<'_>,
+    forests: &RankedForests<'_>,
     path: &[Step],
     numbered: bool,
     is_filter: bool,
     is_left: bool,
     is_there: bool,
 ) -> Result<String, AllocError>
-    requires ranked { RanksAre both.now.graph both.now.ranks }
-    ensures ok { IfOk result (λ s. string_bytes s ≡ column_text is_there is_filter numbered is_left (way_of both.now.graph path.now)) }
+    ensures ok { IfOk result (λ s. string_bytes s ≡ column_text is_there is_filter numbered is_left (way_of forests.now path.now)) }
 {
     if is_there {
-        return side_text(alloc, both, path, numbered, is_filter, is_left);
+        return side_text(alloc, forests, path, numbered, is_filter, is_left);
     }
     let mut text = String::new(alloc);
     text.push('-')?;
@@ -131,18 +127,17 @@ fn column_text(
 /// `OutOfMemory`
 pub fn pasted(
     alloc: Global,
-    both: &Both<'_>,
+    forests: &RankedForests<'_>,
     path: &[Step],
     numbered: bool,
     is_filter: bool,
     has_left: bool,
     has_right: bool,
 ) -> Result<String, AllocError>
-    requires ranked { RanksAre both.now.graph both.now.ranks }
-    ensures ok { IfOk result (λ s. string_bytes s ≡ pasted is_filter numbered has_left has_right (way_of both.now.graph path.now)) }
+    ensures ok { IfOk result (λ s. string_bytes s ≡ pasted is_filter numbered has_left has_right (way_of forests.now path.now)) }
 {
-    let mut text = column_text(alloc, both, path, numbered, is_filter, true, has_left)?;
-    let right = column_text(alloc, both, path, numbered, is_filter, false, has_right)?;
+    let mut text = column_text(alloc, forests, path, numbered, is_filter, true, has_left)?;
+    let right = column_text(alloc, forests, path, numbered, is_filter, false, has_right)?;
     text.push('\t')?;
     text.push_str(&right)?;
     Ok(text)

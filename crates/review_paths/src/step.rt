@@ -2,15 +2,15 @@
 ghost use Rattle.std.specs.Prelude.{◌≡◌, ◌++◌, ◌&&◌, cond, unwrap_or, reverse, string_bytes, OnOk};
 ghost use Rattle.std.specs.List.{list_all, flat_map};
 ghost use Rattle.std.specs.Str.{encode_utf8_all};
-ghost use Rattle.yaml_graph.specs.GraphView.{tree};
+ghost use Rattle.yaml_store_rank.specs.Forests.{tree};
 ghost use Rattle.yaml_diff.specs.Lines.{step_of};
 ghost use Rattle.review_paths.specs.Pasted.{side_place, filter_char, pointer_char, escaped_char, escaped, is_letter, is_filter_byte, is_filter_name, filter_key, pointer_key, key_step, item_step, pasted_step};
 
 use crate::fit::content_of;
-use review_text::both::Both;
 use std::alloc::AllocError;
 use yaml_diff::Step;
 use yaml_path::places::Places;
+use yaml_store_rank::RankedForests;
 use yaml_tree::node::NodeId;
 
 /// Writes a character of a string in a filter: `"` and `\` behind a `\`.
@@ -148,16 +148,16 @@ fn side_place(is_left: bool, places: Places) -> usize
 /// Writes a step.
 fn put_step(
     out: &mut String,
-    both: &Both<'_>,
+    forests: &RankedForests<'_>,
     step: Step,
     is_filter: bool,
     is_left: bool,
 ) -> Result<(), AllocError>
-    ensures ok { OnOk result (string_bytes out.new ≡ string_bytes out.old ++ pasted_step is_filter is_left (step_of both.now.graph step)) }
+    ensures ok { OnOk result (string_bytes out.new ≡ string_bytes out.old ++ pasted_step is_filter is_left (step_of forests.now step)) }
 {
     match step {
         Step::Item(places) => put_item(out, side_place(is_left, places), is_filter),
-        Step::Value(key) => match content_of(both, key) {
+        Step::Value(key) => match content_of(forests, key) {
             Some(content) => put_key(out, content, is_filter),
             // No path with such a key is pasted.
             None => put_key(out, "", is_filter),
@@ -168,15 +168,15 @@ fn put_step(
 /// Writes steps, of which the last one comes first.
 pub(crate) fn put_steps(
     out: &mut String,
-    both: &Both<'_>,
+    forests: &RankedForests<'_>,
     steps: &[Step],
     is_filter: bool,
     is_left: bool,
 ) -> Result<(), AllocError>
-    ensures ok { OnOk result (string_bytes out.new ≡ string_bytes out.old ++ flat_map (λ step. pasted_step is_filter is_left (step_of both.now.graph step)) (reverse steps.now)) }
+    ensures ok { OnOk result (string_bytes out.new ≡ string_bytes out.old ++ flat_map (λ step. pasted_step is_filter is_left (step_of forests.now step)) (reverse steps.now)) }
 {
     'steps: for step in steps.iter().rev() {
-        put_step(out, both, *step, is_filter, is_left)?;
+        put_step(out, forests, *step, is_filter, is_left)?;
     }
     Ok(())
 }

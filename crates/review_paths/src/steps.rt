@@ -1,21 +1,20 @@
 //! Paths as arrays of JSON.
 ghost use Rattle.std.specs.Prelude.{◌≡◌, ◌++◌, bytes_eq, nat_le, ◌&&◌, length, string_bytes, OnOk, IfOk, MatchOption};
 ghost use Rattle.yaml_definitions.specs.model.Tag.{str_tag};
-ghost use Rattle.yaml_graph.specs.GraphView.{tree};
+ghost use Rattle.yaml_store_rank.specs.Forests.{tree};
 ghost use Rattle.yaml_diff.specs.Lines.{step_of, way_of};
-ghost use Rattle.yaml_rank.specs.RanksView.{RanksAre};
 ghost use Rattle.review_text.specs.PathText.{whole_limit};
 ghost use Rattle.review_paths.specs.Json.{string_json, places_json, key_object, key_json, unnamed_json, step_json, next_json, inner_json, steps_json};
 
 use crate::writing::put_string;
-use review_text::Both;
 use review_text::text::{WHOLE, node_text};
 use std::alloc::{AllocError, Global};
 use yaml_diff::Step;
-use yaml_graph::node::NodeKind;
 use yaml_path::places::Places;
+use yaml_store_rank::RankedForests;
 use yaml_text::core_tag;
 use yaml_tree::node::NodeId;
+use yaml_tree::shown::Inside;
 
 /// Writes the places of an item on the sides that have it.
 fn put_places(out: &mut String, places: Places) -> Result<(), AllocError>
@@ -48,16 +47,16 @@ fn put_key_object(alloc: Global, out: &mut String, text: &str) -> Result<(), All
 }
 
 /// The content of a key that is written as a string: a str that is not too long.
-fn content_of<'b>(both: &'b Both<'_>, key: NodeId) -> Option<&'b str>
-    ensures { MatchOption result (key_json (tree both.now.graph key.0) ≡ unnamed_json (tree both.now.graph key.0)) (λ content. key_json (tree both.now.graph key.0) ≡ string_json content.now) }
+fn content_of<'b>(forests: &'b RankedForests<'_>, key: NodeId) -> Option<&'b str>
+    ensures { MatchOption result (key_json (tree forests.now key.0) ≡ unnamed_json (tree forests.now key.0)) (λ content. key_json (tree forests.now key.0) ≡ string_json content.now) }
 {
-    let Some(node) = both.node(key) else {
+    let Some(shown) = forests.get(key) else {
         return None;
     };
-    match &node.kind {
-        NodeKind::Scalar(content) => {
-            if is_told(node.tag.as_str(), content.as_str()) {
-                Some(content.as_str())
+    match shown.inside {
+        Inside::Scalar(content) => {
+            if is_told(shown.tag, content) {
+                Some(content)
             } else {
                 None
             }
@@ -67,52 +66,63 @@ fn content_of<'b>(both: &'b Both<'_>, key: NodeId) -> Option<&'b str>
 }
 
 /// Writes a key: a str as a string, and any other key by its text.
-fn put_key(alloc: Global, out: &mut String, both: &Both<'_>, key: NodeId) -> Result<(), AllocError>
-    requires ranked { RanksAre both.now.graph both.now.ranks }
-    ensures ok { OnOk result (string_bytes out.new ≡ string_bytes out.old ++ key_json (tree both.now.graph key.0)) }
+fn put_key(
+    alloc: Global,
+    out: &mut String,
+    forests: &RankedForests<'_>,
+    key: NodeId,
+) -> Result<(), AllocError>
+    ensures ok { OnOk result (string_bytes out.new ≡ string_bytes out.old ++ key_json (tree forests.now key.0)) }
 {
-    match content_of(both, key) {
+    match content_of(forests, key) {
         Some(content) => put_string(alloc, out, content),
-        None => put_key_object(alloc, out, &node_text(alloc, both, key, WHOLE)?),
+        None => put_key_object(alloc, out, &node_text(alloc, forests, key, WHOLE)?),
     }
 }
 
 /// Writes a step that leads to an item, a document or the value of a key.
-fn put_step(alloc: Global, out: &mut String, both: &Both<'_>, step: Step) -> Result<(), AllocError>
-    requires ranked { RanksAre both.now.graph both.now.ranks }
-    ensures ok { OnOk result (string_bytes out.new ≡ string_bytes out.old ++ step_json (step_of both.now.graph step)) }
+fn put_step(
+    alloc: Global,
+    out: &mut String,
+    forests: &RankedForests<'_>,
+    step: Step,
+) -> Result<(), AllocError>
+    ensures ok { OnOk result (string_bytes out.new ≡ string_bytes out.old ++ step_json (step_of forests.now step)) }
 {
     match step {
         Step::Item(places) => put_places(out, places),
-        Step::Value(key) => put_key(alloc, out, both, key),
+        Step::Value(key) => put_key(alloc, out, forests, key),
     }
 }
 
 /// Writes a step behind another.
-fn put_next(alloc: Global, out: &mut String, both: &Both<'_>, step: Step) -> Result<(), AllocError>
-    requires ranked { RanksAre both.now.graph both.now.ranks }
-    ensures ok { OnOk result (string_bytes out.new ≡ string_bytes out.old ++ next_json (step_of both.now.graph step)) }
+fn put_next(
+    alloc: Global,
+    out: &mut String,
+    forests: &RankedForests<'_>,
+    step: Step,
+) -> Result<(), AllocError>
+    ensures ok { OnOk result (string_bytes out.new ≡ string_bytes out.old ++ next_json (step_of forests.now step)) }
 {
     out.push(',')?;
-    put_step(alloc, out, both, step)
+    put_step(alloc, out, forests, step)
 }
 
 /// Writes the steps of a path, that to the document first.
 fn put_steps(
     alloc: Global,
     out: &mut String,
-    both: &Both<'_>,
+    forests: &RankedForests<'_>,
     path: &[Step],
 ) -> Result<(), AllocError>
-    requires ranked { RanksAre both.now.graph both.now.ranks }
-    ensures ok { OnOk result (string_bytes out.new ≡ string_bytes out.old ++ inner_json (way_of both.now.graph path.now)) }
+    ensures ok { OnOk result (string_bytes out.new ≡ string_bytes out.old ++ inner_json (way_of forests.now path.now)) }
 {
     let Some((document, steps)) = path.split_last() else {
         return Ok(());
     };
-    put_step(alloc, out, both, *document)?;
+    put_step(alloc, out, forests, *document)?;
     'steps: for step in steps.iter().rev() {
-        put_next(alloc, out, both, *step)?;
+        put_next(alloc, out, forests, *step)?;
     }
     Ok(())
 }
@@ -122,13 +132,16 @@ fn put_steps(
 ///
 /// # Errors
 /// `OutOfMemory`
-pub fn steps_text(alloc: Global, both: &Both<'_>, path: &[Step]) -> Result<String, AllocError>
-    requires ranked { RanksAre both.now.graph both.now.ranks }
-    ensures ok { IfOk result (λ s. string_bytes s ≡ steps_json (way_of both.now.graph path.now)) }
+pub fn steps_text(
+    alloc: Global,
+    forests: &RankedForests<'_>,
+    path: &[Step],
+) -> Result<String, AllocError>
+    ensures ok { IfOk result (λ s. string_bytes s ≡ steps_json (way_of forests.now path.now)) }
 {
     let mut out = String::new(alloc);
     out.push('[')?;
-    put_steps(alloc, &mut out, both, path)?;
+    put_steps(alloc, &mut out, forests, path)?;
     out.push(']')?;
     Ok(out)
 }

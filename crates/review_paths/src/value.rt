@@ -1,12 +1,11 @@
 //! Nodes as values of JSON (RFC 8259).
-ghost use Rattle.std.specs.Prelude.{◌≡◌, ◌++◌, ◌∷◌, ◌+◌, ◌-◌, ◌&&◌, [], false, length, map, min, not, bytes_eq, codes, string_bytes, OnOk, IfOk, IfSome, IfNone, IfErr};
+ghost use Rattle.std.specs.Prelude.{◌≡◌, ℕ, ◌<◌, List, ◌++◌, ◌∷◌, ◌+◌, ◌-◌, ◌&&◌, [], false, length, map, min, not, bytes_eq, codes, string_bytes, OnOk, IfOk, IfSome, IfNone, IfErr};
 ghost use Rattle.yaml_definitions.specs.model.Tree.{scalar, height, heights, heights_of_pairs};
 ghost use Rattle.yaml_definitions.specs.model.Tag.{str_tag, seq_tag, map_tag};
 ghost use Rattle.yaml_definitions.specs.model.Order.{arranged};
 ghost use Rattle.yaml_tree.specs.TreeLists.{trees, pairs};
-ghost use Rattle.yaml_graph.specs.GraphView.{tree};
-ghost use Rattle.yaml_rank.specs.RankModel.{key_pair};
-ghost use Rattle.yaml_rank.specs.RanksView.{RanksAre};
+ghost use Rattle.yaml_store_rank.specs.Forests.{count, tree, rank, entries_at, InKeyOrder};
+ghost use Rattle.yaml_store_rank.specs.ArrangedForests.{two_arranged};
 ghost use Rattle.yaml_show_scalar.specs.Stops.{limit_of, Stops};
 ghost use Rattle.yaml_show_scalar.specs.Texts.{written};
 ghost use Rattle.review_paths.specs.Budget.{room_left, one_value};
@@ -14,16 +13,16 @@ ghost use Rattle.review_paths.specs.Values.{comma, scalar_json, scalar_has_json,
 
 use crate::room::Room;
 use crate::unsaid::Unsaid;
-use review_text::Both;
 use std::alloc::{AllocError, Global};
-use yaml_graph::node::NodeKind;
 use yaml_json::is_json;
 use yaml_show_scalar::escapes::put_json_string;
 use yaml_show_scalar::number::{is_in_words, put_float};
 use yaml_show_scalar::tag::is_resolved;
 use yaml_show_scalar::{Out, Stop};
+use yaml_store_rank::RankedForests;
 use yaml_text::core_tag;
 use yaml_tree::node::NodeId;
+use yaml_tree::shown::Inside;
 
 /// How many nodes may be inside one another: some readers of JSON take no more than 127 arrays and objects, and the line is one.
 const LEVELS: u16 = 100;
@@ -102,18 +101,17 @@ fn is_mapping(tag: &str) -> bool
 }
 
 /// The content of a key that is a string.
-fn name_of<'b>(both: &'b Both<'_>, key: NodeId) -> Option<&'b str>
-    requires ranked { RanksAre both.now.graph both.now.ranks }
-    ensures some { IfSome result (λ name. IsName (arranged (tree both.now.graph key.0)) name.now) }
-    ensures none { IfNone result (is_string (arranged (tree both.now.graph key.0)) ≡ false) }
+fn name_of<'b>(forests: &'b RankedForests<'_>, key: NodeId) -> Option<&'b str>
+    ensures some { IfSome result (λ name. IsName (arranged (tree forests.now key.0)) name.now) }
+    ensures none { IfNone result (is_string (arranged (tree forests.now key.0)) ≡ false) }
 {
-    let Some(node) = both.node(key) else {
+    let Some(shown) = forests.get(key) else {
         return None;
     };
-    match &node.kind {
-        NodeKind::Scalar(content) => {
-            if is_string(node.tag.as_str()) {
-                Some(content.as_str())
+    match shown.inside {
+        Inside::Scalar(content) => {
+            if is_string(shown.tag) {
+                Some(content)
             } else {
                 None
             }
@@ -124,13 +122,12 @@ fn name_of<'b>(both: &'b Both<'_>, key: NodeId) -> Option<&'b str>
 
 /// Writes a key that is a string, and its colon.
 #[tactic(auto, using(crate::proofs::ValueLaws::key_says))]
-fn put_key(both: &Both<'_>, key: NodeId, out: &mut Out) -> Result<(), Unsaid>
-    requires ranked { RanksAre both.now.graph both.now.ranks }
-    ensures ok { OnOk result (SaysKey (arranged (tree both.now.graph key.0)) (written out.old) (written out.new)) }
+fn put_key(forests: &RankedForests<'_>, key: NodeId, out: &mut Out) -> Result<(), Unsaid>
+    ensures ok { OnOk result (SaysKey (arranged (tree forests.now key.0)) (written out.old) (written out.new)) }
     ensures limit { limit_of out.new ≡ limit_of out.old }
-    ensures err { IfErr result (Unsays (is_string (arranged (tree both.now.graph key.0))) 0 1 (limit_of out.old) (written out.old ++ (name_json (arranged (tree both.now.graph key.0)) ++ codes ":"))) }
+    ensures err { IfErr result (Unsays (is_string (arranged (tree forests.now key.0))) 0 1 (limit_of out.old) (written out.old ++ (name_json (arranged (tree forests.now key.0)) ++ codes ":"))) }
 {
-    let Some(name) = name_of(both, key) else {
+    let Some(name) = name_of(forests, key) else {
         return Err(Unsaid::NoValue);
     };
     put_json_string(out, name)?;
@@ -140,31 +137,35 @@ fn put_key(both: &Both<'_>, key: NodeId, out: &mut Out) -> Result<(), Unsaid>
 
 /// Writes a node. Of its levels, so many are left.
 #[cycle(value)]
-fn put_value(both: &Both<'_>, id: NodeId, left: u16, out: &mut Out) -> Result<(), Unsaid>
-    requires { RanksAre both.now.graph both.now.ranks }
-    ensures ok { OnOk result (Says (arranged (tree both.now.graph id.0)) (written out.old) (written out.new)) }
+fn put_value(
+    forests: &RankedForests<'_>,
+    id: NodeId,
+    left: u16,
+    out: &mut Out,
+) -> Result<(), Unsaid>
+    ensures ok { OnOk result (Says (arranged (tree forests.now id.0)) (written out.old) (written out.new)) }
     ensures limit { limit_of out.new ≡ limit_of out.old }
-    ensures err { IfErr result (Unsays (has_json (arranged (tree both.now.graph id.0))) (height (arranged (tree both.now.graph id.0))) left (limit_of out.old) (written out.old ++ value_json (arranged (tree both.now.graph id.0)))) }
+    ensures err { IfErr result (Unsays (has_json (arranged (tree forests.now id.0))) (height (arranged (tree forests.now id.0))) left (limit_of out.old) (written out.old ++ value_json (arranged (tree forests.now id.0)))) }
 {
-    let Some(node) = both.node(id) else {
+    let Some(shown) = forests.get(id) else {
         return Err(Unsaid::NoValue);
     };
     if left == 0 {
         return Err(Unsaid::NoValue);
     }
-    let tag = node.tag.as_str();
-    match &node.kind {
-        NodeKind::Scalar(content) => put_scalar(out, tag, content.as_str()),
-        NodeKind::Sequence(items) => {
-            if is_sequence(tag) {
-                put_items(both, items, left - 1, out)
+    forests.laws();
+    match shown.inside {
+        Inside::Scalar(content) => put_scalar(out, shown.tag, content),
+        Inside::Sequence(items) => {
+            if is_sequence(shown.tag) {
+                put_items(forests, items, left - 1, out)
             } else {
                 Err(Unsaid::NoValue)
             }
         }
-        NodeKind::Mapping(_) => {
-            if is_mapping(tag) {
-                put_entries(both, both.sorted(id), left - 1, out)
+        Inside::Mapping(entries) => {
+            if is_mapping(shown.tag) {
+                put_entries(forests, id, entries.len(), left - 1, out)
             } else {
                 Err(Unsaid::NoValue)
             }
@@ -174,39 +175,46 @@ fn put_value(both: &Both<'_>, id: NodeId, left: u16, out: &mut Out) -> Result<()
 
 /// Writes items as an array.
 #[cycle(value)]
-fn put_items(both: &Both<'_>, items: &[NodeId], left: u16, out: &mut Out) -> Result<(), Unsaid>
-    requires ranked { RanksAre both.now.graph both.now.ranks }
-    ensures ok { OnOk result (SaysItems (trees (map (λ i. arranged (tree both.now.graph i.0)) items.now)) (written out.old) (written out.new)) }
+fn put_items(
+    forests: &RankedForests<'_>,
+    items: &[NodeId],
+    left: u16,
+    out: &mut Out,
+) -> Result<(), Unsaid>
+    ensures ok { OnOk result (SaysItems (trees (map (λ i. arranged (tree forests.now i.0)) items.now)) (written out.old) (written out.new)) }
     ensures limit { limit_of out.new ≡ limit_of out.old }
-    ensures err { IfErr result (Unsays (items_have_json (trees (map (λ i. arranged (tree both.now.graph i.0)) items.now))) (heights (trees (map (λ i. arranged (tree both.now.graph i.0)) items.now))) (left + 1) (limit_of out.old) (written out.old ++ (codes "[" ++ (items_json 0 (trees (map (λ i. arranged (tree both.now.graph i.0)) items.now)) ++ codes "]")))) }
+    ensures err { IfErr result (Unsays (items_have_json (trees (map (λ i. arranged (tree forests.now i.0)) items.now))) (heights (trees (map (λ i. arranged (tree forests.now i.0)) items.now))) (left + 1) (limit_of out.old) (written out.old ++ (codes "[" ++ (items_json 0 (trees (map (λ i. arranged (tree forests.now i.0)) items.now)) ++ codes "]")))) }
 {
     out.put("[")?;
     for (place, item) in items.iter().enumerate() {
         put_comma(out, place)?;
-        put_value(both, *item, left, out)?;
+        put_value(forests, *item, left, out)?;
     }
     out.put("]")?;
     Ok(())
 }
 
-/// Writes entries as an object.
+/// Writes the entries of a mapping as an object, in the order of their keys.
 #[cycle(value)]
 fn put_entries(
-    both: &Both<'_>,
-    entries: &[(NodeId, NodeId)],
+    forests: &RankedForests<'_>,
+    mapping: NodeId,
+    number: usize,
     left: u16,
     out: &mut Out,
 ) -> Result<(), Unsaid>
-    requires ranked { RanksAre both.now.graph both.now.ranks }
-    ensures ok { OnOk result (SaysEntries (pairs (map (key_pair both.now.graph) entries.now)) (written out.old) (written out.new)) }
+    requires within { mapping.0 < count forests.now }
+    requires all { number ≡ length (entries_at forests.now mapping.0) }
+    ensures ok { OnOk result ((sorted : List (ℕ × ℕ)) → InKeyOrder (rank forests.now) (entries_at forests.now mapping.0) sorted → SaysEntries (pairs (map (two_arranged forests.now) sorted)) (written out.old) (written out.new)) }
     ensures limit { limit_of out.new ≡ limit_of out.old }
-    ensures err { IfErr result (Unsays (entries_have_json (pairs (map (key_pair both.now.graph) entries.now))) (heights_of_pairs (pairs (map (key_pair both.now.graph) entries.now))) (left + 1) (limit_of out.old) (written out.old ++ (codes "{" ++ (entries_json 0 (pairs (map (key_pair both.now.graph) entries.now)) ++ codes "}")))) }
+    ensures err { (sorted : List (ℕ × ℕ)) → InKeyOrder (rank forests.now) (entries_at forests.now mapping.0) sorted → IfErr result (Unsays (entries_have_json (pairs (map (two_arranged forests.now) sorted))) (heights_of_pairs (pairs (map (two_arranged forests.now) sorted))) (left + 1) (limit_of out.old) (written out.old ++ (codes "{" ++ (entries_json 0 (pairs (map (two_arranged forests.now) sorted)) ++ codes "}")))) }
 {
     out.put("{")?;
-    for (place, entry) in entries.iter().enumerate() {
+    for place in 0..number {
         put_comma(out, place)?;
-        put_key(both, entry.0, out)?;
-        put_value(both, entry.1, left, out)?;
+        let (key, value) = forests.entry_in_order(mapping, place);
+        put_key(forests, key, out)?;
+        put_value(forests, value, left, out)?;
     }
     out.put("}")?;
     Ok(())
@@ -220,17 +228,16 @@ fn put_entries(
 /// `OutOfMemory`
 pub fn value_text(
     alloc: Global,
-    both: &Both<'_>,
+    forests: &RankedForests<'_>,
     id: NodeId,
     room: &mut Room,
 ) -> Result<Option<String>, AllocError>
-    requires ranked { RanksAre both.now.graph both.now.ranks }
-    ensures ok { IfOk result (λ text. IfSome text (λ json. IsValueOf (tree both.now.graph id.0) (string_bytes json))) }
-    ensures none { IfOk result (λ text. IfNone text (HasNoValue (tree both.now.graph id.0) (min (room_left room.old) one_value))) }
+    ensures ok { IfOk result (λ text. IfSome text (λ json. IsValueOf (tree forests.now id.0) (string_bytes json))) }
+    ensures none { IfOk result (λ text. IfNone text (HasNoValue (tree forests.now id.0) (min (room_left room.old) one_value))) }
     ensures room { IfOk result (λ text. IfSome text (λ json. room_left room.new ≡ room_left room.old - length (string_bytes json))) }
 {
     let mut out = Out::new(alloc, room.next());
-    let answer = put_value(both, id, LEVELS, &mut out);
+    let answer = put_value(forests, id, LEVELS, &mut out);
     room.take(out.text.as_str().len());
     match answer {
         Ok(()) => {}

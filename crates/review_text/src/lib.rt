@@ -2,7 +2,6 @@
 #![tactic(auto)]
 
 pub mod alike;
-pub mod both;
 pub mod fronts;
 pub mod hidden;
 pub mod json;
@@ -13,6 +12,5 @@ pub mod text;
 mod timed;
 pub mod yaml11;
 
-pub use both::Both;
 pub use fronts::put_shown;
 pub use hidden::{put_json, put_visible};

@@ -1,14 +1,13 @@
 //! Paths of differences as text.
 ghost use Rattle.std.specs.Prelude.{◌≡◌, ◌++◌, ◌==◌, length, string_bytes, OnOk, IfOk};
 ghost use Rattle.yaml_diff.specs.Lines.{step_of, way_of};
-ghost use Rattle.yaml_rank.specs.RanksView.{RanksAre};
 ghost use Rattle.review_text.specs.PathText.{place_text, first_text, step_text, start_text, path_text};
 
-use crate::both::Both;
 use crate::text::put_key;
 use std::alloc::{AllocError, Global};
 use yaml_diff::Step;
 use yaml_path::places::Places;
+use yaml_store_rank::RankedForests;
 
 /// Writes where an item or a document stands: its place, or two places where it has another on the right.
 fn put_places(out: &mut String, places: Places) -> Result<(), AllocError>
@@ -24,20 +23,28 @@ fn put_places(out: &mut String, places: Places) -> Result<(), AllocError>
 }
 
 /// Writes the step that leads to a document.
-fn put_first(alloc: Global, out: &mut String, both: &Both<'_>, step: Step) -> Result<(), AllocError>
-    requires ranked { RanksAre both.now.graph both.now.ranks }
-    ensures ok { OnOk result (string_bytes out.new ≡ string_bytes out.old ++ first_text (step_of both.now.graph step)) }
+fn put_first(
+    alloc: Global,
+    out: &mut String,
+    forests: &RankedForests<'_>,
+    step: Step,
+) -> Result<(), AllocError>
+    ensures ok { OnOk result (string_bytes out.new ≡ string_bytes out.old ++ first_text (step_of forests.now step)) }
 {
     match step {
         Step::Item(places) => put_places(out, places),
-        Step::Value(key) => put_key(alloc, out, both, key),
+        Step::Value(key) => put_key(alloc, out, forests, key),
     }
 }
 
 /// Writes a step that leads to a part of a node.
-fn put_step(alloc: Global, out: &mut String, both: &Both<'_>, step: Step) -> Result<(), AllocError>
-    requires ranked { RanksAre both.now.graph both.now.ranks }
-    ensures ok { OnOk result (string_bytes out.new ≡ string_bytes out.old ++ step_text (step_of both.now.graph step)) }
+fn put_step(
+    alloc: Global,
+    out: &mut String,
+    forests: &RankedForests<'_>,
+    step: Step,
+) -> Result<(), AllocError>
+    ensures ok { OnOk result (string_bytes out.new ≡ string_bytes out.old ++ step_text (step_of forests.now step)) }
 {
     match step {
         Step::Item(places) => {
@@ -46,7 +53,7 @@ fn put_step(alloc: Global, out: &mut String, both: &Both<'_>, step: Step) -> Res
             out.push(']')?;
             Ok(())
         }
-        Step::Value(key) => put_key(alloc, out, both, key),
+        Step::Value(key) => put_key(alloc, out, forests, key),
     }
 }
 
@@ -55,16 +62,15 @@ fn put_step(alloc: Global, out: &mut String, both: &Both<'_>, step: Step) -> Res
 fn put_start(
     alloc: Global,
     out: &mut String,
-    both: &Both<'_>,
+    forests: &RankedForests<'_>,
     step: Step,
     alone: bool,
     numbered: bool,
 ) -> Result<(), AllocError>
-    requires ranked { RanksAre both.now.graph both.now.ranks }
-    ensures ok { OnOk result (string_bytes out.new ≡ string_bytes out.old ++ start_text numbered alone (step_of both.now.graph step)) }
+    ensures ok { OnOk result (string_bytes out.new ≡ string_bytes out.old ++ start_text numbered alone (step_of forests.now step)) }
 {
     if numbered {
-        return put_first(alloc, out, both, step);
+        return put_first(alloc, out, forests, step);
     }
     if alone {
         out.push('.')?;
@@ -75,21 +81,20 @@ fn put_start(
 /// A path of differences of two streams as text: where the document stands, if that is told, then one step after another.
 pub fn path_text(
     alloc: Global,
-    both: &Both<'_>,
+    forests: &RankedForests<'_>,
     path: &[Step],
     numbered: bool,
 ) -> Result<String, AllocError>
-    requires ranked { RanksAre both.now.graph both.now.ranks }
-    ensures ok { IfOk result (λ s. string_bytes s ≡ path_text numbered (way_of both.now.graph path.now)) }
+    ensures ok { IfOk result (λ s. string_bytes s ≡ path_text numbered (way_of forests.now path.now)) }
 {
     let mut out = String::new(alloc);
     let Some((document, steps)) = path.split_last() else {
         return Ok(out);
     };
     let alone = steps.len() == 0;
-    put_start(alloc, &mut out, both, *document, alone, numbered)?;
+    put_start(alloc, &mut out, forests, *document, alone, numbered)?;
     'steps: for step in steps.iter().rev() {
-        put_step(alloc, &mut out, both, *step)?;
+        put_step(alloc, &mut out, forests, *step)?;
     }
     Ok(out)
 }

@@ -1,5 +1,5 @@
 //! The text of a node: that of the canonical text, with aliases in place.
-ghost use Rattle.std.specs.Prelude.{◌≡◌, ◌<◌, ◌≤◌, ◌++◌, ◌∷◌, ◌&&◌, [], length, map, flat_map, cond, bytes_eq, codes, string_bytes, OnOk, IfOk, MatchOption, MatchBool};
+ghost use Rattle.std.specs.Prelude.{◌≡◌, ℕ, ◌<◌, ◌≤◌, List, ◌++◌, ◌∷◌, ◌&&◌, [], length, map, flat_map, cond, bytes_eq, codes, string_bytes, OnOk, IfOk, MatchOption, MatchBool};
 ghost use Rattle.std.specs.List.{All, list_all};
 ghost use Rattle.std.specs.Str.{encode_utf8_all};
 ghost use Rattle.yaml_definitions.specs.grammar.Characters.{c-mapping-start, c-sequence-start};
@@ -9,23 +9,22 @@ ghost use Rattle.yaml_definitions.specs.model.Order.{arranged};
 ghost use Rattle.yaml_definitions.specs.canonical.NodeText.{items_text, pairs_text};
 ghost use Rattle.yaml_definitions.specs.canonical.TagText.{spell_byte, encoded, full_text};
 ghost use Rattle.yaml_tree.specs.TreeLists.{trees, pairs};
-ghost use Rattle.yaml_graph.specs.GraphView.{tree};
-ghost use Rattle.yaml_rank.specs.RankModel.{key_pair};
-ghost use Rattle.yaml_rank.specs.RanksView.{RanksAre};
+ghost use Rattle.yaml_store_rank.specs.Forests.{count, tree, rank, entries_at, InKeyOrder};
+ghost use Rattle.yaml_store_rank.specs.ArrangedForests.{two_arranged};
 ghost use Rattle.yaml_scalar.specs.Spelling.{quoted_bytes};
 ghost use Rattle.review_text.specs.Fills.{Fills};
 ghost use Rattle.review_text.specs.NodeText.{text_of, items_out, pairs_out, separator};
 ghost use Rattle.review_text.specs.PathText.{is_name_start, is_name_byte, is_name, key_text, bracketed, whole_limit};
 ghost use Rattle.review_text.specs.Shown.{front, shown, IsLongFront};
 
-use crate::both::Both;
 use percent_encoding::percent_encode_byte;
 use std::alloc::{AllocError, Global};
-use yaml_graph::node::NodeKind;
 use yaml_scalar::spell::spell_into;
+use yaml_store_rank::RankedForests;
 use yaml_text::class::is_uri;
 use yaml_text::core_tag;
 use yaml_tree::node::NodeId;
+use yaml_tree::shown::Inside;
 
 /// How many bytes a text has that is not cut.
 pub const CUT: usize = 60;
@@ -212,27 +211,31 @@ fn put_separator(out: &mut String, place: usize) -> Result<(), AllocError>
 
 /// Writes a node as far as there is room for it, and perhaps further.
 #[cycle(node)]
-fn put_node(both: &Both<'_>, id: NodeId, room: usize, out: &mut String) -> Result<(), AllocError>
-    requires { RanksAre both.now.graph both.now.ranks }
-    ensures ok { OnOk result (Fills room (string_bytes out.old) (string_bytes out.new) (text_of (tree both.now.graph id.0))) }
+fn put_node(
+    forests: &RankedForests<'_>,
+    id: NodeId,
+    room: usize,
+    out: &mut String,
+) -> Result<(), AllocError>
+    ensures ok { OnOk result (Fills room (string_bytes out.old) (string_bytes out.new) (text_of (tree forests.now id.0))) }
 {
     if is_full(out, room) {
         return Ok(());
     }
-    let Some(node) = both.node(id) else {
+    let Some(shown) = forests.get(id) else {
         // No difference has such a number, which would stand for an empty tree.
         return put_scalar(out, "", "", room);
     };
-    let tag = node.tag.as_str();
-    match &node.kind {
-        NodeKind::Scalar(content) => put_scalar(out, tag, content.as_str(), room),
-        NodeKind::Sequence(items) => {
-            put_tag(out, tag, core_tag::SEQ)?;
-            put_items(both, id, items, room, out)
+    forests.laws();
+    match shown.inside {
+        Inside::Scalar(content) => put_scalar(out, shown.tag, content, room),
+        Inside::Sequence(items) => {
+            put_tag(out, shown.tag, core_tag::SEQ)?;
+            put_items(forests, id, items, room, out)
         }
-        NodeKind::Mapping(_) => {
-            put_tag(out, tag, core_tag::MAP)?;
-            put_entries(both, id, both.sorted(id), room, out)
+        Inside::Mapping(entries) => {
+            put_tag(out, shown.tag, core_tag::MAP)?;
+            put_entries(forests, id, entries.len(), room, out)
         }
     }
 }
@@ -240,15 +243,14 @@ fn put_node(both: &Both<'_>, id: NodeId, room: usize, out: &mut String) -> Resul
 /// The same of the items of a node between brackets.
 #[cycle(node)]
 fn put_items(
-    both: &Both<'_>,
+    forests: &RankedForests<'_>,
     owner: NodeId,
     items: &[NodeId],
     room: usize,
     out: &mut String,
 ) -> Result<(), AllocError>
-    requires ranked { RanksAre both.now.graph both.now.ranks }
     requires below { All (λ i. i.0 < owner.0) items.now }
-    ensures ok { OnOk result (Fills room (string_bytes out.old) (string_bytes out.new) (encode_utf8_all (c-sequence-start ∷ items_text [] (items_out (trees (map (λ i. arranged (tree both.now.graph i.0)) items.now))) []))) }
+    ensures ok { OnOk result (Fills room (string_bytes out.old) (string_bytes out.new) (encode_utf8_all (c-sequence-start ∷ items_text [] (items_out (trees (map (λ i. arranged (tree forests.now i.0)) items.now))) []))) }
 {
     out.push('[')?;
     for (place, item) in items.iter().enumerate() {
@@ -256,34 +258,36 @@ fn put_items(
             return Ok(());
         }
         put_separator(out, place)?;
-        put_node(both, *item, room, out)?;
+        put_node(forests, *item, room, out)?;
     }
     out.push(']')?;
     Ok(())
 }
 
-/// The same of the entries of a node between braces.
+/// The same of the entries of a mapping between braces, in the order of their keys.
 #[cycle(node)]
 fn put_entries(
-    both: &Both<'_>,
-    owner: NodeId,
-    entries: &[(NodeId, NodeId)],
+    forests: &RankedForests<'_>,
+    mapping: NodeId,
+    number: usize,
     room: usize,
     out: &mut String,
 ) -> Result<(), AllocError>
-    requires ranked { RanksAre both.now.graph both.now.ranks }
-    requires below { All (λ p. (p.0.0 < owner.0) × (p.1.0 < owner.0)) entries.now }
-    ensures ok { OnOk result (Fills room (string_bytes out.old) (string_bytes out.new) (encode_utf8_all (c-mapping-start ∷ pairs_text [] (pairs_out (pairs (map (key_pair both.now.graph) entries.now))) []))) }
+    requires within { mapping.0 < count forests.now }
+    requires all { number ≡ length (entries_at forests.now mapping.0) }
+    ensures ok { OnOk result ((sorted : List (ℕ × ℕ)) → InKeyOrder (rank forests.now) (entries_at forests.now mapping.0) sorted → Fills room (string_bytes out.old) (string_bytes out.new) (encode_utf8_all (c-mapping-start ∷ pairs_text [] (pairs_out (pairs (map (two_arranged forests.now) sorted))) []))) }
 {
+    forests.laws();
     out.push('{')?;
-    for (place, entry) in entries.iter().enumerate() {
+    for place in 0..number {
         if is_full(out, room) {
             return Ok(());
         }
         put_separator(out, place)?;
-        put_node(both, entry.0, room, out)?;
+        let (key, value) = forests.entry_in_order(mapping, place);
+        put_node(forests, key, room, out)?;
         out.push_str(" : ")?;
-        put_node(both, entry.1, room, out)?;
+        put_node(forests, value, room, out)?;
     }
     out.push('}')?;
     Ok(())
@@ -294,29 +298,28 @@ fn put_entries(
 /// A whole text ends with `"`, `]` or `}`, so a `.` at the end tells a cut.
 pub fn node_text(
     alloc: Global,
-    both: &Both<'_>,
+    forests: &RankedForests<'_>,
     id: NodeId,
     room: usize,
 ) -> Result<String, AllocError>
-    requires { RanksAre both.now.graph both.now.ranks }
-    ensures ok { IfOk result (λ s. string_bytes s ≡ shown room (text_of (tree both.now.graph id.0))) }
+    ensures ok { IfOk result (λ s. string_bytes s ≡ shown room (text_of (tree forests.now id.0))) }
 {
     let mut text = String::new(alloc);
-    put_node(both, id, room, &mut text)?;
+    put_node(forests, id, room, &mut text)?;
     cut(alloc, text, room)
 }
 
 /// The content of a key that is written as it is.
-fn name_of<'b>(both: &'b Both<'_>, key: NodeId) -> Option<&'b str>
-    ensures { MatchOption result (key_text (tree both.now.graph key.0) ≡ bracketed (shown whole_limit (text_of (tree both.now.graph key.0)))) (λ name. key_text (tree both.now.graph key.0) ≡ codes "." ++ name.now) }
+fn name_of<'b>(forests: &'b RankedForests<'_>, key: NodeId) -> Option<&'b str>
+    ensures { MatchOption result (key_text (tree forests.now key.0) ≡ bracketed (shown whole_limit (text_of (tree forests.now key.0)))) (λ name. key_text (tree forests.now key.0) ≡ codes "." ++ name.now) }
 {
-    let Some(node) = both.node(key) else {
+    let Some(shown) = forests.get(key) else {
         return None;
     };
-    match &node.kind {
-        NodeKind::Scalar(content) => {
-            if is_named(node.tag.as_str(), content.as_str()) {
-                Some(content.as_str())
+    match shown.inside {
+        Inside::Scalar(content) => {
+            if is_named(shown.tag, content) {
+                Some(content)
             } else {
                 None
             }
@@ -329,14 +332,13 @@ fn name_of<'b>(both: &'b Both<'_>, key: NodeId) -> Option<&'b str>
 pub fn put_key(
     alloc: Global,
     out: &mut String,
-    both: &Both<'_>,
+    forests: &RankedForests<'_>,
     key: NodeId,
 ) -> Result<(), AllocError>
-    requires { RanksAre both.now.graph both.now.ranks }
-    ensures ok { OnOk result (string_bytes out.new ≡ string_bytes out.old ++ key_text (tree both.now.graph key.0)) }
+    ensures ok { OnOk result (string_bytes out.new ≡ string_bytes out.old ++ key_text (tree forests.now key.0)) }
 {
-    match name_of(both, key) {
+    match name_of(forests, key) {
         Some(name) => put_all(out, &[".", name]),
-        None => put_bracketed(out, &node_text(alloc, both, key, WHOLE)?),
+        None => put_bracketed(out, &node_text(alloc, forests, key, WHOLE)?),
     }
 }
