@@ -2,7 +2,7 @@ mod ForestLaws
 mod RefusedLaws
 mod RootRanks
 mod Measuring
-mod SpelledLaws
+pub mod SpelledLaws
 mod BothLaws
 pub mod ClaimLaws
 mod PlacedLaws

@@ -17,9 +17,9 @@ use yaml_tree_builder::Forest;
 
 /// The ranked nodes of a stream, and the ranks of its documents' roots.
 #[derive(Drop)]
-pub(crate) struct RankedForest<'s> {
-    pub(crate) ranked: Ranked<'s>,
-    pub(crate) roots: Vec<u32>,
+pub struct RankedForest<'s> {
+    pub ranked: Ranked<'s>,
+    pub roots: Vec<u32>,
 }
 
 /// Equal keys of a node of a store, told of the first node of the stream that it stands for.
@@ -61,7 +61,7 @@ pub(crate) fn ranked_roots<'s>(alloc: Global, forest: Forest<'s>) -> Result<Rank
 ///
 /// # Errors
 /// Those of `forest_of` (1 to 18 and 21), and the lowest mapping with two equal keys (19).
-pub(crate) fn ranked_forest<'b>(alloc: Global, bytes: &'b [u8]) -> Result<RankedForest<'b>, Fault>
+pub fn ranked_forest<'b>(alloc: Global, bytes: &'b [u8]) -> Result<RankedForest<'b>, Fault>
     ensures ranks { IfOk result (HasRanks bytes.now) }
     ensures why { IfErr result (Refuses CanonicalRefuses bytes.now) }
 {

@@ -12,7 +12,7 @@ use yaml_tree::shown::Shown;
 
 /// Ranks, of which it is known which are short.
 #[derive(Drop)]
-pub(crate) struct SpelledRanks<'r, 's> {
+pub struct SpelledRanks<'r, 's> {
     ranked: &'r Ranked<'s>,
     /// How many bytes each rank takes if it is short, else 0: measured once, and not at each of its nodes.
     shorts: Vec<u8>,
@@ -37,10 +37,7 @@ fn shorts(alloc: Global, ranked: &Ranked<'_>) -> Result<Vec<u8>, NoMemory>
 
 impl<'r, 's> SpelledRanks<'r, 's> {
     /// The ranks of the nodes of a store.
-    pub(crate) fn new(
-        alloc: Global,
-        ranked: &'r Ranked<'s>,
-    ) -> Result<SpelledRanks<'r, 's>, NoMemory>
+    pub fn new(alloc: Global, ranked: &'r Ranked<'s>) -> Result<SpelledRanks<'r, 's>, NoMemory>
         requires { StandsFor ranked.now }
         ensures same { IfOk result (λ ranks. ranks.ranked.now ≡ ranked.now) }
         ensures spells { IfOk result Spells }
