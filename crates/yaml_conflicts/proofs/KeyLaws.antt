@@ -11,7 +11,7 @@ use Rattle.yaml_graph.specs.GraphModel.{Entries}
 use Rattle.yaml_graph.specs.GraphView.{nodes_of, tree}
 use Rattle.yaml_tree.proofs.Lists.{get-more}
 use Rattle.yaml_tree.specs.declared.node.NodeId.{NodeId}
-use Rattle.yaml_graph.specs.declared.graph.Graph.{Graph}
+use Rattle.yaml_store_rank.specs.Forests.{Forests}
 use Rattle.yaml_rank.specs.RanksView.{RanksAre}
 use Rattle.yaml_rank.specs.declared.ranks.Ranks.{Ranks}
 use Rattle.yaml_path.specs.Path.{at_key, part, part_of}
@@ -28,20 +28,20 @@ some-map : {X Y : Type 0} (f : X → Y) (o : Option X) → is_some (option_map f
 some-map f None = refl
 some-map f (Some x) = refl
 
-pub adds-none : (g : Graph) (keys : List NodeId) → AllWithin g keys → Adds g keys keys
+pub adds-none : (g : Forests) (keys : List NodeId) → AllWithin g keys → Adds g keys keys
 adds-none g keys w = record { kept = λ x i. i; within = w }
 
 -- a key is added
-stands-more : (g : Graph) (keys : List NodeId) (key : NodeId) (x : Tree) → Stands g keys x → Stands g (keys ++ (key ∷ [])) x
+stands-more : (g : Forests) (keys : List NodeId) (key : NodeId) (x : Tree) → Stands g keys x → Stands g (keys ++ (key ∷ [])) x
 stands-more g keys key x i = (i.0, i.1, get-more keys (key ∷ []) i.0 i.1 i.2, i.3)
 
-pub stands-last : (g : Graph) (keys : List NodeId) (key : NodeId) → Stands g (keys ++ (key ∷ [])) (tree_of g key)
+pub stands-last : (g : Forests) (keys : List NodeId) (key : NodeId) → Stands g (keys ++ (key ∷ [])) (tree_of g key)
 stands-last g keys key = (length keys + 0, key, get-nth keys (key ∷ []) 0, same_refl (tree_of g key))
 
 none-there : {X : Type 0} {y : X} (j : ℕ) → slice_get [] j ≡ Some y → ⊥
 none-there j e = absurd (cc)
 
-pub adds-more : (g : Graph) (old keys : List NodeId) (key : NodeId) → key.0 < length (nodes_of g) → Adds g old keys → Adds g old (keys ++ (key ∷ []))
+pub adds-more : (g : Forests) (old keys : List NodeId) (key : NodeId) → key.0 < count g → Adds g old keys → Adds g old (keys ++ (key ∷ []))
 adds-more g old keys key w a = record {
   kept = λ x i. stands-more g keys key x (a.kept x i);
   within = λ k y e. elim (get-side keys (key ∷ []) k y e) [
@@ -50,8 +50,8 @@ adds-more g old keys key w a = record {
   ];
 }
   where
-    by : (y : NodeId) (j : ℕ) → slice_get (key ∷ []) j ≡ Some y → y.0 < length (nodes_of g)
-    by y zero e = let q : key ≡ y = cc in subst (λ z. z.0 < length (nodes_of g)) q w
+    by : (y : NodeId) (j : ℕ) → slice_get (key ∷ []) j ≡ Some y → y.0 < count g
+    by y zero e = let q : key ≡ y = cc in subst (λ z. z.0 < count g) q w
     by y (suc j) e = absurd (none-there j e)
 
 -- ---- what the keys of one side are
@@ -64,19 +64,19 @@ option-some : (o : Option Tree) → is_some o ≡ true → (v : Tree) × (o ≡ 
 option-some None e = absurd (cc)
 option-some (Some v) e = (v, refl)
 
-pub keys-side : (g : Graph) (r : Ranks) → RanksAre g r → (i : NodeId) (entries : Entries) (keys : List NodeId) → HasEntries g i.0 entries → HasKeys g entries keys → HasSide g (Some i) keys
+pub keys-side : (g : Forests) (r : Ranks) → RanksAre g r → (i : NodeId) (entries : Entries) (keys : List NodeId) → HasEntries g i.0 entries → HasKeys g entries keys → HasSide g (Some i) keys
 keys-side g r are i entries keys h p x e =
     let v = option-some (part (tree g i.0) (at_key x)) e in
     let f = value-some g r are i.0 entries h x v.0 v.1 in
     let s = p f.0 f.1 (slice_get_within entries f.0 f.1 f.2) f.2 in
     (s.0, s.1, s.2, same_trans (tree_of g s.1) (tree g f.1.0.0) x s.3 (same_sym x (tree g f.1.0.0) f.3))
 
-pub none-side : (g : Graph) (side : Option NodeId) (keys : List NodeId) → ((x : Tree) → part_of (trees_of g side) (at_key x) ≡ None) → HasSide g side keys
+pub none-side : (g : Forests) (side : Option NodeId) (keys : List NodeId) → ((x : Tree) → part_of (trees_of g side) (at_key x) ≡ None) → HasSide g side keys
 none-side g side keys n x e = absurd (some-none (part_of (trees_of g side) (at_key x)) (n x) e)
 
 -- ---- what the keys of all sides are
 
-pub covers-all : (g : Graph) (sides : Sides) (keys : List NodeId) → HasSide g sides.base keys → HasSide g sides.ours keys → HasSide g sides.theirs keys → HasSide g sides.merge keys → Covers g sides keys
+pub covers-all : (g : Forests) (sides : Sides) (keys : List NodeId) → HasSide g sides.base keys → HasSide g sides.ours keys → HasSide g sides.theirs keys → HasSide g sides.merge keys → Covers g sides keys
 covers-all g sides keys b o t m x e = elim (or_either (side_has g sides.base x) (side_has g sides.ours x || (side_has g sides.theirs x || side_has g sides.merge x)) e) [
   | inl h ↦ b x h
   | inr f ↦ elim (or_either (side_has g sides.ours x) (side_has g sides.theirs x || side_has g sides.merge x) f) [
@@ -85,13 +85,13 @@ covers-all g sides keys b o t m x e = elim (or_either (side_has g sides.base x) 
   ]
 ]
 
-pub side-kept : (g : Graph) (side : Option NodeId) (old new : List NodeId) → Adds g old new → HasSide g side old → HasSide g side new
+pub side-kept : (g : Forests) (side : Option NodeId) (old new : List NodeId) → Adds g old new → HasSide g side old → HasSide g side new
 side-kept g side old new a h x e = a.kept x (h x e)
 
-adds-both : (g : Graph) (old keys new : List NodeId) → Adds g old keys → Adds g keys new → Adds g old new
+adds-both : (g : Forests) (old keys new : List NodeId) → Adds g old keys → Adds g keys new → Adds g old new
 adds-both g old keys new a b = record { kept = λ x i. b.kept x (a.kept x i); within = b.within }
 
-pub covers-kept : (g : Graph) (sides : Sides) (old new : List NodeId) → Adds g old new → Covers g sides old → Covers g sides new
+pub covers-kept : (g : Forests) (sides : Sides) (old new : List NodeId) → Adds g old new → Covers g sides old → Covers g sides new
 covers-kept g sides old new a c x e = a.kept x (c x e)
 
 -- ---- the loop over entries
@@ -103,14 +103,14 @@ split (suc k) zero l = absurd (omega arith)
 split (suc k) (suc n) l = elim (split k n (omega arith)) [ inl a ↦ inl (omega arith) | inr e ↦ inr (ap suc e) ]
 
 -- the keys of the entries before a place were added
-pub record KeysAdded (g : Graph) (entries : Entries) (old new : List NodeId) (n : ℕ) : Type 0 where
+pub record KeysAdded (g : Forests) (entries : Entries) (old new : List NodeId) (n : ℕ) : Type 0 where
   pub adds : Adds g old new
   pub keys : HasKeysBelow g n entries new
 
-pub keys-first : (g : Graph) (entries : Entries) (keys : List NodeId) → AllWithin g keys → KeysAdded g entries keys keys 0
+pub keys-first : (g : Forests) (entries : Entries) (keys : List NodeId) → AllWithin g keys → KeysAdded g entries keys keys 0
 keys-first g entries keys w = record { adds = adds-none g keys w; keys = λ k p l e. absurd (omega (arith, l)) }
 
-pub keys-next : (g : Graph) (entries : Entries) (old keys new : List NodeId) (n : ℕ) (q : NodeId × NodeId) → slice_get entries n ≡ Some q → KeysAdded g entries old keys n → Adds g keys new → Stands g new (tree_of g q.0) → KeysAdded g entries old new (n + 1)
+pub keys-next : (g : Forests) (entries : Entries) (old keys new : List NodeId) (n : ℕ) (q : NodeId × NodeId) → slice_get entries n ≡ Some q → KeysAdded g entries old keys n → Adds g keys new → Stands g new (tree_of g q.0) → KeysAdded g entries old new (n + 1)
 keys-next g entries old keys new n q is p a s = record {
   adds = adds-both g old keys new p.adds a;
   keys = λ k x l e. elim (split k n l) [
@@ -121,7 +121,7 @@ keys-next g entries old keys new n q is p a s = record {
 
 -- ---- one side
 
-pub side_found : (g : Graph) (x : Option NodeId) (t : Option Tree) → trees_of g x ≡ t → is_some x ≡ is_some t
+pub side_found : (g : Forests) (x : Option NodeId) (t : Option Tree) → trees_of g x ≡ t → is_some x ≡ is_some t
 side_found g x t e = sym (some-map (tree_of g) x) ∙ ap is_some e
 
 -- ---- all sides
@@ -129,11 +129,11 @@ side_found g x t e = sym (some-map (tree_of g) x) ∙ ap is_some e
 abbrev pub of_four : (b o t m : Option NodeId) → Sides
 of_four b o t m = record { base = b; ours = o; theirs = t; merge = m }
 
-pub covers-of : (g : Graph) (b o t m : Option NodeId) (keys : List NodeId) → HasSide g b keys → HasSide g o keys → HasSide g t keys → HasSide g m keys → Covers g (of_four b o t m) keys
+pub covers-of : (g : Forests) (b o t m : Option NodeId) (keys : List NodeId) → HasSide g b keys → HasSide g o keys → HasSide g t keys → HasSide g m keys → Covers g (of_four b o t m) keys
 covers-of g b o t m keys hb ho ht hm = covers-all g (of_four b o t m) keys hb ho ht hm
 
-pub none-has : (g : Graph) (keys : List NodeId) → HasSide g None keys
+pub none-has : (g : Forests) (keys : List NodeId) → HasSide g None keys
 none-has g keys = none-side g None keys (λ x. refl)
 
-pub no-keys : (g : Graph) (keys : List NodeId) → keys ≡ [] → AllWithin g keys
+pub no-keys : (g : Forests) (keys : List NodeId) → keys ≡ [] → AllWithin g keys
 no-keys g keys e k x h = absurd (none-there k (sym (ap (λ z. slice_get z k) e) ∙ h))

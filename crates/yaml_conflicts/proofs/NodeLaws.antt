@@ -12,7 +12,7 @@ use Rattle.yaml_tree.specs.declared.node.NodeId.{NodeId}
 use Rattle.yaml_graph.specs.declared.node.Node.{Node}
 use Rattle.yaml_graph.specs.declared.node.NodeKind.{NodeKind}
 use Rattle.yaml_graph.specs.declared.node.NodeKind.TheVariants as kinds
-use Rattle.yaml_graph.specs.declared.graph.Graph.{Graph}
+use Rattle.yaml_store_rank.specs.Forests.{Forests}
 use Rattle.yaml_rank.specs.RanksView.{RanksAre, rank_of}
 use Rattle.yaml_rank.specs.declared.ranks.Ranks.{Ranks}
 use Rattle.yaml_path.specs.Path.{Step, at_key, part}
@@ -42,7 +42,7 @@ kind-shape ts a b (kinds.Mapping xs) (kinds.Sequence ys) = none-left (bytes_eq a
 kind-shape ts a b (kinds.Scalar x) l = none-left (bytes_eq a b)
 kind-shape ts a b (kinds.Sequence xs) l = none-left (bytes_eq a b)
 
-pub node_shape : (g : Graph) (i j : ℕ) (n m : Node) → slice_get (nodes_of g) i ≡ Some n → slice_get (nodes_of g) j ≡ Some m → one_shape (Some (tree g i)) (Some (tree g j)) ≡ (bytes_eq (cow_str_bytes n.tag) (cow_str_bytes m.tag) && both-mappings n.kind m.kind)
+pub node_shape : (g : Forests) (i j : ℕ) (n m : Node) → slice_get (nodes_of g) i ≡ Some n → slice_get (nodes_of g) j ≡ Some m → one_shape (Some (tree g i)) (Some (tree g j)) ≡ (bytes_eq (cow_str_bytes n.tag) (cow_str_bytes m.tag) && both-mappings n.kind m.kind)
 node_shape g i j n m a b =
     ap (λ z. one_shape (Some z) (Some (tree g j))) (node-tree (nodes_of g) i n g.grounded a) ∙ ap (λ z. one_shape (Some (node_tree (graph_trees g) n)) (Some z)) (node-tree (nodes_of g) j m g.grounded b) ∙ kind-shape (graph_trees g) (cow_str_bytes n.tag) (cow_str_bytes m.tag) n.kind m.kind
 
@@ -50,10 +50,10 @@ node_shape g i j n m a b =
 pub tag-eq : (x y a b : List ℕ) (r : Bool) → r ≡ bytes_eq x y → x ≡ a → y ≡ b → bytes_eq a b ≡ r
 tag-eq x y a b r e p q = (λ z. bytes_eq (sym p z) (sym q z)) ∙ sym e
 
-pub shape-then : (g : Graph) (i j : ℕ) (n m : Node) → slice_get (nodes_of g) i ≡ Some n → slice_get (nodes_of g) j ≡ Some m → (x : Bool) → bytes_eq (cow_str_bytes n.tag) (cow_str_bytes m.tag) ≡ true → x ≡ both-mappings n.kind m.kind → x ≡ one_shape (Some (tree g i)) (Some (tree g j))
+pub shape-then : (g : Forests) (i j : ℕ) (n m : Node) → slice_get (nodes_of g) i ≡ Some n → slice_get (nodes_of g) j ≡ Some m → (x : Bool) → bytes_eq (cow_str_bytes n.tag) (cow_str_bytes m.tag) ≡ true → x ≡ both-mappings n.kind m.kind → x ≡ one_shape (Some (tree g i)) (Some (tree g j))
 shape-then g i j n m a b x e f = f ∙ sym (ap (λ z. z && both-mappings n.kind m.kind) e) ∙ sym (node_shape g i j n m a b)
 
-pub shape-else : (g : Graph) (i j : ℕ) (n m : Node) → slice_get (nodes_of g) i ≡ Some n → slice_get (nodes_of g) j ≡ Some m → (x : Bool) → bytes_eq (cow_str_bytes n.tag) (cow_str_bytes m.tag) ≡ false → x ≡ false → x ≡ one_shape (Some (tree g i)) (Some (tree g j))
+pub shape-else : (g : Forests) (i j : ℕ) (n m : Node) → slice_get (nodes_of g) i ≡ Some n → slice_get (nodes_of g) j ≡ Some m → (x : Bool) → bytes_eq (cow_str_bytes n.tag) (cow_str_bytes m.tag) ≡ false → x ≡ false → x ≡ one_shape (Some (tree g i)) (Some (tree g j))
 shape-else g i j n m a b x e f = f ∙ sym (ap (λ z. z && both-mappings n.kind m.kind) e) ∙ sym (node_shape g i j n m a b)
 
 -- nothing is of no shape
@@ -65,7 +65,7 @@ shape_none (Some (Rattle.yaml_definitions.specs.model.Tree.mapping a ps)) = refl
 
 -- ---- parts
 
-pub scalar-part : (g : Graph) (i : ℕ) (n : Node) (x : _) → slice_get (nodes_of g) i ≡ Some n → n.kind ≡ kinds.Scalar x → (s : Step) → part (tree g i) s ≡ None
+pub scalar-part : (g : Forests) (i : ℕ) (n : Node) (x : _) → slice_get (nodes_of g) i ≡ Some n → n.kind ≡ kinds.Scalar x → (s : Step) → part (tree g i) s ≡ None
 scalar-part g i n x a k s = ap (λ z. part z s) (node-tree (nodes_of g) i n g.grounded a ∙ ap (kind_tree (graph_trees g) (cow_str_bytes n.tag)) k)
 
 no-value : (r : Ranks) (rank : ℕ) (result : Option NodeId) → IsValueOf r [] rank result → result ≡ None
@@ -75,12 +75,12 @@ no-value r rank (Some v) w = absurd (none-at w.0 w.1 w.2)
     none-at : (k : ℕ) (p : NodeId × NodeId) → slice_get [] k ≡ Some p → ⊥
     none-at k p e = absurd (cc)
 
-module _ (g : Graph) (r : Ranks) (are : RanksAre g r) (i : ℕ) (n : Node) (is : slice_get (nodes_of g) i ≡ Some n) where
-  within : i < length (nodes_of g)
+module _ (g : Forests) (r : Ranks) (are : RanksAre g r) (i : ℕ) (n : Node) (is : slice_get (nodes_of g) i ≡ Some n) where
+  within : i < count g
   within = slice_get_within (nodes_of g) i n is
 
   -- the value of a key
-  pub value-part : (key : ℕ) → key < length (nodes_of g) → (result : Option NodeId) → IsValueOf r (entries_of n.kind) (rank_of r key) result → trees_of g result ≡ part (tree g i) (at_key (tree g key))
+  pub value-part : (key : ℕ) → key < count g → (result : Option NodeId) → IsValueOf r (entries_of n.kind) (rank_of r key) result → trees_of g result ≡ part (tree g i) (at_key (tree g key))
   value-part key l result w = by n.kind refl w
     where
       by : (k : NodeKind) → n.kind ≡ k → IsValueOf r (entries_of k) (rank_of r key) result → trees_of g result ≡ part (tree g i) (at_key (tree g key))

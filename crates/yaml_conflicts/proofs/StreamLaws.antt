@@ -9,7 +9,7 @@ use Rattle.yaml_definitions.specs.model.Same.{same, same_trees}
 use Rattle.yaml_definitions.proofs.Members.{and_both}
 use Rattle.yaml_tree.specs.TreeLists.{trees}
 use Rattle.yaml_tree.specs.declared.node.NodeId.{NodeId}
-use Rattle.yaml_graph.specs.declared.graph.Graph.{Graph}
+use Rattle.yaml_store_rank.specs.Forests.{Forests}
 use Rattle.yaml_path.specs.Path.{Step, Path, at_item, at_key, item_in}
 use Rattle.yaml_path.specs.Ways.{count_in}
 use Rattle.yaml_diff.specs.Lines.{tree_of, trees_of}
@@ -31,35 +31,35 @@ use Rattle.yaml_conflicts.proofs.WalkLaws.{none-lists, one-lists, nothing-breaks
 
 -- ---- documents
 
-pub get-within : (g : Graph) (roots : List NodeId) (place : ℕ) (found : Option NodeId) → AllWithin g roots → found ≡ slice_get roots place → Within g found
+pub get-within : (g : Forests) (roots : List NodeId) (place : ℕ) (found : Option NodeId) → AllWithin g roots → found ≡ slice_get roots place → Within g found
 get-within g roots place None w e = tt
 get-within g roots place (Some i) w e = w place i (sym e)
 
 -- ---- streams that are alike
 
-pub stream-alike : (g : Graph) (xs ys : List NodeId) → alike (stream (documents g xs)) (stream (documents g ys)) ≡ same_trees (trees (map (tree_of g) xs)) (trees (map (tree_of g) ys))
+pub stream-alike : (g : Forests) (xs ys : List NodeId) → alike (stream (documents g xs)) (stream (documents g ys)) ≡ same_trees (trees (map (tree_of g) xs)) (trees (map (tree_of g) ys))
 unfolding same
 stream-alike g xs ys = refl
 
 -- ---- how many documents there are
 
-pub counted : (g : Graph) (roots : List NodeId) → count_in (documents g roots) ≡ length roots
+pub counted : (g : Forests) (roots : List NodeId) → count_in (documents g roots) ≡ length roots
 counted g [] = refl
 counted g (i ∷ roots) = ap suc (counted g roots)
 
-pub counts-are : (g : Graph) (xs ys : List NodeId) → (length xs == length ys) ≡ (count_in (documents g xs) == count_in (documents g ys))
+pub counts-are : (g : Forests) (xs ys : List NodeId) → (length xs == length ys) ≡ (count_in (documents g xs) == count_in (documents g ys))
 counts-are g xs ys = (λ z. sym (counted g xs) z == sym (counted g ys) z)
 
-pub counts-length : (g : Graph) (xs ys : List NodeId) → (count_in (documents g xs) == count_in (documents g ys)) ≡ true → length xs ≡ length ys
+pub counts-length : (g : Forests) (xs ys : List NodeId) → (count_in (documents g xs) == count_in (documents g ys)) ≡ true → length xs ≡ length ys
 counts-length g xs ys e = eqb-true (length xs) (length ys) (counts-are g xs ys ∙ e)
 
-pub other-count : (g : Graph) (xs ys : List NodeId) → (count_in (documents g xs) == count_in (documents g ys)) ≡ false → false ≡ alike (stream (documents g xs)) (stream (documents g ys))
+pub other-count : (g : Forests) (xs ys : List NodeId) → (count_in (documents g xs) == count_in (documents g ys)) ≡ false → false ≡ alike (stream (documents g xs)) (stream (documents g ys))
 other-count g xs ys n = sym (not-true (alike (stream (documents g xs)) (stream (documents g ys))) (λ e. true-false (eq-eqb (count_in (documents g xs)) (count_in (documents g ys)) (like-count (documents g xs) (documents g ys) (sym (stream-alike g xs ys) ∙ e))) n))
 
-document-part : (g : Graph) (xs : List NodeId) (k : ℕ) (found : Option NodeId) → found ≡ slice_get xs k → trees_of g found ≡ item_in (documents g xs) k
+document-part : (g : Forests) (xs : List NodeId) (k : ℕ) (found : Option NodeId) → found ≡ slice_get xs k → trees_of g found ≡ item_in (documents g xs) k
 document-part g xs k found e = ap (trees_of g) e ∙ sym (item-there (tree_of g) xs k)
 
-past-end : (g : Graph) (roots : List NodeId) (k : ℕ) → length roots ≤ k → item_in (documents g roots) k ≡ None
+past-end : (g : Forests) (roots : List NodeId) (k : ℕ) → length roots ≤ k → item_in (documents g roots) k ≡ None
 past-end g [] k l = refl
 past-end g (x ∷ roots) zero l = absurd (omega (arith, l))
 past-end g (x ∷ roots) (suc k) l = past-end g roots k (omega (arith, l))
@@ -72,25 +72,25 @@ less-or (suc k) (suc n) = elim (less-or k n) [ inl l ↦ inl (omega (arith, l)) 
 
 -- ---- documents one after another
 
-pub other-at : (g : Graph) (xs ys : List NodeId) (k : ℕ) (first second : Option NodeId) → first ≡ slice_get xs k → second ≡ slice_get ys k → alike (trees_of g first) (trees_of g second) ≡ false → false ≡ alike (stream (documents g xs)) (stream (documents g ys))
+pub other-at : (g : Forests) (xs ys : List NodeId) (k : ℕ) (first second : Option NodeId) → first ≡ slice_get xs k → second ≡ slice_get ys k → alike (trees_of g first) (trees_of g second) ≡ false → false ≡ alike (stream (documents g xs)) (stream (documents g ys))
 other-at g xs ys k first second p q n =
     let h : alike (trees_of g first) (trees_of g second) ≡ alike (item_in (documents g xs) k) (item_in (documents g ys) k) = (λ z. alike (document-part g xs k first p z) (document-part g ys k second q z)) in
     sym (not-true (alike (stream (documents g xs)) (stream (documents g ys))) (λ e. true-false (h ∙ like-at (documents g xs) (documents g ys) (sym (stream-alike g xs ys) ∙ e) k) n))
 
 -- the documents before a place are the same
-abbrev pub AlikeBelow : Graph → List NodeId → List NodeId → ℕ → Type 0
+abbrev pub AlikeBelow : Forests → List NodeId → List NodeId → ℕ → Type 0
 AlikeBelow g xs ys n = (k : ℕ) → k < n → alike (item_in (documents g xs) k) (item_in (documents g ys) k) ≡ true
 
-pub alike-first : (g : Graph) (xs ys : List NodeId) → AlikeBelow g xs ys 0
+pub alike-first : (g : Forests) (xs ys : List NodeId) → AlikeBelow g xs ys 0
 alike-first g xs ys k l = absurd (omega (arith, l))
 
-pub alike-next : (g : Graph) (xs ys : List NodeId) (n : ℕ) (first second : Option NodeId) → AlikeBelow g xs ys n → first ≡ slice_get xs n → second ≡ slice_get ys n → alike (trees_of g first) (trees_of g second) ≡ true → AlikeBelow g xs ys (n + 1)
+pub alike-next : (g : Forests) (xs ys : List NodeId) (n : ℕ) (first second : Option NodeId) → AlikeBelow g xs ys n → first ≡ slice_get xs n → second ≡ slice_get ys n → alike (trees_of g first) (trees_of g second) ≡ true → AlikeBelow g xs ys (n + 1)
 alike-next g xs ys n first second h p q e k l = elim (split k n l) [
   | inl m ↦ h k m
   | inr m ↦ ap (λ z. alike (item_in (documents g xs) z) (item_in (documents g ys) z)) m ∙ (λ z. alike (sym (document-part g xs n first p) z) (sym (document-part g ys n second q) z)) ∙ e
 ]
 
-pub alike-whole : (g : Graph) (xs ys : List NodeId) (n : ℕ) → length xs ≡ length ys → length xs ≤ n → AlikeBelow g xs ys n → true ≡ alike (stream (documents g xs)) (stream (documents g ys))
+pub alike-whole : (g : Forests) (xs ys : List NodeId) (n : ℕ) → length xs ≡ length ys → length xs ≤ n → AlikeBelow g xs ys n → true ≡ alike (stream (documents g xs)) (stream (documents g ys))
 alike-whole g xs ys n e l h = sym (stream-alike g xs ys ∙ all-like (documents g xs) (documents g ys) (λ k. at k (less-or k (length xs))))
   where
     at : (k : ℕ) → (k < length xs) ⊎ (length xs ≤ k) → alike (item_in (documents g xs) k) (item_in (documents g ys) k) ≡ true
@@ -99,7 +99,7 @@ alike-whole g xs ys n e l h = sym (stream-alike g xs ys ∙ all-like (documents 
 
 -- ---- the documents at one place
 
-module _ (g : Graph) (given : Bool) (s : Sides) where
+module _ (g : Forests) (given : Bool) (s : Sides) where
   abbrev Here : Bool → Path → Type 0
   Here is_alone p = DocumentBreaks given is_alone p (trees_of g s.base) (trees_of g s.ours) (trees_of g s.theirs) (trees_of g s.merge)
 
@@ -131,10 +131,10 @@ none-document given is_alone q b o t m e f h i x =
     no true false x = true-false refl x.0
     no false false x = true-false refl x.0
 
-abbrev ListsHere : Graph → Bool → Found → Bool → (b o t m : Option Tree) → Type 0
+abbrev ListsHere : Forests → Bool → Found → Bool → (b o t m : Option Tree) → Type 0
 ListsHere g given f is_alone b o t m = Lists g (λ q. DocumentBreaks given is_alone q b o t m) b o t m (lines_of f) f.whole
 
-module _ (g : Graph) (given : Bool) (r : Roots) where
+module _ (g : Forests) (given : Bool) (r : Roots) where
   abbrev pub base-docs : Trees
   base-docs = documents g r.base.now
 

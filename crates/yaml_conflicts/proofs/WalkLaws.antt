@@ -12,7 +12,7 @@ use Rattle.yaml_definitions.proofs.Members.{and_both}
 use Rattle.yaml_definitions.proofs.Equivalence.{same_refl, same_sym, same_trans}
 use Rattle.yaml_tree.proofs.Lists.{get-more}
 use Rattle.yaml_tree.specs.declared.node.NodeId.{NodeId}
-use Rattle.yaml_graph.specs.declared.graph.Graph.{Graph}
+use Rattle.yaml_store_rank.specs.Forests.{Forests}
 use Rattle.yaml_path.specs.Path.{Step, Path, AlikeStep, AlikePath, at_item, at_key, reach, part_of}
 use Rattle.yaml_diff.specs.Lines.{tree_of, trees_of}
 use Rattle.yaml_diff.specs.Found.{Within, size}
@@ -39,7 +39,7 @@ step-self : (s : Step) → AlikeStep s s
 step-self (at_item k) = refl
 step-self (at_key x) = same_refl x
 
-path-under : (g : Graph) (s : code.Step) (d : Line) → path_of g (under s d).0 ≡ plain_of g s ∷ path_of g d.0
+path-under : (g : Forests) (s : code.Step) (d : Line) → path_of g (under s d).0 ≡ plain_of g s ∷ path_of g d.0
 path-under g s d = ap reverse (map-end (plain_of g) d.0 s) ∙ reverse-append (map (plain_of g) d.0) (plain_of g s ∷ [])
 
 alike-key : (p q : Path) (x y : Tree) → same x y ≡ true → AlikePath p (at_key x ∷ q) → AlikePath p (at_key y ∷ q)
@@ -47,12 +47,12 @@ alike-key (at_key z ∷ p) q x y e a = (same_trans z x y a.0 e, a.1)
 alike-key (at_item k ∷ p) q x y e a = absurd a.0
 alike-key [] q x y e a = absurd a
 
-listed-key : (g : Graph) (lines : List Line) (q : Path) (x y : Tree) → same x y ≡ true → Listed g (at_key x ∷ q) lines → Listed g (at_key y ∷ q) lines
+listed-key : (g : Forests) (lines : List Line) (q : Path) (x y : Tree) → same x y ≡ true → Listed g (at_key x ∷ q) lines → Listed g (at_key y ∷ q) lines
 listed-key g lines q x y e l = (l.0, l.1, l.2, alike-key (path_of g l.1.0) q x y e l.3)
 
 -- ---- lists
 
-module _ (g : Graph) (IsOne : Path → Type 0) (b o t m : Option Tree) where
+module _ (g : Forests) (IsOne : Path → Type 0) (b o t m : Option Tree) where
   pub none-lists : (lines : List Line) (w : Bool) → lines ≡ [] → (w ≡ true → (p : Path) → IsOne p → ⊥) → Lists g IsOne b o t m lines w
   none-lists lines w e n = record {
     each = λ k d h. absurd (no-line k (sym (ap (λ z. slice_get z k) e) ∙ h));
@@ -96,7 +96,7 @@ module _ (g : Graph) (IsOne : Path → Type 0) (b o t m : Option Tree) where
       last : (q : Path) → Listed g q more → Listed g (plain_of g x ∷ q) (lines ++ map (under x) more)
       last q r = (length lines + r.0, under x r.1, get-nth lines (map (under x) more) r.0 ∙ map-get (under x) more r.0 r.1 r.2, subst (λ s. AlikePath s (plain_of g x ∷ q)) (sym (path-under g x r.1)) (step-self (plain_of g x), r.3))
 
-pub one-lists : (g : Graph) (IsOne : Path → Type 0) (s : Sides) (lines : List Line) (w : Bool) → lines ≡ ([], s) ∷ [] → IsOne [] → ((p : Path) → IsOne p → p ≡ []) → Lists g IsOne (trees_of g s.base) (trees_of g s.ours) (trees_of g s.theirs) (trees_of g s.merge) lines w
+pub one-lists : (g : Forests) (IsOne : Path → Type 0) (s : Sides) (lines : List Line) (w : Bool) → lines ≡ ([], s) ∷ [] → IsOne [] → ((p : Path) → IsOne p → p ≡ []) → Lists g IsOne (trees_of g s.base) (trees_of g s.ours) (trees_of g s.theirs) (trees_of g s.merge) lines w
 one-lists g IsOne s lines w e i n = subst (λ z. Lists g IsOne (trees_of g s.base) (trees_of g s.ours) (trees_of g s.theirs) (trees_of g s.merge) z w) (sym e) (record {
   each = λ k d h. by k d h;
   whole = λ p q x. at q (n q x);
@@ -155,17 +155,17 @@ and-either false b e = inl refl
 -- ---- keys one after another
 
 -- the step leads to one of the first so many keys
-abbrev pub TakenKey : Graph → List NodeId → ℕ → Step → Type 0
+abbrev pub TakenKey : Forests → List NodeId → ℕ → Step → Type 0
 TakenKey g keys n s = (k : ℕ) × (key : NodeId) × (k < n) × (slice_get keys k ≡ Some key) × (s ≡ at_key (tree_of g key))
 
 some-is : {X : Type 0} {x y : X} → Some x ≡ Some y → x ≡ y
 some-is e = cc
 
 -- the paths of `Breaks` in the trees of these nodes
-abbrev pub BreaksIn : Graph → Bool → Sides → Path → Type 0
+abbrev pub BreaksIn : Forests → Bool → Sides → Path → Type 0
 BreaksIn g given s p = Breaks given p (trees_of g s.base) (trees_of g s.ours) (trees_of g s.theirs) (trees_of g s.merge)
 
-module _ (g : Graph) (given : Bool) (s : Sides) where
+module _ (g : Forests) (given : Bool) (s : Sides) where
   abbrev pub base-tree : Option Tree
   base-tree = trees_of g s.base
 
@@ -293,12 +293,12 @@ one-spends room (Err x) w n = tt
 
 -- ---- the walk goes down
 
-pub below-within : (g : Graph) (p n : Option NodeId) → IsBelow p n → Within g n → Within g p
+pub below-within : (g : Forests) (p n : Option NodeId) → IsBelow p n → Within g n → Within g p
 below-within g None n b w = tt
 below-within g (Some i) None b w = absurd b
 below-within g (Some i) (Some j) b w = omega (arith, b, w)
 
-pub parts-within : (g : Graph) (s parts : Sides) → SidesBelow parts s → SidesWithin g s → SidesWithin g parts
+pub parts-within : (g : Forests) (s parts : Sides) → SidesBelow parts s → SidesWithin g s → SidesWithin g parts
 parts-within g s parts b w = record {
   base = below-within g parts.base s.base b.base w.base;
   ours = below-within g parts.ours s.ours b.ours w.ours;
@@ -318,7 +318,7 @@ below-less : (p : Option NodeId) (j : NodeId) → IsBelow p (Some j) → size p 
 below-less None j b = omega arith
 below-less (Some i) j b = omega (arith, b)
 
-shape-there : (g : Graph) (n : Option NodeId) (t : Option Tree) → one_shape (trees_of g n) t ≡ true → (p : Option NodeId) → IsBelow p n → size p < size n
+shape-there : (g : Forests) (n : Option NodeId) (t : Option Tree) → one_shape (trees_of g n) t ≡ true → (p : Option NodeId) → IsBelow p n → size p < size n
 shape-there g None t e p b = absurd (none-shape t e)
   where
     none-shape : (t : Option Tree) → one_shape None t ≡ true → ⊥
@@ -326,7 +326,7 @@ shape-there g None t e p b = absurd (none-shape t e)
     none-shape (Some u) e = absurd (cc)
 shape-there g (Some j) t e p b = below-less p j b
 
-pub total-less : (g : Graph) (s parts : Sides) → opens (trees_of g s.base) (trees_of g s.ours) (trees_of g s.theirs) (trees_of g s.merge) ≡ true → SidesBelow parts s → total parts < total s
+pub total-less : (g : Forests) (s parts : Sides) → opens (trees_of g s.base) (trees_of g s.ours) (trees_of g s.theirs) (trees_of g s.merge) ≡ true → SidesBelow parts s → total parts < total s
 total-less g s parts e b =
     let x = shape-there g s.base (trees_of g s.ours) (opens-three (trees_of g s.base) (trees_of g s.ours) (trees_of g s.theirs) (trees_of g s.merge) e).0 parts.base b.base in
     let y = below-size parts.ours s.ours b.ours in

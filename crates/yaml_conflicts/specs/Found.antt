@@ -1,11 +1,10 @@
--- Places of nodes of a graph, as they are listed.
+-- Places of nodes, as they are listed.
 use Rattle.std.specs.Prelude.{◌≡◌, ℕ, ◌<◌, Bool, true, false, List, [], ◌∷◌, ◌++◌, map, reverse, Option, Some, None}
 use Rattle.std.specs.List.{slice_get}
 use Rattle.yaml_definitions.specs.model.Tree.{Tree}
 use Rattle.yaml_tree.specs.declared.node.NodeId.{NodeId}
-use Rattle.yaml_graph.specs.declared.node.NodeKind.{NodeKind}
-use Rattle.yaml_graph.specs.declared.node.NodeKind.TheVariants as kinds
-use Rattle.yaml_graph.specs.declared.graph.Graph.{Graph}
+use Rattle.yaml_tree.specs.View.{Inside, entries}
+use Rattle.yaml_store_rank.specs.Forests.{Forests}
 use Rattle.yaml_path.specs.Path.{Step, Path, AlikePath, at_item, at_key, reach, part_of}
 use Rattle.yaml_diff.specs.Lines.{tree_of, trees_of}
 use Rattle.yaml_diff.specs.Found.{Within}
@@ -20,7 +19,7 @@ use Rattle.yaml_conflicts.specs.Rooms.{is_spent}
 
 -- ---- steps and nodes
 
-abbrev pub plain_of : Graph → code.Step → Step
+abbrev pub plain_of : Forests → code.Step → Step
 plain_of g (Document place) = at_item place
 plain_of g (Value key) = at_key (tree_of g key)
 
@@ -30,21 +29,21 @@ IsBelow None other = Unit {0}
 IsBelow (Some i) None = ⊥
 IsBelow (Some i) (Some j) = i.0 < j.0
 
-abbrev pub is_mapping : NodeKind → Bool
-is_mapping (kinds.Mapping xs) = true
+abbrev pub is_mapping : Inside → Bool
+is_mapping (entries es) = true
 is_mapping _ = false
 
 -- ---- sides
 
--- the nodes are of the graph
-pub record SidesWithin (g : Graph) (s : Sides) : Type 0 where
+-- all are nodes of these forests
+pub record SidesWithin (g : Forests) (s : Sides) : Type 0 where
   pub base : Within g s.base
   pub ours : Within g s.ours
   pub theirs : Within g s.theirs
   pub merge : Within g s.merge
 
 -- the nodes of `values` are the values of the key in those of `s`
-pub record ValuesAre (g : Graph) (key : Tree) (s values : Sides) : Type 0 where
+pub record ValuesAre (g : Forests) (key : Tree) (s values : Sides) : Type 0 where
   pub base : trees_of g values.base ≡ part_of (trees_of g s.base) (at_key key)
   pub ours : trees_of g values.ours ≡ part_of (trees_of g s.ours) (at_key key)
   pub theirs : trees_of g values.theirs ≡ part_of (trees_of g s.theirs) (at_key key)
@@ -68,7 +67,7 @@ line_of c = (c.path.items, c.sides)
 abbrev pub lines_of : Found → List Line
 lines_of f = map line_of f.list.items
 
-abbrev pub path_of : Graph → List code.Step → Path
+abbrev pub path_of : Forests → List code.Step → Path
 path_of g steps = reverse (map (plain_of g) steps)
 
 -- the same line of the trees above, from which this step leads here
@@ -76,11 +75,11 @@ abbrev pub under : code.Step → Line → Line
 under s d = (d.0 ++ (s ∷ []), d.1)
 
 -- a line has this path
-abbrev pub Listed : Graph → Path → List Line → Type 0
+abbrev pub Listed : Forests → Path → List Line → Type 0
 Listed g p lines = (k : ℕ) × (d : Line) × (slice_get lines k ≡ Some d) × AlikePath (path_of g d.0) p
 
 -- the paths that are looked for in four trees
-module _ (g : Graph) (IsOne : Path → Type 0) (b o t m : Option Tree) where
+module _ (g : Forests) (IsOne : Path → Type 0) (b o t m : Option Tree) where
   -- The line's path is one of them, and leads to these nodes' trees, or to none.
   pub record IsTold (d : Line) : Type 0 where
     pub is : IsOne (path_of g d.0)
@@ -95,7 +94,7 @@ module _ (g : Graph) (IsOne : Path → Type 0) (b o t m : Option Tree) where
     pub whole : is_whole ≡ true → (p : Path) → IsOne p → Listed g p lines
 
 -- what is found of the trees of these nodes
-abbrev pub Finds : Graph → Bool → Sides → Found → Type 0
+abbrev pub Finds : Forests → Bool → Sides → Found → Type 0
 Finds g given s f =
     let b = trees_of g s.base in
     let o = trees_of g s.ours in

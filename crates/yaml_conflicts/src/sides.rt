@@ -1,4 +1,4 @@
-//! The trees that are merged, by the nodes of one graph, and what is found of them.
+//! The trees that are merged, by their nodes, and what is found of them.
 use yaml_tree::node::NodeId;
 
 /// What stands at one path of the base, of ours, of theirs and of the merge: a node, or nothing. Where no merge is given, the base

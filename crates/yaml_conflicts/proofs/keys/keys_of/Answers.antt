@@ -3,14 +3,14 @@ use Rattle.yaml_conflicts.proofs.KeyLaws.{covers-of, covers-all, side-kept, none
 use Rattle.yaml_conflicts.proofs.keys.keys_of.Goals as goal
 
 pub add_side-requires-clause-covers : goal.add_side-requires-clause-covers
-add_side-requires-clause-covers c = let g = c.args.graph.now in let x = none-has g c.new-keys.result.items in covers-of g None None None None c.new-keys.result.items x x x x
+add_side-requires-clause-covers c = let g = c.args.forests.now in let x = none-has g c.new-keys.result.items in covers-of g None None None None c.new-keys.result.items x x x x
 
 pub add_side-requires-clause-keys : goal.add_side-requires-clause-keys
-add_side-requires-clause-keys c = no-keys c.args.graph.now c.new-keys.result.items c.new-keys.ensures.items
+add_side-requires-clause-keys c = no-keys c.args.forests.now c.new-keys.result.items c.new-keys.ensures.items
 
 pub add_side-requires-2-clause-covers : goal.add_side-requires-2-clause-covers
 add_side-requires-2-clause-covers c =
-    let g = c.args.graph.now in
+    let g = c.args.forests.now in
     let xs = c.add_side.new.keys.items in
     let n = none-has g xs in
     covers-of g c.args.sides.base None None None xs c.in_ok-add_side.ensures.side n n n
@@ -20,7 +20,7 @@ add_side-requires-2-clause-keys c = c.in_ok-add_side.ensures.adds.within
 
 pub add_side-requires-3-clause-covers : goal.add_side-requires-3-clause-covers
 add_side-requires-3-clause-covers c =
-    let g = c.args.graph.now in
+    let g = c.args.forests.now in
     let s = c.args.sides in
     let xs = c.add_side.new.keys.items in
     let ys = c.add_side-2.new.keys.items in
@@ -32,7 +32,7 @@ add_side-requires-3-clause-keys c = c.in_ok-add_side-2.ensures.adds.within
 
 pub add_side-requires-4-clause-covers : goal.add_side-requires-4-clause-covers
 add_side-requires-4-clause-covers c =
-    let g = c.args.graph.now in
+    let g = c.args.forests.now in
     let s = c.args.sides in
     let xs = c.add_side.new.keys.items in
     let ys = c.add_side-2.new.keys.items in
@@ -45,7 +45,7 @@ add_side-requires-4-clause-keys c = c.in_ok-add_side-3.ensures.adds.within
 
 pub returns-clause-covers : goal.returns-clause-covers
 returns-clause-covers c =
-    let g = c.args.graph.now in
+    let g = c.args.forests.now in
     let s = c.args.sides in
     let xs = c.add_side.new.keys.items in
     let ys = c.add_side-2.new.keys.items in

@@ -7,7 +7,7 @@ use Rattle.yaml_conflicts.proofs.values.value_in.Goals as goal
 
 pub returns-clause-part : goal.returns-clause-part
 returns-clause-part c =
-    let g = c.args.graph.now in
+    let g = c.args.forests.now in
     let r = c.args.ranks.now in
     let n = node-there g r c.requires.ranked c.args.node.0 c.requires.within in
     let v = c.value_of.ensures n.0 n.1 in
@@ -15,7 +15,7 @@ returns-clause-part c =
 
 pub returns-clause-below : goal.returns-clause-below
 returns-clause-below c =
-    let g = c.args.graph.now in
+    let g = c.args.forests.now in
     let r = c.args.ranks.now in
     let n = node-there g r c.requires.ranked c.args.node.0 c.requires.within in
     let v = c.value_of.ensures n.0 n.1 in

@@ -5,4 +5,4 @@ abbrev pub decreases-conflicts : goal.decreases-conflicts
 decreases-conflicts l = total l.sides
 
 abbrev pub invariant-loop-key : goal.invariant-loop-key
-invariant-loop-key l = Walked l.graph l.given l.sides l.key-items l.key-index l.found
+invariant-loop-key l = Walked l.forests l.given l.sides l.key-items l.key-index l.found
