@@ -8,12 +8,8 @@ use Rattle.std.proofs.lemmas.List.{take-map, take-take, length-map}
 use Rattle.std.proofs.lemmas.List.Sums.{sum_by-cons, sum_by-take-le, count_by_more_yes}
 use Rattle.yaml_definitions.specs.model.Tree.{Tree}
 use Rattle.yaml_definitions.specs.model.Same.{same}
-use Rattle.yaml_graph.specs.GraphModel.{trees_at}
-use Rattle.yaml_graph.specs.GraphView.{nodes_of, graph_trees, tree}
+use Rattle.yaml_store_rank.specs.Forests.{Forests, count, tree, rank, item_trees, IsRanked}
 use Rattle.yaml_tree.specs.declared.node.NodeId.{NodeId}
-use Rattle.yaml_graph.specs.declared.graph.Graph.{Graph}
-use Rattle.yaml_rank.specs.RanksView.{rank_of, RanksAre}
-use Rattle.yaml_rank.specs.declared.ranks.Ranks.{Ranks}
 use Rattle.yaml_tree.proofs.Lists.{get-map, get-unmap}
 use Rattle.yaml_pair.specs.declared.partners.Partners.{Partners}
 use Rattle.yaml_pair.specs.Names.{EqualPair}
@@ -82,26 +78,26 @@ count-one p xs a b x y e f g h q = elim (below-or a b) [
   ]
 ]
 
-module _ (g : Graph) (r : Ranks) (ranked : RanksAre g r) where
+module _ (g : Forests) (ranked : IsRanked g) where
   abbrev ranks : List NodeId → List ℕ
-  ranks items = map (λ i. rank_of r i.0) items
+  ranks items = map (λ i. rank g i.0) items
 
   abbrev trees_of : List NodeId → List Tree
-  trees_of items = trees_at (graph_trees g) items
+  trees_of items = item_trees g items
 
-  count-same : (i : ℕ) → i < length (nodes_of g) → (items : List NodeId) → AllWithin g items → count_by (λ x. x == rank_of r i) (ranks items) ≡ count_by (λ t. same t (tree g i)) (trees_of items)
+  count-same : (i : ℕ) → i < count g → (items : List NodeId) → AllWithin g items → count_by (λ x. x == rank g i) (ranks items) ≡ count_by (λ t. same t (tree g i)) (trees_of items)
   count-same i l [] w = refl
   count-same i l (y ∷ ys) w =
-      let s : (rank_of r y.0 == rank_of r i) ≡ same (tree g y.0) (tree g i) = ranks-same g r ranked y.0 i (w 0 y refl) l in
-      sum_by-cons (λ x. cond (x == rank_of r i) 1 0) (rank_of r y.0) (ranks ys)
-      ∙ ap (λ b. cond b 1 0 + count_by (λ x. x == rank_of r i) (ranks ys)) s
+      let s : (rank g y.0 == rank g i) ≡ same (tree g y.0) (tree g i) = ranks-same g ranked y.0 i (w 0 y refl) l in
+      sum_by-cons (λ x. cond (x == rank g i) 1 0) (rank g y.0) (ranks ys)
+      ∙ ap (λ b. cond b 1 0 + count_by (λ x. x == rank g i) (ranks ys)) s
       ∙ ap (λ n. cond (same (tree g y.0) (tree g i)) 1 0 + n) (count-same i l ys (λ k z e. w (suc k) z e))
       ∙ sym (sum_by-cons (λ t. cond (same t (tree g i)) 1 0) (tree g y.0) (trees_of ys))
 
   -- how many of the items before a place are equal to one
-  count-before : (i k : ℕ) → i < length (nodes_of g) → (items : List NodeId) → AllWithin g items → count_by (λ x. x == rank_of r i) (take k (ranks items)) ≡ count_by (λ t. same t (tree g i)) (take k (trees_of items))
+  count-before : (i k : ℕ) → i < count g → (items : List NodeId) → AllWithin g items → count_by (λ x. x == rank g i) (take k (ranks items)) ≡ count_by (λ t. same t (tree g i)) (take k (trees_of items))
   count-before i k l items w =
-      ap (count_by (λ x. x == rank_of r i)) (take-map (λ (j : NodeId). rank_of r j.0) k items)
+      ap (count_by (λ x. x == rank g i)) (take-map (λ (j : NodeId). rank g j.0) k items)
       ∙ count-same i l (take k items) (λ j x e. w j x (get-take k items j x e))
       ∙ sym (ap (count_by (λ t. same t (tree g i))) (take-map (λ (j : NodeId). tree g j.0) k items))
 
@@ -116,23 +112,23 @@ module _ (g : Graph) (r : Ranks) (ranked : RanksAre g r) where
     equal-to j k x =
         let a = is-count ls nl left j x.left x.left_is in
         let b = is-count rs nr right k x.right x.right_is in
-        let i = get-unmap (λ (i : NodeId). rank_of r i.0) ls j x.left.1 a.is in
-        let h = get-unmap (λ (i : NodeId). rank_of r i.0) rs k x.right.1 b.is in
+        let i = get-unmap (λ (i : NodeId). rank g i.0) ls j x.left.1 a.is in
+        let h = get-unmap (λ (i : NodeId). rank g i.0) rs k x.right.1 b.is in
         let s = one-same x.right x.left x.alike in
         let il = within.0 j i.0 i.1 in
         let hl = within.1 k h.0 h.1 in
-        let q : x.left.1 ≡ rank_of r i.0.0 = sym i.2 in
-        let p : x.right.1 ≡ rank_of r i.0.0 = s.0 ∙ q in
-        let often : count_by (λ y. y == rank_of r i.0.0) (ranks rs) ≡ count_by (λ y. y == rank_of r i.0.0) (ranks ls) =
+        let q : x.left.1 ≡ rank g i.0.0 = sym i.2 in
+        let p : x.right.1 ≡ rank g i.0.0 = s.0 ∙ q in
+        let often : count_by (λ y. y == rank g i.0.0) (ranks rs) ≡ count_by (λ y. y == rank g i.0.0) (ranks ls) =
         some-is (ap (λ z. Some (count_by (λ y. y == z) (ranks rs))) (sym p) ∙ sym b.often ∙ s.1 ∙ a.often ∙ ap (λ z. Some (count_by (λ y. y == z) (ranks ls))) q) in
-        let before : count_by (λ y. y == rank_of r i.0.0) (take k (ranks rs)) ≡ count_by (λ y. y == rank_of r i.0.0) (take j (ranks ls)) =
+        let before : count_by (λ y. y == rank g i.0.0) (take k (ranks rs)) ≡ count_by (λ y. y == rank g i.0.0) (take j (ranks ls)) =
         ap (λ z. count_by (λ y. y == z) (take k (ranks rs))) (sym p) ∙ sym b.before ∙ s.2 ∙ a.before ∙ ap (λ z. count_by (λ y. y == z) (take j (ranks ls))) q in
         record {
           left = tree g i.0.0;
           right = tree g h.0.0;
           left_is = get-map (λ (i : NodeId). tree g i.0) ls j i.0 i.1;
           right_is = get-map (λ (i : NodeId). tree g i.0) rs k h.0 h.1;
-          equal = sym (ranks-same g r ranked h.0.0 i.0.0 hl il) ∙ eq-eqb (rank_of r h.0.0) (rank_of r i.0.0) (h.2 ∙ p);
+          equal = sym (ranks-same g ranked h.0.0 i.0.0 hl il) ∙ eq-eqb (rank g h.0.0) (rank g i.0.0) (h.2 ∙ p);
           often = sym (count-same i.0.0 il rs within.1) ∙ often ∙ count-same i.0.0 il ls within.0;
           before = sym (count-before i.0.0 k il rs within.1) ∙ before ∙ count-before i.0.0 j il ls within.0;
         }
@@ -145,16 +141,16 @@ module _ (g : Graph) (r : Ranks) (ranked : RanksAre g r) where
         let kl = slice_get_within rs k h.0 h.1 in
         let il = within.0 j i.0 i.1 in
         let hl = within.1 k h.0 h.1 in
-        let a = left.1 j (omega (arith, jl, length-map ls (λ (i : NodeId). rank_of r i.0))) in
-        let b = right.1 k (omega (arith, kl, length-map rs (λ (i : NodeId). rank_of r i.0))) in
+        let a = left.1 j (omega (arith, jl, length-map ls (λ (i : NodeId). rank g i.0))) in
+        let b = right.1 k (omega (arith, kl, length-map rs (λ (i : NodeId). rank g i.0))) in
         let n = a.0 in
         let m = b.0 in
-        let p : n.1 ≡ rank_of r i.0.0 = some-is (sym a.2.is ∙ get-map (λ (i : NodeId). rank_of r i.0) ls j i.0 i.1) in
-        let q : m.1 ≡ rank_of r h.0.0 = some-is (sym b.2.is ∙ get-map (λ (i : NodeId). rank_of r i.0) rs k h.0 h.1) in
-        let e : rank_of r h.0.0 ≡ rank_of r i.0.0 = eqb-true (rank_of r h.0.0) (rank_of r i.0.0) (ranks-same g r ranked h.0.0 i.0.0 hl il ∙ ap (λ z. same z (tree g i.0.0)) h.2 ∙ ap (same y.right) i.2 ∙ y.equal) in
-        let often : count_by (λ x. x == rank_of r i.0.0) (ranks rs) ≡ count_by (λ x. x == rank_of r i.0.0) (ranks ls) =
+        let p : n.1 ≡ rank g i.0.0 = some-is (sym a.2.is ∙ get-map (λ (i : NodeId). rank g i.0) ls j i.0 i.1) in
+        let q : m.1 ≡ rank g h.0.0 = some-is (sym b.2.is ∙ get-map (λ (i : NodeId). rank g i.0) rs k h.0 h.1) in
+        let e : rank g h.0.0 ≡ rank g i.0.0 = eqb-true (rank g h.0.0) (rank g i.0.0) (ranks-same g ranked h.0.0 i.0.0 hl il ∙ ap (λ z. same z (tree g i.0.0)) h.2 ∙ ap (same y.right) i.2 ∙ y.equal) in
+        let often : count_by (λ x. x == rank g i.0.0) (ranks rs) ≡ count_by (λ x. x == rank g i.0.0) (ranks ls) =
         count-same i.0.0 il rs within.1 ∙ subst (λ z. count_by (λ t. same t z) (trees_of rs) ≡ count_by (λ t. same t z) (trees_of ls)) (sym i.2) y.often ∙ sym (count-same i.0.0 il ls within.0) in
-        let before : count_by (λ x. x == rank_of r i.0.0) (take k (ranks rs)) ≡ count_by (λ x. x == rank_of r i.0.0) (take j (ranks ls)) =
+        let before : count_by (λ x. x == rank g i.0.0) (take k (ranks rs)) ≡ count_by (λ x. x == rank g i.0.0) (take j (ranks ls)) =
         count-before i.0.0 k il rs within.1 ∙ subst (λ z. count_by (λ t. same t z) (take k (trees_of rs)) ≡ count_by (λ t. same t z) (take j (trees_of ls))) (sym i.2) y.before ∙ sym (count-before i.0.0 j il ls within.0) in
         let alike : is_one m n ≡ true = same-one m n b.2.bare a.2.bare (q ∙ e ∙ sym p)
         (b.2.often ∙ ap (λ z. Some (count_by (λ x. x == z) (ranks rs))) (q ∙ e) ∙ ap Some often ∙ ap (λ z. Some (count_by (λ x. x == z) (ranks ls))) (sym p) ∙ sym a.2.often)
@@ -181,25 +177,25 @@ pub counts-free : (ranks : List ℕ) (names : List (Option Name)) (places : List
 counts-free ranks names places n are e f k m g = f k (let w = slice_get_within names k (Some m) g in omega (arith, w, are.0, e))
 
 -- equal items are the pairs
-pub has-equal : (g : Graph) (r : Ranks) → RanksAre g r → (ls rs : List NodeId) → Within g ls rs → (old new : Partners) → IsNone old (length ls) (length rs) → (rl rr : List ℕ) → AreRanks g r ls rl → AreRanks g r rs rr
+pub has-equal : (g : Forests) → IsRanked g → (ls rs : List NodeId) → Within g ls rs → (old new : Partners) → IsNone old (length ls) (length rs) → (rl rr : List ℕ) → AreRanks g ls rl → AreRanks g rs rr
     → (nl nr : List (Option Name)) → AreCounts rl nl (length rl) → AreCounts rr nr (length rr) → JoinsTo nl nr (length nl) old new → HasPairs new (length ls) (length rs) (EqualPairs g ls rs)
-has-equal g r ranked ls rs within old new none rl rr al ar nl nr cl cr jn = record {
+has-equal g ranked ls rs within old new none rl rr al ar nl nr cl cr jn = record {
   lefts_len = jn.lefts_len ∙ none.lefts_len;
   rights_len = jn.rights_len ∙ none.rights_len;
   left = λ j k. (
-    λ p. elim ((jn.left j k).0 p) [ inl a ↦ absurd (free-not old.lefts.items j j k refl (none.left j (let w = slice_get_within old.lefts.items j (Some k) a in omega (arith, w, none.lefts_len))) a) | inr l ↦ equal-to g r ranked ls rs within nl nr dl dr j k l.1 ],
-    λ y. (jn.left j k).1 (inr (inside j k (equal-from g r ranked ls rs within nl nr dl dr j k y))),
+    λ p. elim ((jn.left j k).0 p) [ inl a ↦ absurd (free-not old.lefts.items j j k refl (none.left j (let w = slice_get_within old.lefts.items j (Some k) a in omega (arith, w, none.lefts_len))) a) | inr l ↦ equal-to g ranked ls rs within nl nr dl dr j k l.1 ],
+    λ y. (jn.left j k).1 (inr (inside j k (equal-from g ranked ls rs within nl nr dl dr j k y))),
   );
   right = λ j k. (
-    λ p. elim ((jn.right j k).0 p) [ inl a ↦ absurd (free-not old.rights.items k k j refl (none.right k (let w = slice_get_within old.rights.items k (Some j) a in omega (arith, w, none.rights_len))) a) | inr l ↦ equal-to g r ranked ls rs within nl nr dl dr j k l.1 ],
-    λ y. (jn.right j k).1 (inr (inside j k (equal-from g r ranked ls rs within nl nr dl dr j k y))),
+    λ p. elim ((jn.right j k).0 p) [ inl a ↦ absurd (free-not old.rights.items k k j refl (none.right k (let w = slice_get_within old.rights.items k (Some j) a in omega (arith, w, none.rights_len))) a) | inr l ↦ equal-to g ranked ls rs within nl nr dl dr j k l.1 ],
+    λ y. (jn.right j k).1 (inr (inside j k (equal-from g ranked ls rs within nl nr dl dr j k y))),
   );
 }
   where
-    dl : AreCounts (map (λ i. rank_of r i.0) ls) nl (length (map (λ i. rank_of r i.0) ls))
+    dl : AreCounts (map (λ i. rank g i.0) ls) nl (length (map (λ i. rank g i.0) ls))
     dl = subst (λ z. AreCounts z nl (length z)) (al.1 within.0) cl
 
-    dr : AreCounts (map (λ i. rank_of r i.0) rs) nr (length (map (λ i. rank_of r i.0) rs))
+    dr : AreCounts (map (λ i. rank g i.0) rs) nr (length (map (λ i. rank g i.0) rs))
     dr = subst (λ z. AreCounts z nr (length z)) (ar.1 within.1) cr
 
     inside : (j k : ℕ) → LoneNames is_one nl nr j k → (j < length nl) × LoneNames is_one nl nr j k

@@ -12,10 +12,7 @@ use Rattle.std.proofs.lemmas.Map.Text.{is_eq-slice_cmp}
 use Rattle.std.proofs.lemmas.Bool.{eqb-true}
 use Rattle.yaml_definitions.specs.model.Tree.{Tree}
 use Rattle.yaml_definitions.specs.model.Same.{same}
-use Rattle.yaml_graph.specs.GraphView.{nodes_of, tree}
-use Rattle.yaml_graph.specs.declared.graph.Graph.{Graph}
-use Rattle.yaml_rank.specs.RanksView.{rank_of, RanksAre}
-use Rattle.yaml_rank.specs.declared.ranks.Ranks.{Ranks}
+use Rattle.yaml_store_rank.specs.Forests.{Forests, count, tree, rank, IsRanked}
 use Rattle.yaml_tree.proofs.Numbers.{equal-cmp}
 use Rattle.yaml_pair.specs.Names.{Naming, by_object, by_path, scalar_at, group_of, both_same, same_if_any, both_equal, same_object, same_name}
 use Rattle.yaml_pair.specs.Named.{Name, name_cmp, is_one, IsScalarRank, IsObjectName, IsPathName, IsName}
@@ -98,22 +95,22 @@ abbrev pub one_name : Option Name → Option Name → Bool
 one_name (Some n) (Some m) = is_one n m
 one_name _ _ = false
 
-module _ (g : Graph) (r : Ranks) (ranked : RanksAre g r) where
-  pub ranks-same : (i j : ℕ) → i < length (nodes_of g) → j < length (nodes_of g) → (rank_of r i == rank_of r j) ≡ same (tree g i) (tree g j)
+module _ (g : Forests) (ranked : IsRanked g) where
+  pub ranks-same : (i j : ℕ) → i < count g → j < count g → (rank g i == rank g j) ≡ same (tree g i) (tree g j)
   ranks-same i j l m =
       let h = (ranked.ranked i j l m).0 in
-      same-test (rank_of r i == rank_of r j) (same (tree g i) (tree g j)) (λ e. h.0 (eqb-true (rank_of r i) (rank_of r j) e)) (λ e. eq-eqb (rank_of r i) (rank_of r j) (h.1 e))
+      same-test (rank g i == rank g j) (same (tree g i) (tree g j)) (λ e. h.0 (eqb-true (rank g i) (rank g j) e)) (λ e. eq-eqb (rank g i) (rank g j) (h.1 e))
 
-  rank-both : (t u : Option Tree) (x y : ℕ) → IsScalarRank g r t (Some x) → IsScalarRank g r u (Some y) → (x == y) ≡ both_same t u
+  rank-both : (t u : Option Tree) (x y : ℕ) → IsScalarRank g t (Some x) → IsScalarRank g u (Some y) → (x == y) ≡ both_same t u
   rank-both t u x y a b =
-      ap (λ z. z == y) a.3 ∙ ap (λ z. rank_of r a.0 == z) b.3 ∙ ranks-same a.0 b.0 a.1 b.1 ∙ ap (λ z. both_same z (Some (tree g b.0))) (sym a.2) ∙ ap (both_same t) (sym b.2)
+      ap (λ z. z == y) a.3 ∙ ap (λ z. rank g a.0 == z) b.3 ∙ ranks-same a.0 b.0 a.1 b.1 ∙ ap (λ z. both_same z (Some (tree g b.0))) (sym a.2) ∙ ap (both_same t) (sym b.2)
 
-  rank-any : (t u : Option Tree) (x y : Option ℕ) → IsScalarRank g r t x → IsScalarRank g r u y → equal_if_any x y ≡ same_if_any t u
+  rank-any : (t u : Option Tree) (x y : Option ℕ) → IsScalarRank g t x → IsScalarRank g u y → equal_if_any x y ≡ same_if_any t u
   rank-any t u None None a b = ap (λ z. same_if_any z None) (sym a) ∙ ap (same_if_any t) (sym b)
   rank-any t u None (Some y) a b = ap (λ z. same_if_any z (Some (tree g b.0))) (sym a) ∙ ap (same_if_any t) (sym b.2)
   rank-any t u (Some x) None a b = ap (λ z. same_if_any z None) (sym a.2) ∙ ap (same_if_any t) (sym b)
   rank-any t u (Some x) (Some y) a b =
-      ap (λ z. z == y) a.3 ∙ ap (λ z. rank_of r a.0 == z) b.3 ∙ ranks-same a.0 b.0 a.1 b.1 ∙ ap (λ z. same_if_any z (Some (tree g b.0))) (sym a.2) ∙ ap (same_if_any t) (sym b.2)
+      ap (λ z. z == y) a.3 ∙ ap (λ z. rank g a.0 == z) b.3 ∙ ranks-same a.0 b.0 a.1 b.1 ∙ ap (λ z. same_if_any z (Some (tree g b.0))) (sym a.2) ∙ ap (same_if_any t) (sym b.2)
 
   module _ (t u : Tree) where
     abbrev kinds : Bool
@@ -137,7 +134,7 @@ module _ (g : Graph) (r : Ranks) (ranked : RanksAre g r) where
     no-name : names ≡ false → same_object t u ≡ false
     no-name e = ap (λ z. groups && (kinds && (spaces && z))) e ∙ ap (λ z. groups && (kinds && z)) (and-false spaces) ∙ ap (λ z. groups && z) (and-false kinds) ∙ and-false groups
 
-    object-none-left : IsObjectName g r t None → same_object t u ≡ false
+    object-none-left : IsObjectName g t None → same_object t u ≡ false
     object-none-left h = elim h [
       | inl e ↦ no-group (ap (λ z. both_equal z (group_of u)) e)
       | inr x ↦ elim x [
@@ -146,7 +143,7 @@ module _ (g : Graph) (r : Ranks) (ranked : RanksAre g r) where
       ]
     ]
 
-    object-none-right : IsObjectName g r u None → same_object t u ≡ false
+    object-none-right : IsObjectName g u None → same_object t u ≡ false
     object-none-right h = elim h [
       | inl e ↦ no-group (ap (both_equal (group_of t)) e ∙ not-equal-right (group_of t))
       | inr x ↦ elim x [
@@ -155,7 +152,7 @@ module _ (g : Graph) (r : Ranks) (ranked : RanksAre g r) where
       ]
     ]
 
-    object-same : (n m : Name) → IsObjectName g r t (Some n) → IsObjectName g r u (Some m) → is_one n m ≡ same_object t u
+    object-same : (n m : Name) → IsObjectName g t (Some n) → IsObjectName g u (Some m) → is_one n m ≡ same_object t u
     object-same n m a b =
         let gs : bytes_eq n.0.now m.0.now ≡ groups = ap (λ z. both_equal z (Some m.0.now)) (sym a.0) ∙ ap (both_equal (group_of t)) (sym b.0) in
         one-parts n m
@@ -164,7 +161,7 @@ module _ (g : Graph) (r : Ranks) (ranked : RanksAre g r) where
         ∙ ap (λ z. groups && (kinds && (z && (n.3 == m.3)))) (rank-any (scalar_at t (codes "metadata.namespace")) (scalar_at u (codes "metadata.namespace")) n.2 m.2 a.2 b.2)
         ∙ ap (λ z. groups && (kinds && (spaces && z))) (rank-both (scalar_at t (codes "metadata.name")) (scalar_at u (codes "metadata.name")) n.3 m.3 a.3 b.3)
 
-  path-same : (t u : Option Tree) (n m : Name) → IsPathName g r t (Some n) → IsPathName g r u (Some m) → is_one n m ≡ both_same t u
+  path-same : (t u : Option Tree) (n m : Name) → IsPathName g t (Some n) → IsPathName g u (Some m) → is_one n m ≡ both_same t u
   path-same t u n m a b =
       one-parts n m
       ∙ ap (λ z. bytes_eq z m.0.now && ((n.1 == m.1) && (equal_if_any n.2 m.2 && (n.3 == m.3)))) a.0
@@ -177,7 +174,7 @@ module _ (g : Graph) (r : Ranks) (ranked : RanksAre g r) where
       ∙ rank-both t u n.1 m.1 a.1 b.1
 
   -- names are one exactly where the trees have the same name
-  pub name-same : (c : Naming) (t u : Tree) (o p : Option Name) → IsName g r c t o → IsName g r c u p → one_name o p ≡ same_name c t u
+  pub name-same : (c : Naming) (t u : Tree) (o p : Option Name) → IsName g c t o → IsName g c u p → one_name o p ≡ same_name c t u
   name-same by_object t u None p a b = sym (object-none-left t u a)
   name-same by_object t u (Some n) None a b = sym (object-none-right t u b)
   name-same by_object t u (Some n) (Some m) a b = object-same t u n m a b

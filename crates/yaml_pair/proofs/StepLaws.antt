@@ -4,9 +4,8 @@ use Rattle.std.specs.Prelude.{Option, Some, None}
 use Rattle.std.specs.List.{slice_get}
 use Rattle.std.proofs.lemmas.Option.{slice_get_within}
 use Rattle.yaml_tree.proofs.Lists.{get-more, get-end, get-push}
-use Rattle.yaml_graph.specs.GraphView.{nodes_of}
+use Rattle.yaml_store_rank.specs.Forests.{Forests, count}
 use Rattle.yaml_tree.specs.declared.node.NodeId.{NodeId}
-use Rattle.yaml_graph.specs.declared.graph.Graph.{Graph}
 use Rattle.yaml_path.specs.declared.places.Places.{Places}
 use Rattle.yaml_path.specs.declared.places.Places.TheVariants.{Both, Left, Right}
 use Rattle.yaml_pair.specs.declared.partners.Partners.{Partners}
@@ -112,7 +111,7 @@ module _ (first : ℕ) (p : Partners) where
           get-push (λ i v. v ≡ (Both a b, z.1) → IsTold first p a b) t (Both x y, moved) (λ i v f q. h.only a b (g.no_pair a b (i, z.1, f ∙ ap Some q))) (last a b z.1 (Both x y, moved) refl) z.0 (Both a b, z.1) z.2 refl
 
 -- the lists are too heavy
-pub heavy : (g : Graph) (ls rs : List NodeId) (w n : ℕ) → w ≤ weight_of g ls rs → w < 2 ^ 64 → n ≡ length (nodes_of g) → max (min (n * 2) (2 ^ 64 - 1)) 1048576 < w → IsWeighty g ls rs
+pub heavy : (g : Forests) (ls rs : List NodeId) (w n : ℕ) → w ≤ weight_of g ls rs → w < 2 ^ 64 → n ≡ count g → max (min (n * 2) (2 ^ 64 - 1)) 1048576 < w → IsWeighty g ls rs
 heavy g ls rs w n le fits e m = (omega (arith, m, le), omega (arith, m, le, fits, e))
 
 -- a place of a pair that fits
@@ -147,7 +146,7 @@ has-agrees : (p : Partners) (n m : ℕ) (P : ℕ → ℕ → Type 0) → HasPair
 has-agrees p n m P h j k = (λ e. (h.right j k).1 ((h.left j k).0 e), λ e. (h.left j k).1 ((h.right j k).0 e))
 
 -- the pairs of names are among the steps of what keeps them
-pub pairs-told : (g : Graph) (ls rs : List NodeId) (first : ℕ) (cs : List Naming) (a b c : Partners) (steps : Steps) → HasPairs a (length ls) (length rs) (PairsBy g ls rs cs) → Keeps a b → Keeps b c → StepsOf first c steps
+pub pairs-told : (g : Forests) (ls rs : List NodeId) (first : ℕ) (cs : List Naming) (a b c : Partners) (steps : Steps) → HasPairs a (length ls) (length rs) (PairsBy g ls rs cs) → Keeps a b → Keeps b c → StepsOf first c steps
     → first + length ls < 2 ^ 64 → first + length rs < 2 ^ 64 → TellsPairs first steps (PairsBy g ls rs cs)
 pairs-told g ls rs first cs a b c steps h kb kc s fl fr = record {
   has = λ j k p.

@@ -11,22 +11,15 @@ use Rattle.yaml_definitions.specs.model.Tag.{str_tag}
 use Rattle.yaml_definitions.specs.model.Tree.{Tree, scalar}
 use Rattle.yaml_definitions.specs.model.Same.{same}
 use Rattle.yaml_tree.specs.TreeLists.{trees, pairs}
-use Rattle.yaml_graph.specs.GraphModel.{Entries, trees_at, entries_at, kind_tree, entries_of}
-use Rattle.yaml_graph.specs.GraphView.{nodes_of, graph_trees, tree}
+use Rattle.yaml_store_rank.specs.Forests.{Forests, count, tree, rank, item_trees}
 use Rattle.yaml_graph.proofs.GraphLaws.{node-tree}
 use Rattle.yaml_tree.specs.declared.node.NodeId.{NodeId}
-use Rattle.yaml_graph.specs.declared.node.Node.{Node}
-use Rattle.yaml_graph.specs.declared.node.NodeKind.{NodeKind}
-use Rattle.yaml_graph.specs.declared.node.NodeKind.TheVariants as kinds
-use Rattle.yaml_graph.specs.declared.graph.Graph.{Graph}
-use Rattle.yaml_rank.specs.RanksView.{rank_of}
-use Rattle.yaml_rank.specs.declared.ranks.Ranks.{Ranks}
 use Rattle.yaml_path.specs.Path.{Path, part, reach, value_in}
 use Rattle.yaml_pair.specs.Names.{to_key, scalar_of, content_of, found_at, scalar_at, before_slash, group_of}
 use Rattle.yaml_pair.specs.Named.{AllWithin, EntriesWithin, IsFound, IsScalarRank, width, how_many, how_many_pairs}
 
 -- the tree of a node of this kind
-pub kind-tree : (g : Graph) (i : ℕ) (n : Node) (kind : NodeKind) → slice_get (nodes_of g) i ≡ Some n → n.kind ≡ kind → tree g i ≡ kind_tree (graph_trees g) (cow_str_bytes n.tag) kind
+pub kind-tree : (g : Forests) (i : ℕ) (n : Node) (kind : NodeKind) → slice_get (nodes_of g) i ≡ Some n → n.kind ≡ kind → tree g i ≡ kind_tree (graph_trees g) (cow_str_bytes n.tag) kind
 kind-tree g i n kind e f = node-tree (nodes_of g) i n g.grounded e ∙ ap (kind_tree (graph_trees g) (cow_str_bytes n.tag)) f
 
 -- ---- scalars
@@ -48,28 +41,28 @@ module _ (ts : List Tree) (a : List ℕ) where
   same-none b x (kinds.Sequence is) never = refl
   same-none b x (kinds.Mapping es) never = refl
 
-pub text-some : (g : Graph) (i : ℕ) (n : Node) (x : _) → slice_get (nodes_of g) i ≡ Some n → n.kind ≡ kinds.Scalar x → Some (cow_str_bytes x) ≡ content_of (tree g i)
+pub text-some : (g : Forests) (i : ℕ) (n : Node) (x : _) → slice_get (nodes_of g) i ≡ Some n → n.kind ≡ kinds.Scalar x → Some (cow_str_bytes x) ≡ content_of (tree g i)
 text-some g i n x e f = sym (ap content_of (kind-tree g i n (kinds.Scalar x) e f))
 
-pub text-none : (g : Graph) (i : ℕ) (n : Node) → slice_get (nodes_of g) i ≡ Some n → ((x : _) → n.kind ≡ kinds.Scalar x → ⊥) → None ≡ content_of (tree g i)
+pub text-none : (g : Forests) (i : ℕ) (n : Node) → slice_get (nodes_of g) i ≡ Some n → ((x : _) → n.kind ≡ kinds.Scalar x → ⊥) → None ≡ content_of (tree g i)
 text-none g i n e never = sym (ap content_of (kind-tree g i n n.kind e refl) ∙ content-none (graph_trees g) (cow_str_bytes n.tag) n.kind never)
 
-pub rank-some : (g : Graph) (r : Ranks) (i : ℕ) (n : Node) (x : _) (rank : ℕ) → i < length (nodes_of g) → slice_get (nodes_of g) i ≡ Some n → n.kind ≡ kinds.Scalar x → rank ≡ rank_of r i → IsScalarRank g r (scalar_of (tree g i)) (Some rank)
-rank-some g r i n x rank l e f h = (i, l, ap scalar_of (kind-tree g i n (kinds.Scalar x) e f) ∙ ap Some (sym (kind-tree g i n (kinds.Scalar x) e f)), h)
+pub rank-some : (g : Forests) (i : ℕ) (n : Node) (x : _) (rank : ℕ) → i < count g → slice_get (nodes_of g) i ≡ Some n → n.kind ≡ kinds.Scalar x → rank ≡ rank g i → IsScalarRank g (scalar_of (tree g i)) (Some rank)
+rank-some g i n x rank l e f h = (i, l, ap scalar_of (kind-tree g i n (kinds.Scalar x) e f) ∙ ap Some (sym (kind-tree g i n (kinds.Scalar x) e f)), h)
 
-pub rank-none : (g : Graph) (r : Ranks) (i : ℕ) (n : Node) → slice_get (nodes_of g) i ≡ Some n → ((x : _) → n.kind ≡ kinds.Scalar x → ⊥) → IsScalarRank g r (scalar_of (tree g i)) None
-rank-none g r i n e never = ap scalar_of (kind-tree g i n n.kind e refl) ∙ scalar-none (graph_trees g) (cow_str_bytes n.tag) n.kind never
+pub rank-none : (g : Forests) (i : ℕ) (n : Node) → slice_get (nodes_of g) i ≡ Some n → ((x : _) → n.kind ≡ kinds.Scalar x → ⊥) → IsScalarRank g (scalar_of (tree g i)) None
+rank-none g i n e never = ap scalar_of (kind-tree g i n n.kind e refl) ∙ scalar-none (graph_trees g) (cow_str_bytes n.tag) n.kind never
 
-pub is-text : (g : Graph) (i : ℕ) (n : Node) (x : _) (b text : List ℕ) → slice_get (nodes_of g) i ≡ Some n → n.kind ≡ kinds.Scalar x → (bytes_eq b (cow_str_bytes n.tag) && bytes_eq text (cow_str_bytes x)) ≡ same (scalar b text) (tree g i)
+pub is-text : (g : Forests) (i : ℕ) (n : Node) (x : _) (b text : List ℕ) → slice_get (nodes_of g) i ≡ Some n → n.kind ≡ kinds.Scalar x → (bytes_eq b (cow_str_bytes n.tag) && bytes_eq text (cow_str_bytes x)) ≡ same (scalar b text) (tree g i)
 unfolding same
 is-text g i n x b text e f = sym (ap (same (scalar b text)) (kind-tree g i n (kinds.Scalar x) e f))
 
-pub no-text : (g : Graph) (i : ℕ) (n : Node) (b text : List ℕ) → slice_get (nodes_of g) i ≡ Some n → ((x : _) → n.kind ≡ kinds.Scalar x → ⊥) → false ≡ same (scalar b text) (tree g i)
+pub no-text : (g : Forests) (i : ℕ) (n : Node) (b text : List ℕ) → slice_get (nodes_of g) i ≡ Some n → ((x : _) → n.kind ≡ kinds.Scalar x → ⊥) → false ≡ same (scalar b text) (tree g i)
 no-text g i n b text e never = sym (ap (same (scalar b text)) (kind-tree g i n n.kind e refl) ∙ same-none (graph_trees g) (cow_str_bytes n.tag) b text n.kind never)
 
 -- ---- values of keys
 
-module _ (g : Graph) (x : Tree) where
+module _ (g : Forests) (x : Tree) where
   abbrev rest : Entries → Option Tree
   rest es = value_in (pairs (entries_at (graph_trees g) es)) x
 
@@ -88,21 +81,21 @@ no-part ts a key (kinds.Sequence is) never = refl
 no-part ts a key (kinds.Mapping es) never = absurd (never es refl)
 
 -- the node is no mapping
-pub value-none : (g : Graph) (i : ℕ) (n : Node) (key : List ℕ) → slice_get (nodes_of g) i ≡ Some n → ((es : _) → n.kind ≡ kinds.Mapping es → ⊥) → IsFound g (part (tree g i) (to_key key)) None
+pub value-none : (g : Forests) (i : ℕ) (n : Node) (key : List ℕ) → slice_get (nodes_of g) i ≡ Some n → ((es : _) → n.kind ≡ kinds.Mapping es → ⊥) → IsFound g (part (tree g i) (to_key key)) None
 value-none g i n key e never = record {
   is = sym (ap (λ t. part t (to_key key)) (kind-tree g i n n.kind e refl) ∙ no-part (graph_trees g) (cow_str_bytes n.tag) key n.kind never);
   within = tt;
 }
 
 -- the node is a mapping
-pub value-some : (g : Graph) (i : ℕ) (n : Node) (key : List ℕ) (es : _) (o : Option NodeId) → slice_get (nodes_of g) i ≡ Some n → n.kind ≡ kinds.Mapping es → IsFound g (value_in (pairs (entries_at (graph_trees g) es.items)) (scalar str_tag key)) o → IsFound g (part (tree g i) (to_key key)) o
+pub value-some : (g : Forests) (i : ℕ) (n : Node) (key : List ℕ) (es : _) (o : Option NodeId) → slice_get (nodes_of g) i ≡ Some n → n.kind ≡ kinds.Mapping es → IsFound g (value_in (pairs (entries_at (graph_trees g) es.items)) (scalar str_tag key)) o → IsFound g (part (tree g i) (to_key key)) o
 value-some g i n key es o e f h = record {
   is = h.is ∙ sym (ap (λ t. part t (to_key key)) (kind-tree g i n (kinds.Mapping es) e f));
   within = h.within;
 }
 
 -- the entries of a mapping are nodes of the graph
-pub entries-within : (g : Graph) (i : ℕ) (n : Node) (es : _) → slice_get (nodes_of g) i ≡ Some n → n.kind ≡ kinds.Mapping es → i < length (nodes_of g) → EntriesWithin g es.items
+pub entries-within : (g : Forests) (i : ℕ) (n : Node) (es : _) → slice_get (nodes_of g) i ≡ Some n → n.kind ≡ kinds.Mapping es → i < count g → EntriesWithin g es.items
 entries-within g i n es e f l k p h =
     let b = (g.grounded i n e).1 in
     let q : slice_get (entries_of n.kind) k ≡ Some p = ap (λ z. slice_get (entries_of z) k) f ∙ h in
@@ -144,20 +137,20 @@ how-many-pairs : (xs : List (Tree × Tree)) → how_many_pairs (pairs xs) ≡ le
 how-many-pairs [] = refl
 how-many-pairs (x ∷ xs) = ap suc (how-many-pairs xs)
 
-pub width-scalar : (g : Graph) (i : ℕ) (n : Node) (x : _) → slice_get (nodes_of g) i ≡ Some n → n.kind ≡ kinds.Scalar x → 0 ≡ width (tree g i)
+pub width-scalar : (g : Forests) (i : ℕ) (n : Node) (x : _) → slice_get (nodes_of g) i ≡ Some n → n.kind ≡ kinds.Scalar x → 0 ≡ width (tree g i)
 width-scalar g i n x e f = sym (ap width (kind-tree g i n (kinds.Scalar x) e f))
 
-pub width-sequence : (g : Graph) (i : ℕ) (n : Node) (is : _) → slice_get (nodes_of g) i ≡ Some n → n.kind ≡ kinds.Sequence is → length is.items ≡ width (tree g i)
+pub width-sequence : (g : Forests) (i : ℕ) (n : Node) (is : _) → slice_get (nodes_of g) i ≡ Some n → n.kind ≡ kinds.Sequence is → length is.items ≡ width (tree g i)
 width-sequence g i n is e f =
-    sym (ap width (kind-tree g i n (kinds.Sequence is) e f) ∙ how-many (trees_at (graph_trees g) is.items) ∙ length-map is.items (λ (j : NodeId). tree g j.0))
+    sym (ap width (kind-tree g i n (kinds.Sequence is) e f) ∙ how-many (item_trees g is.items) ∙ length-map is.items (λ (j : NodeId). tree g j.0))
 
-pub width-mapping : (g : Graph) (i : ℕ) (n : Node) (es : _) → slice_get (nodes_of g) i ≡ Some n → n.kind ≡ kinds.Mapping es → length es.items ≡ width (tree g i)
+pub width-mapping : (g : Forests) (i : ℕ) (n : Node) (es : _) → slice_get (nodes_of g) i ≡ Some n → n.kind ≡ kinds.Mapping es → length es.items ≡ width (tree g i)
 width-mapping g i n es e f =
     sym (ap width (kind-tree g i n (kinds.Mapping es) e f) ∙ how-many-pairs (entries_at (graph_trees g) es.items) ∙ length-map es.items (λ (p : NodeId × NodeId). (tree g p.0.0, tree g p.1.0)))
 
 -- the widths of one item more, as they are summed
-pub weight-more : (g : Graph) (items : List NodeId) (i : ℕ) (d : NodeId) (other sum count new : ℕ) → AllWithin g items → i < length items → sum ≤ other + sum_by (λ x. width (tree g x.0)) (take i items)
-    → ((get_or items i d).0 < length (nodes_of g) → count ≡ width (tree g (get_or items i d).0)) → new ≡ min (sum + count) (2 ^ 64 - 1) → new ≤ other + sum_by (λ x. width (tree g x.0)) (take (i + 1) items)
+pub weight-more : (g : Forests) (items : List NodeId) (i : ℕ) (d : NodeId) (other sum count new : ℕ) → AllWithin g items → i < length items → sum ≤ other + sum_by (λ x. width (tree g x.0)) (take i items)
+    → ((get_or items i d).0 < count g → count ≡ width (tree g (get_or items i d).0)) → new ≡ min (sum + count) (2 ^ 64 - 1) → new ≤ other + sum_by (λ x. width (tree g x.0)) (take (i + 1) items)
 weight-more g items i d other sum count new w l le is e =
     let c = is (w i (get_or items i d) (slice_get-get_or items i d l)) in
     omega (arith, e, le, c, sum_by_more (λ (x : NodeId). width (tree g x.0)) items i d l)
@@ -167,19 +160,19 @@ weight-more g items i d other sum count new w l le is e =
 abbrev group_in : Option Tree → Option (List ℕ)
 group_in t = option_map before_slash (option_and_then content_of t)
 
-pub group-lost : (g : Graph) (t : Tree) → IsFound g (found_at t (codes "apiVersion")) None → None ≡ group_of t
+pub group-lost : (g : Forests) (t : Tree) → IsFound g (found_at t (codes "apiVersion")) None → None ≡ group_of t
 group-lost g t h = ap group_in h.is
 
-pub group-none : (g : Graph) (t : Tree) (i : NodeId) → IsFound g (found_at t (codes "apiVersion")) (Some i) → None ≡ content_of (tree g i.0) → None ≡ group_of t
+pub group-none : (g : Forests) (t : Tree) (i : NodeId) → IsFound g (found_at t (codes "apiVersion")) (Some i) → None ≡ content_of (tree g i.0) → None ≡ group_of t
 group-none g t i h e = ap (option_map before_slash) e ∙ ap group_in h.is
 
-pub group-some : (g : Graph) (t : Tree) (i : NodeId) (x y : List ℕ) → IsFound g (found_at t (codes "apiVersion")) (Some i) → Some x ≡ content_of (tree g i.0) → y ≡ before_slash x → Some y ≡ group_of t
+pub group-some : (g : Forests) (t : Tree) (i : NodeId) (x y : List ℕ) → IsFound g (found_at t (codes "apiVersion")) (Some i) → Some x ≡ content_of (tree g i.0) → y ≡ before_slash x → Some y ≡ group_of t
 group-some g t i x y h e f = ap Some f ∙ ap (option_map before_slash) e ∙ ap group_in h.is
 
 -- ---- the scalar where keys lead
 
-pub scalar-lost : (g : Graph) (r : Ranks) (t : Tree) (path : List ℕ) → IsFound g (found_at t path) None → IsScalarRank g r (scalar_at t path) None
-scalar-lost g r t path h = sym (ap (option_and_then scalar_of) h.is)
+pub scalar-lost : (g : Forests) (t : Tree) (path : List ℕ) → IsFound g (found_at t path) None → IsScalarRank g (scalar_at t path) None
+scalar-lost g t path h = sym (ap (option_and_then scalar_of) h.is)
 
-pub scalar-found : (g : Graph) (r : Ranks) (t : Tree) (path : List ℕ) (i : NodeId) (o : Option ℕ) → IsFound g (found_at t path) (Some i) → IsScalarRank g r (scalar_of (tree g i.0)) o → IsScalarRank g r (scalar_at t path) o
-scalar-found g r t path i o h s = subst (λ z. IsScalarRank g r z o) (ap (option_and_then scalar_of) h.is) s
+pub scalar-found : (g : Forests) (t : Tree) (path : List ℕ) (i : NodeId) (o : Option ℕ) → IsFound g (found_at t path) (Some i) → IsScalarRank g (scalar_of (tree g i.0)) o → IsScalarRank g (scalar_at t path) o
+scalar-found g t path i o h s = subst (λ z. IsScalarRank g z o) (ap (option_and_then scalar_of) h.is) s

@@ -7,12 +7,8 @@ use Rattle.std.specs.Cmp.Lexicographic.{slice_cmp}
 use Rattle.std.specs.List.{slice_get}
 use Rattle.std.specs.Option.{option_map, option_cmp}
 use Rattle.yaml_definitions.specs.model.Tree.{Tree, Trees, Pairs, scalar, sequence, mapping, end, item, done, entry}
-use Rattle.yaml_graph.specs.GraphModel.{Entries, trees_at}
-use Rattle.yaml_graph.specs.GraphView.{nodes_of, graph_trees, tree}
 use Rattle.yaml_tree.specs.declared.node.NodeId.{NodeId}
-use Rattle.yaml_graph.specs.declared.graph.Graph.{Graph}
-use Rattle.yaml_rank.specs.RanksView.{rank_of}
-use Rattle.yaml_rank.specs.declared.ranks.Ranks.{Ranks}
+use Rattle.yaml_store_rank.specs.Forests.{Forests, count, tree, rank, item_trees}
 use Rattle.yaml_path.specs.declared.places.Places.{Places}
 use Rattle.yaml_path.specs.declared.places.Places.TheVariants.{Both}
 use Rattle.yaml_pair.specs.Names.{Naming, by_object, by_path, scalar_at, group_of, EqualPair, ByNames}
@@ -22,21 +18,21 @@ use Rattle.yaml_pair.specs.declared.partners.Partners.{Partners}
 
 -- ---- nodes
 
-abbrev pub AllWithin : Graph → List NodeId → Type 0
-AllWithin g items = (k : ℕ) (i : NodeId) → slice_get items k ≡ Some i → i.0 < length (nodes_of g)
+abbrev pub AllWithin : Forests → List NodeId → Type 0
+AllWithin g items = (k : ℕ) (i : NodeId) → slice_get items k ≡ Some i → i.0 < count g
 
-abbrev pub EntriesWithin : Graph → Entries → Type 0
-EntriesWithin g entries = (k : ℕ) (p : NodeId × NodeId) → slice_get entries k ≡ Some p → (p.0.0 < length (nodes_of g)) × (p.1.0 < length (nodes_of g))
+abbrev pub EntriesWithin : Forests → List (NodeId × NodeId) → Type 0
+EntriesWithin g entries = (k : ℕ) (p : NodeId × NodeId) → slice_get entries k ≡ Some p → (p.0.0 < count g) × (p.1.0 < count g)
 
 -- the node, if there is one, stands for the tree, if there is one
-pub record IsFound (g : Graph) (t : Option Tree) (o : Option NodeId) : Type 0 where
+pub record IsFound (g : Forests) (t : Option Tree) (o : Option NodeId) : Type 0 where
   pub is : option_map (λ i. tree g i.0) o ≡ t
-  pub within : IfSome o (λ i. i.0 < length (nodes_of g))
+  pub within : IfSome o (λ i. i.0 < count g)
 
 -- the rank of a node that stands for the tree, if there is one
-abbrev pub IsScalarRank : Graph → Ranks → Option Tree → Option ℕ → Type 0
-IsScalarRank g r t None = t ≡ None
-IsScalarRank g r t (Some n) = (i : ℕ) × (i < length (nodes_of g)) × (t ≡ Some (tree g i)) × (n ≡ rank_of r i)
+abbrev pub IsScalarRank : Forests → Option Tree → Option ℕ → Type 0
+IsScalarRank g t None = t ≡ None
+IsScalarRank g t (Some n) = (i : ℕ) × (i < count g) × (t ≡ Some (tree g i)) × (n ≡ rank g i)
 
 abbrev pub how_many : Trees → ℕ
 how_many end = zero
@@ -53,12 +49,12 @@ width (sequence a ts) = how_many ts
 width (mapping a ps) = how_many_pairs ps
 
 -- how many items and entries the items of two lists have
-abbrev pub weight_of : Graph → List NodeId → List NodeId → ℕ
+abbrev pub weight_of : Forests → List NodeId → List NodeId → ℕ
 weight_of g lefts rights = sum_by (λ i. width (tree g i.0)) lefts + sum_by (λ i. width (tree g i.0)) rights
 
 -- the items have more entries than are looked at, and more than twice as many as there are nodes
-abbrev pub IsWeighty : Graph → List NodeId → List NodeId → Type 0
-IsWeighty g lefts rights = (1048576 < weight_of g lefts rights) × (2 * length (nodes_of g) < weight_of g lefts rights)
+abbrev pub IsWeighty : Forests → List NodeId → List NodeId → Type 0
+IsWeighty g lefts rights = (1048576 < weight_of g lefts rights) × (2 * count g < weight_of g lefts rights)
 
 -- ---- names
 
@@ -81,32 +77,32 @@ abbrev pub is_one : Name → Name → Bool
 is_one = eq_by_cmp name_cmp
 
 -- the name of an object, as it is compared; none where a part of it is missing
-abbrev pub IsObjectName : Graph → Ranks → Tree → Option Name → Type 0
-IsObjectName g r t None = (group_of t ≡ None) ⊎ ((scalar_at t (codes "kind") ≡ None) ⊎ (scalar_at t (codes "metadata.name") ≡ None))
-IsObjectName g r t (Some n) =
-    (group_of t ≡ Some n.0.now) × IsScalarRank g r (scalar_at t (codes "kind")) (Some n.1) × IsScalarRank g r (scalar_at t (codes "metadata.namespace")) n.2 × IsScalarRank g r (scalar_at t (codes "metadata.name")) (Some n.3)
+abbrev pub IsObjectName : Forests → Tree → Option Name → Type 0
+IsObjectName g t None = (group_of t ≡ None) ⊎ ((scalar_at t (codes "kind") ≡ None) ⊎ (scalar_at t (codes "metadata.name") ≡ None))
+IsObjectName g t (Some n) =
+    (group_of t ≡ Some n.0.now) × IsScalarRank g (scalar_at t (codes "kind")) (Some n.1) × IsScalarRank g (scalar_at t (codes "metadata.namespace")) n.2 × IsScalarRank g (scalar_at t (codes "metadata.name")) (Some n.3)
 
-abbrev pub IsPathName : Graph → Ranks → Option Tree → Option Name → Type 0
-IsPathName g r t None = t ≡ None
-IsPathName g r t (Some n) = (n.0.now ≡ []) × IsScalarRank g r t (Some n.1) × (n.2 ≡ None) × (n.3 ≡ 0)
+abbrev pub IsPathName : Forests → Option Tree → Option Name → Type 0
+IsPathName g t None = t ≡ None
+IsPathName g t (Some n) = (n.0.now ≡ []) × IsScalarRank g t (Some n.1) × (n.2 ≡ None) × (n.3 ≡ 0)
 
 -- the name that a tree has there, as it is compared
-abbrev pub IsName : Graph → Ranks → Naming → Tree → Option Name → Type 0
-IsName g r by_object t o = IsObjectName g r t o
-IsName g r (by_path path) t o = IsPathName g r (scalar_at t path) o
+abbrev pub IsName : Forests → Naming → Tree → Option Name → Type 0
+IsName g by_object t o = IsObjectName g t o
+IsName g (by_path path) t o = IsPathName g (scalar_at t path) o
 
 -- the first so many items that are in no pair have their names, and no other place has one
-pub record AreNamesTo (g : Graph) (r : Ranks) (c : Naming) (items : List NodeId) (places : List (Option ℕ)) (upto : ℕ) (names : List (Option Name)) : Type 0 where
+pub record AreNamesTo (g : Forests) (c : Naming) (items : List NodeId) (places : List (Option ℕ)) (upto : ℕ) (names : List (Option Name)) : Type 0 where
   pub long : length names ≡ upto
-  pub are : (k : ℕ) (i : NodeId) → k < upto → slice_get items k ≡ Some i → slice_get places k ≡ Some None → i.0 < length (nodes_of g) → (o : Option Name) × (slice_get names k ≡ Some o) × IsName g r c (tree g i.0) o
+  pub are : (k : ℕ) (i : NodeId) → k < upto → slice_get items k ≡ Some i → slice_get places k ≡ Some None → i.0 < count g → (o : Option Name) × (slice_get names k ≡ Some o) × IsName g c (tree g i.0) o
   pub only : (k : ℕ) (n : Name) → slice_get names k ≡ Some (Some n) → slice_get places k ≡ Some None
 
-abbrev pub AreNames : Graph → Ranks → Naming → List NodeId → List (Option ℕ) → List (Option Name) → Type 0
-AreNames g r c items places names = AreNamesTo g r c items places (length items) names
+abbrev pub AreNames : Forests → Naming → List NodeId → List (Option ℕ) → List (Option Name) → Type 0
+AreNames g c items places names = AreNamesTo g c items places (length items) names
 
 -- the ranks of items
-abbrev pub AreRanks : Graph → Ranks → List NodeId → List ℕ → Type 0
-AreRanks g r items ranks = (length ranks ≡ length items) × (AllWithin g items → ranks ≡ map (λ i. rank_of r i.0) items)
+abbrev pub AreRanks : Forests → List NodeId → List ℕ → Type 0
+AreRanks g items ranks = (length ranks ≡ length items) × (AllWithin g items → ranks ≡ map (λ i. rank g i.0) items)
 
 -- a rank, how many of the ranks are the same, and how many of these stand before this place
 pub record IsCount (ranks : List ℕ) (k : ℕ) (n : Name) : Type 0 where
@@ -217,13 +213,13 @@ pub record HasPairs (p : Partners) (lefts rights : ℕ) (Pairs : ℕ → ℕ →
   pub left : (j k : ℕ) → (Partner p.lefts.items j k) ↔ (Pairs j k)
   pub right : (j k : ℕ) → (Partner p.rights.items k j) ↔ (Pairs j k)
 
-abbrev pub EqualPairs : Graph → List NodeId → List NodeId → ℕ → ℕ → Type 0
-EqualPairs g lefts rights = EqualPair (trees_at (graph_trees g) lefts) (trees_at (graph_trees g) rights)
+abbrev pub EqualPairs : Forests → List NodeId → List NodeId → ℕ → ℕ → Type 0
+EqualPairs g lefts rights = EqualPair (item_trees g lefts) (item_trees g rights)
 
-abbrev pub PairsBy : Graph → List NodeId → List NodeId → List Naming → ℕ → ℕ → Type 0
-PairsBy g lefts rights = ByNames (trees_at (graph_trees g) lefts) (trees_at (graph_trees g) rights)
+abbrev pub PairsBy : Forests → List NodeId → List NodeId → List Naming → ℕ → ℕ → Type 0
+PairsBy g lefts rights = ByNames (item_trees g lefts) (item_trees g rights)
 
-abbrev pub Within : Graph → List NodeId → List NodeId → Type 0
+abbrev pub Within : Forests → List NodeId → List NodeId → Type 0
 Within g lefts rights = AllWithin g lefts × AllWithin g rights
 
 -- ---- steps
@@ -270,6 +266,6 @@ StepsOf first p steps = StepsTo first p (length p.rights.items) steps
 
 -- Items that are equal and equally often in either list are pairs, and then those that one naming after the other makes pairs, unless the
 -- items have too many entries. No item is in two pairs.
-abbrev pub PairsNamed : Graph → List NodeId → List NodeId → ℕ → List Naming → List (Places × Bool) → Type 0
+abbrev pub PairsNamed : Forests → List NodeId → List NodeId → ℕ → List Naming → List (Places × Bool) → Type 0
 PairsNamed g lefts rights first cs steps =
     Within g lefts rights → (IsWeighty g lefts rights → ⊥) → first + length lefts < 2 ^ 64 → first + length rights < 2 ^ 64 → TellsPairs first steps (PairsBy g lefts rights cs)

@@ -2,22 +2,26 @@
 ghost use Rattle.std.specs.Prelude.{◌≡◌, ℕ, ◌==◌, length, count_by, unwrap_or, IfOk, OnOk};
 ghost use Rattle.std.specs.BTreeMap.{get};
 ghost use Rattle.std.specs.Ordering.{nat_cmp};
-ghost use Rattle.yaml_rank.specs.RanksView.{RanksAre};
 ghost use Rattle.yaml_pair.specs.Named.{Within, AreRanks, AreCounts, IsNone, HasPairs, EqualPairs};
 
+use crate::nodes::rank_at;
 use crate::partners::{Name, Partners, join};
-use crate::view::View;
 use std::alloc::{AllocError, Global};
 use std::collections::BTreeMap;
+use yaml_store_rank::RankedForests;
 use yaml_tree::node::NodeId;
 
 /// The ranks of items.
-fn ranks_of(alloc: Global, view: View<'_>, items: &[NodeId]) -> Result<Vec<usize>, AllocError>
-    ensures ok { IfOk result (λ ranks. AreRanks view.entry.graph.now view.entry.ranks.now items.now ranks.items) }
+fn ranks_of(
+    alloc: Global,
+    forests: &RankedForests<'_>,
+    items: &[NodeId],
+) -> Result<Vec<usize>, AllocError>
+    ensures ok { IfOk result (λ ranks. AreRanks forests.now items.now ranks.items) }
 {
     let mut ranks = Vec::new(alloc);
     for item in items {
-        ranks.push(view.rank(*item))?;
+        ranks.push(rank_at(forests, *item))?;
     }
     Ok(ranks)
 }
@@ -53,16 +57,16 @@ fn counted<'g>(alloc: Global, ranks: &[usize]) -> Result<Vec<Option<Name<'g>>>, 
 /// Pairs equal items that either list has equally often, in their order.
 pub(crate) fn pair_equal(
     alloc: Global,
-    view: View<'_>,
+    forests: &RankedForests<'_>,
     lefts: &[NodeId],
     rights: &[NodeId],
     partners: &mut Partners,
 ) -> Result<(), AllocError>
-    requires ranked { RanksAre view.graph.now view.ranks.now }
     requires none { IsNone partners.old (length lefts.now) (length rights.now) }
-    ensures ok { OnOk result (Within view.entry.graph.now lefts.now rights.now → HasPairs partners.new (length lefts.now) (length rights.now) (EqualPairs view.entry.graph.now lefts.now rights.now)) }
+    ensures ok { OnOk result (Within forests.now lefts.now rights.now → HasPairs partners.new (length lefts.now) (length rights.now) (EqualPairs forests.now lefts.now rights.now)) }
 {
-    let left = counted(alloc, &ranks_of(alloc, view, lefts)?)?;
-    let right = counted(alloc, &ranks_of(alloc, view, rights)?)?;
+    forests.laws();
+    let left = counted(alloc, &ranks_of(alloc, forests, lefts)?)?;
+    let right = counted(alloc, &ranks_of(alloc, forests, rights)?)?;
     join(alloc, partners, &left, &right)
 }

@@ -6,12 +6,12 @@ pub mod column;
 mod equal;
 mod like;
 mod names;
+mod nodes;
 mod pairing;
 mod partners;
 mod stay;
 mod steps;
 mod turn;
-mod view;
 
 pub use asked::{Asked, TABLE};
-pub use pairing::middle;
+pub use pairing::pair_items;

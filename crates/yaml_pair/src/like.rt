@@ -2,9 +2,10 @@
 ghost use Rattle.std.specs.Prelude.{◌≡◌, OnOk};
 ghost use Rattle.yaml_pair.specs.Named.{Keeps};
 
+use crate::nodes::{are_collections, entries_at, items_at, rank_at, width};
 use crate::partners::{Partners, is_free};
-use crate::view::View;
 use std::alloc::{AllocError, Global};
+use yaml_store_rank::RankedForests;
 use yaml_tree::node::NodeId;
 
 /// An entry that more items of a side have says nothing.
@@ -16,14 +17,14 @@ type Entry = (usize, usize, usize);
 /// Adds the items of a sequence.
 fn put_items(
     alloc: Global,
-    view: View<'_>,
+    forests: &RankedForests<'_>,
     item: NodeId,
     place: usize,
     all: &mut Vec<(Entry, usize)>,
 ) -> Result<(), AllocError> {
     let mut ranks = Vec::new(alloc);
-    for part in view.items(item) {
-        ranks.push(view.rank(*part))?;
+    for part in items_at(forests, item) {
+        ranks.push(rank_at(forests, *part))?;
     }
     ranks.sort_unstable();
     for (index, rank) in ranks.iter().enumerate() {
@@ -36,17 +37,17 @@ fn put_items(
 /// The entries of the items in no pair, in order, each with the place of its item.
 fn entries(
     alloc: Global,
-    view: View<'_>,
+    forests: &RankedForests<'_>,
     items: &[NodeId],
     places: &[Option<usize>],
 ) -> Result<Vec<(Entry, usize)>, AllocError> {
     let mut all = Vec::new(alloc);
     for (place, item) in items.iter().enumerate() {
         if is_free(places, place) {
-            for (key, value) in view.entries(*item) {
-                all.push(((1, view.rank(*key), view.rank(*value)), place))?;
+            for (key, value) in entries_at(forests, *item) {
+                all.push(((1, rank_at(forests, *key), rank_at(forests, *value)), place))?;
             }
-            put_items(alloc, view, *item, place, &mut all)?;
+            put_items(alloc, forests, *item, place, &mut all)?;
         }
     }
     all.sort_unstable();
@@ -86,7 +87,7 @@ type Likeness = (usize, usize, usize, usize);
 
 /// Adds the items of the right that have at least half of the entries of the longer of the two, of those that a left item shares entries with.
 fn put_alike(
-    view: View<'_>,
+    forests: &RankedForests<'_>,
     lefts: &[NodeId],
     rights: &[NodeId],
     left: usize,
@@ -103,8 +104,8 @@ fn put_alike(
             && let Some(second) = rights.get(*right)
         {
             let count = end.saturating_sub(start);
-            let longer = view.count(*first).max(view.count(*second));
-            if count.saturating_mul(2) >= longer && view.are_collections(*first, *second) {
+            let longer = width(forests, *first).max(width(forests, *second));
+            if count.saturating_mul(2) >= longer && are_collections(forests, *first, *second) {
                 let rest = usize::MAX.saturating_sub(count);
                 alike.push((rest, left.abs_diff(*right), left, *right))?;
             }
@@ -116,7 +117,7 @@ fn put_alike(
 /// All pairs of items that have enough in common.
 fn all_alike(
     alloc: Global,
-    view: View<'_>,
+    forests: &RankedForests<'_>,
     lefts: &[NodeId],
     rights: &[NodeId],
     links: &[(usize, usize, usize)],
@@ -128,7 +129,7 @@ fn all_alike(
     for (left, start, end) in links {
         if *left != current {
             near.sort_unstable();
-            put_alike(view, lefts, rights, current, &near, &mut alike)?;
+            put_alike(forests, lefts, rights, current, &near, &mut alike)?;
             near.clear();
             current = *left;
         }
@@ -139,24 +140,24 @@ fn all_alike(
         }
     }
     near.sort_unstable();
-    put_alike(view, lefts, rights, current, &near, &mut alike)?;
+    put_alike(forests, lefts, rights, current, &near, &mut alike)?;
     Ok(alike)
 }
 
 /// Pairs items of one kind and tag by their equal entries.
 pub(crate) fn pair_alike(
     alloc: Global,
-    view: View<'_>,
+    forests: &RankedForests<'_>,
     lefts: &[NodeId],
     rights: &[NodeId],
     partners: &mut Partners,
 ) -> Result<(), AllocError>
     ensures ok { OnOk result (Keeps partners.old partners.new) }
 {
-    let left = entries(alloc, view, lefts, &partners.lefts)?;
-    let right = entries(alloc, view, rights, &partners.rights)?;
+    let left = entries(alloc, forests, lefts, &partners.lefts)?;
+    let right = entries(alloc, forests, rights, &partners.rights)?;
     let links = links(alloc, &left, &right)?;
-    let mut alike = all_alike(alloc, view, lefts, rights, &links, &right)?;
+    let mut alike = all_alike(alloc, forests, lefts, rights, &links, &right)?;
     alike.sort_unstable();
     for (_, _, left, right) in &alike {
         partners.take(*left, *right);

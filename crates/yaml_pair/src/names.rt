@@ -1,15 +1,15 @@
 //! Names of items.
 ghost use Rattle.std.specs.Prelude.{◌≡◌, ◌<◌, length, map, IfOk, OnOk};
 ghost use Rattle.std.specs.Option.{option_map};
-ghost use Rattle.yaml_graph.specs.GraphView.{nodes_of, tree};
-ghost use Rattle.yaml_rank.specs.RanksView.{RanksAre};
+ghost use Rattle.yaml_store_rank.specs.Forests.{count, tree};
 ghost use Rattle.yaml_pair.specs.Names.{before_slash, found_at, scalar_at, group_of, namings};
 ghost use Rattle.yaml_pair.specs.Named.{IsFound, IsScalarRank, IsObjectName, IsName, AreNames, naming_of, texts_of, Within, HasPairs, EqualPairs, PairsBy};
 
 use crate::asked::{Asked, TABLE};
+use crate::nodes::{scalar_rank_at, text_at, value_at};
 use crate::partners::{Name, Partners, is_free, join};
-use crate::view::View;
 use std::alloc::{AllocError, Global};
+use yaml_store_rank::RankedForests;
 use yaml_tree::node::NodeId;
 
 /// Where a name is looked for.
@@ -53,50 +53,50 @@ fn before_slash(version: &str) -> &str
 }
 
 /// The node to which keys parted by `.` lead from an item.
-fn found_at(view: View<'_>, item: NodeId, path: &str) -> Option<NodeId>
-    ensures { item.0 < length (nodes_of view.entry.graph.now) → IsFound view.entry.graph.now (found_at (tree view.entry.graph.now item.0) path.now) result }
+fn found_at(forests: &RankedForests<'_>, item: NodeId, path: &str) -> Option<NodeId>
+    ensures { item.0 < count forests.now → IsFound forests.now (found_at (tree forests.now item.0) path.now) result }
 {
     let mut node = item;
     for key in path.split('.') {
-        node = view.value(node, key)?;
+        node = value_at(forests, node, key)?;
     }
     Some(node)
 }
 
 /// The scalar to which keys parted by `.` lead from an item, by its rank.
-fn scalar_at(view: View<'_>, item: NodeId, path: &str) -> Option<usize>
-    ensures { item.0 < length (nodes_of view.entry.graph.now) → IsScalarRank view.entry.graph.now view.entry.ranks.now (scalar_at (tree view.entry.graph.now item.0) path.now) result }
+fn scalar_at(forests: &RankedForests<'_>, item: NodeId, path: &str) -> Option<usize>
+    ensures { item.0 < count forests.now → IsScalarRank forests.now (scalar_at (tree forests.now item.0) path.now) result }
 {
-    view.scalar(found_at(view, item, path)?)
+    scalar_rank_at(forests, found_at(forests, item, path)?)
 }
 
 /// The group of an object.
-fn group_of<'g>(view: View<'g>, item: NodeId) -> Option<&'g str>
-    ensures { item.0 < length (nodes_of view.entry.graph.now) → option_map (λ group. group.now) result ≡ group_of (tree view.entry.graph.now item.0) }
+fn group_of<'g>(forests: &'g RankedForests<'_>, item: NodeId) -> Option<&'g str>
+    ensures { item.0 < count forests.now → option_map (λ group. group.now) result ≡ group_of (tree forests.now item.0) }
 {
-    let version = view.text(found_at(view, item, "apiVersion")?)?;
+    let version = text_at(forests, found_at(forests, item, "apiVersion")?)?;
     Some(before_slash(version))
 }
 
 /// The name of an object with a kind: its group, its kind, its namespace and its own name.
-fn object_name<'g>(view: View<'g>, item: NodeId) -> Option<Name<'g>>
-    ensures { item.0 < length (nodes_of view.entry.graph.now) → IsObjectName view.entry.graph.now view.entry.ranks.now (tree view.entry.graph.now item.0) result }
+fn object_name<'g>(forests: &'g RankedForests<'_>, item: NodeId) -> Option<Name<'g>>
+    ensures { item.0 < count forests.now → IsObjectName forests.now (tree forests.now item.0) result }
 {
-    let group = group_of(view, item)?;
-    let kind = scalar_at(view, item, "kind")?;
-    let name = scalar_at(view, item, "metadata.name")?;
-    let space = scalar_at(view, item, "metadata.namespace");
+    let group = group_of(forests, item)?;
+    let kind = scalar_at(forests, item, "kind")?;
+    let name = scalar_at(forests, item, "metadata.name")?;
+    let space = scalar_at(forests, item, "metadata.namespace");
     Some((group, kind, space, name))
 }
 
 /// The name that an item has there.
-fn name_in<'g>(view: View<'g>, item: NodeId, column: Column<'_>) -> Option<Name<'g>>
-    ensures { item.0 < length (nodes_of view.entry.graph.now) → IsName view.entry.graph.now view.entry.ranks.now (naming_of column.entry) (tree view.entry.graph.now item.0) result }
+fn name_in<'g>(forests: &'g RankedForests<'_>, item: NodeId, column: Column<'_>) -> Option<Name<'g>>
+    ensures { item.0 < count forests.now → IsName forests.now (naming_of column.entry) (tree forests.now item.0) result }
 {
     match column {
-        Column::Object => object_name(view, item),
+        Column::Object => object_name(forests, item),
         Column::Path(path) => {
-            let rank = scalar_at(view, item, path)?;
+            let rank = scalar_at(forests, item, path)?;
             Some(("", rank, None, 0))
         }
     }
@@ -104,12 +104,12 @@ fn name_in<'g>(view: View<'g>, item: NodeId, column: Column<'_>) -> Option<Name<
 
 /// The first name that an item has, with the number of its column.
 pub(crate) fn own_name<'g>(
-    view: View<'g>,
+    forests: &'g RankedForests<'_>,
     item: NodeId,
     columns: &[Column<'_>],
 ) -> Option<(usize, Name<'g>)> {
     for (number, column) in columns.iter().enumerate() {
-        if let Some(name) = name_in(view, item, *column) {
+        if let Some(name) = name_in(forests, item, *column) {
             return Some((number, name));
         }
     }
@@ -119,17 +119,17 @@ pub(crate) fn own_name<'g>(
 /// For each item that is in no pair the name that it has there.
 fn names_in<'g>(
     alloc: Global,
-    view: View<'g>,
+    forests: &'g RankedForests<'_>,
     items: &[NodeId],
     places: &[Option<usize>],
     column: Column<'_>,
 ) -> Result<Vec<Option<Name<'g>>>, AllocError>
-    ensures ok { IfOk result (λ names. AreNames view.entry.graph.now view.entry.ranks.now (naming_of column.entry) items.now places.now names.items) }
+    ensures ok { IfOk result (λ names. AreNames forests.now (naming_of column.entry) items.now places.now names.items) }
 {
     let mut names = Vec::new(alloc);
     for (place, item) in items.iter().enumerate() {
         if is_free(places, place) {
-            names.push(name_in(view, *item, column))?;
+            names.push(name_in(forests, *item, column))?;
         } else {
             names.push(None)?;
         }
@@ -140,20 +140,20 @@ fn names_in<'g>(
 /// Pairs items by the names that stand once on either side, of the items in no pair, one column after the other.
 pub(crate) fn pair_named(
     alloc: Global,
-    view: View<'_>,
+    forests: &RankedForests<'_>,
     lefts: &[NodeId],
     rights: &[NodeId],
     columns: &[Column<'_>],
     partners: &mut Partners,
 ) -> Result<(), AllocError>
-    requires ranked { RanksAre view.graph.now view.ranks.now }
-    ensures ok { OnOk result (Within view.entry.graph.now lefts.now rights.now
-        → HasPairs partners.old (length lefts.now) (length rights.now) (EqualPairs view.entry.graph.now lefts.now rights.now)
-        → HasPairs partners.new (length lefts.now) (length rights.now) (PairsBy view.entry.graph.now lefts.now rights.now (map naming_of columns.now))) }
+    ensures ok { OnOk result (Within forests.now lefts.now rights.now
+        → HasPairs partners.old (length lefts.now) (length rights.now) (EqualPairs forests.now lefts.now rights.now)
+        → HasPairs partners.new (length lefts.now) (length rights.now) (PairsBy forests.now lefts.now rights.now (map naming_of columns.now))) }
 {
+    forests.laws();
     for column in columns {
-        let left = names_in(alloc, view, lefts, &partners.lefts, *column)?;
-        let right = names_in(alloc, view, rights, &partners.rights, *column)?;
+        let left = names_in(alloc, forests, lefts, &partners.lefts, *column)?;
+        let right = names_in(alloc, forests, rights, &partners.rights, *column)?;
         join(alloc, partners, &left, &right)?;
     }
     Ok(())

@@ -1,6 +1,5 @@
 //! The items of two lists between their equal ends.
 ghost use Rattle.std.specs.Prelude.{◌≡◌, ◌≤◌, IfOk};
-ghost use Rattle.yaml_rank.specs.RanksView.{RanksAre};
 ghost use Rattle.yaml_pair.specs.Names.{namings};
 ghost use Rattle.yaml_pair.specs.Named.{Within, weight_of, texts_of, PairsNamed};
 
@@ -8,30 +7,29 @@ use crate::asked::Asked;
 use crate::equal::pair_equal;
 use crate::like::pair_alike;
 use crate::names::{columns, pair_named};
+use crate::nodes::width;
 use crate::partners::Partners;
 use crate::stay::stayers;
 use crate::steps::steps_of;
 use crate::turn::pair_in_turn;
-use crate::view::View;
 use std::alloc::{AllocError, Global};
-use yaml_graph::graph::Graph;
 use yaml_path::places::Places;
-use yaml_rank::ranks::Ranks;
+use yaml_store_rank::RankedForests;
 use yaml_tree::node::NodeId;
 
 /// So many entries are looked at, however few nodes there are.
 const ENTRIES: usize = 1_048_576;
 
 /// How many entries the items of both lists have together.
-fn weight(view: View<'_>, sides: (&[NodeId], &[NodeId])) -> usize
-    ensures { Within view.entry.graph.now sides.entry.0.now sides.entry.1.now → result ≤ weight_of view.entry.graph.now sides.entry.0.now sides.entry.1.now }
+fn weight(forests: &RankedForests<'_>, sides: (&[NodeId], &[NodeId])) -> usize
+    ensures { Within forests.now sides.entry.0.now sides.entry.1.now → result ≤ weight_of forests.now sides.entry.0.now sides.entry.1.now }
 {
     let mut sum: usize = 0;
     for item in sides.0 {
-        sum = sum.saturating_add(view.count(*item));
+        sum = sum.saturating_add(width(forests, *item));
     }
     for item in sides.1 {
-        sum = sum.saturating_add(view.count(*item));
+        sum = sum.saturating_add(width(forests, *item));
     }
     sum
 }
@@ -41,31 +39,28 @@ fn weight(view: View<'_>, sides: (&[NodeId], &[NodeId])) -> usize
 /// either side, one naming after the other, then those that have much in common, and then, between pairs that stay, those that stand in
 /// turn. There are no steps where aliases and equal parts repeat so much that the items have more than 1,048,576 entries, and more than
 /// twice as many as there are nodes.
-pub fn middle<'g>(
+pub fn pair_items(
     alloc: Global,
-    graph: &'g Graph<'g>,
-    ranks: &'g Ranks,
+    forests: &RankedForests<'_>,
     sides: (&[NodeId], &[NodeId]),
     first: usize,
     asked: Asked<'_>,
     documents: bool,
 ) -> Result<Vec<(Places, bool)>, AllocError>
-    requires ranked { RanksAre graph.now ranks.now }
-    ensures named { IfOk result (λ steps. PairsNamed graph.now sides.entry.0.now sides.entry.1.now first (namings (texts_of asked.entry.by.now) documents) steps.items) }
+    ensures named { IfOk result (λ steps. PairsNamed forests.now sides.entry.0.now sides.entry.1.now first (namings (texts_of asked.entry.by.now) documents) steps.items) }
 {
-    let view = View::new(graph, ranks);
     let (lefts, rights) = sides;
-    if weight(view, sides) > view.len().saturating_mul(2).max(ENTRIES) {
+    if weight(forests, sides) > forests.len().saturating_mul(2).max(ENTRIES) {
         return Ok(Vec::new(alloc));
     }
     let columns = columns(alloc, asked, documents)?;
     let mut partners = Partners::none(alloc, lefts.len(), rights.len())?;
-    pair_equal(alloc, view, lefts, rights, &mut partners)?;
-    pair_named(alloc, view, lefts, rights, &columns, &mut partners)?;
-    pair_alike(alloc, view, lefts, rights, &mut partners)?;
+    pair_equal(alloc, forests, lefts, rights, &mut partners)?;
+    pair_named(alloc, forests, lefts, rights, &columns, &mut partners)?;
+    pair_alike(alloc, forests, lefts, rights, &mut partners)?;
     let pairs = partners.pairs(alloc)?;
     let stay = stayers(alloc, &pairs, rights.len())?;
-    pair_in_turn(alloc, view, &columns, sides, &stay, &mut partners)?;
+    pair_in_turn(alloc, forests, &columns, sides, &stay, &mut partners)?;
     let pairs = partners.pairs(alloc)?;
     let stay = stayers(alloc, &pairs, rights.len())?;
     steps_of(alloc, &partners, &stay, first)

@@ -3,9 +3,10 @@ ghost use Rattle.std.specs.Prelude.{◌≡◌, OnOk};
 ghost use Rattle.yaml_pair.specs.Named.{Keeps};
 
 use crate::names::{Column, own_name};
+use crate::nodes::{entries_at, has_key, is_mapping};
 use crate::partners::{Name, Partners, is_free};
-use crate::view::View;
 use std::alloc::{AllocError, Global};
+use yaml_store_rank::RankedForests;
 use yaml_tree::node::NodeId;
 
 /// How many items of the right an item of the left looks at.
@@ -20,7 +21,7 @@ type Single<'g> = (usize, NodeId, Option<Named<'g>>);
 /// The items in no pair, in order.
 fn singles<'g>(
     alloc: Global,
-    view: View<'g>,
+    forests: &'g RankedForests<'_>,
     columns: &[Column<'_>],
     items: &[NodeId],
     places: &[Option<usize>],
@@ -28,7 +29,7 @@ fn singles<'g>(
     let mut list = Vec::new(alloc);
     for (place, item) in items.iter().enumerate() {
         if is_free(places, place) {
-            let name = own_name(view, *item, columns);
+            let name = own_name(forests, *item, columns);
             list.push((place, *item, name))?;
         }
     }
@@ -36,11 +37,11 @@ fn singles<'g>(
 }
 
 /// Whether two mappings have at least half of the keys of the longer in common; others have nothing to compare.
-fn share_keys(view: View<'_>, left: NodeId, right: NodeId) -> bool {
-    if !view.is_mapping(left) || !view.is_mapping(right) {
+fn share_keys(forests: &RankedForests<'_>, left: NodeId, right: NodeId) -> bool {
+    if !is_mapping(forests, left) || !is_mapping(forests, right) {
         return true;
     }
-    let (lefts, rights) = (view.entries(left), view.entries(right));
+    let (lefts, rights) = (entries_at(forests, left), entries_at(forests, right));
     let longer = lefts.len().max(rights.len());
     let shorter = lefts.len().min(rights.len());
     if shorter == 0 {
@@ -51,11 +52,7 @@ fn share_keys(view: View<'_>, left: NodeId, right: NodeId) -> bool {
     }
     let mut count: usize = 0;
     for (key, _) in lefts {
-        let rank = view.rank(*key);
-        if rights
-            .binary_search_by_key(&rank, |it| view.rank(it.0))
-            .is_ok()
-        {
+        if has_key(forests, right, *key) {
             count = count.saturating_add(1);
         }
     }
@@ -71,11 +68,16 @@ fn names_differ(left: Option<Named<'_>>, right: Option<Named<'_>>) -> bool {
 }
 
 /// The place in the list, from this one on, of the first item that a left item is paired with.
-fn fitting(view: View<'_>, left: Single<'_>, rights: &[Single<'_>], from: usize) -> Option<usize> {
+fn fitting(
+    forests: &RankedForests<'_>,
+    left: Single<'_>,
+    rights: &[Single<'_>],
+    from: usize,
+) -> Option<usize> {
     for step in 0..=LOOKS {
         let at = from.saturating_add(step);
         let right = rights.get(at)?;
-        if !names_differ(left.2, right.2) && share_keys(view, left.1, right.1) {
+        if !names_differ(left.2, right.2) && share_keys(forests, left.1, right.1) {
             return Some(at);
         }
     }
@@ -83,12 +85,17 @@ fn fitting(view: View<'_>, left: Single<'_>, rights: &[Single<'_>], from: usize)
 }
 
 /// Pairs the items of one gap, of both of which the places rise.
-fn pair_gap(view: View<'_>, lefts: &[Single<'_>], rights: &[Single<'_>], partners: &mut Partners)
+fn pair_gap(
+    forests: &RankedForests<'_>,
+    lefts: &[Single<'_>],
+    rights: &[Single<'_>],
+    partners: &mut Partners,
+)
     ensures { Keeps partners.old partners.new }
 {
     let mut from = 0;
     for left in lefts {
-        if let Some(at) = fitting(view, *left, rights, from)
+        if let Some(at) = fitting(forests, *left, rights, from)
             && let Some(right) = rights.get(at)
         {
             partners.take(left.0, right.0);
@@ -107,7 +114,7 @@ fn gap_of<'a, 'g>(list: &'a [Single<'g>], from: usize, to: usize) -> &'a [Single
 /// Pairs the items in no pair, between pairs that stay, in turn.
 pub(crate) fn pair_in_turn(
     alloc: Global,
-    view: View<'_>,
+    forests: &RankedForests<'_>,
     columns: &[Column<'_>],
     sides: (&[NodeId], &[NodeId]),
     stay: &[(usize, usize)],
@@ -115,17 +122,17 @@ pub(crate) fn pair_in_turn(
 ) -> Result<(), AllocError>
     ensures ok { OnOk result (Keeps partners.old partners.new) }
 {
-    let lefts = singles(alloc, view, columns, sides.0, &partners.lefts)?;
-    let rights = singles(alloc, view, columns, sides.1, &partners.rights)?;
+    let lefts = singles(alloc, forests, columns, sides.0, &partners.lefts)?;
+    let rights = singles(alloc, forests, columns, sides.1, &partners.rights)?;
     let mut from = (0, 0);
     for pair in stay {
         let left = gap_of(&lefts, from.0, pair.0);
         let right = gap_of(&rights, from.1, pair.1);
-        pair_gap(view, left, right, partners);
+        pair_gap(forests, left, right, partners);
         from = (pair.0.saturating_add(1), pair.1.saturating_add(1));
     }
     let left = gap_of(&lefts, from.0, usize::MAX);
     let right = gap_of(&rights, from.1, usize::MAX);
-    pair_gap(view, left, right, partners);
+    pair_gap(forests, left, right, partners);
     Ok(())
 }

@@ -15,15 +15,15 @@ join-requires-clause-rights c = subst (λ z. OnlyFree z c.args.partners.now.righ
 pub returns : goal.returns
 returns c = record {
   ok = (
-      let g = c.args.view.graph.now in
-      let r = c.args.view.ranks.now in
+      let g = c.args.forests.now in
+      let r = in
       let ls = c.args.lefts.now in
       let rs = c.args.rights.now in
       let rl = c.deref.result.now in
       let rr = c.deref-2.result.now in
       ok-then c.join.result _ _ (λ jn within.
-      has-equal g r c.requires.ranked ls rs within c.args.partners.now c.join.new.partners c.requires.none rl rr
-      (subst (AreRanks g r ls) (sym c.deref.ensures.value) c.in_ok-ranks_of.ensures.ok) (subst (AreRanks g r rs) (sym c.deref-2.ensures.value) c.in_ok-ranks_of-2.ensures.ok)
+      has-equal g c.laws.ensures ls rs within c.args.partners.now c.join.new.partners c.requires.none rl rr
+      (subst (AreRanks g ls) (sym c.deref.ensures.value) c.in_ok-ranks_of.ensures.ok) (subst (AreRanks g rs) (sym c.deref-2.ensures.value) c.in_ok-ranks_of-2.ensures.ok)
       c.deref-3.result.now c.deref-4.result.now
       (subst (λ z. AreCounts rl z (length rl)) (sym c.deref-3.ensures.value) c.in_ok-left.ensures.ok) (subst (λ z. AreCounts rr z (length rr)) (sym c.deref-4.ensures.value) c.in_ok-right.ensures.ok) jn)
       c.join.ensures.ok);

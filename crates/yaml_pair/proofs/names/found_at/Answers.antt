@@ -4,7 +4,7 @@ use Rattle.std.specs.List.{slice_split}
 use Rattle.std.proofs.lemmas.List.{length_push}
 use Rattle.std.proofs.lemmas.Iterator.Splits.{YieldsList-from_str_split}
 use Rattle.std.proofs.lemmas.Iterator.Consumers.{YieldsList-turn, YieldsList-end}
-use Rattle.yaml_graph.specs.GraphView.{tree}
+use Rattle.yaml_store_rank.specs.Forests.{tree}
 use Rattle.yaml_path.specs.Path.{reach}
 use Rattle.yaml_pair.specs.Names.{to_key, found_at}
 use Rattle.yaml_pair.proofs.TreeLaws.{lead-step, lead-stop, lead-end}
@@ -13,7 +13,7 @@ use Rattle.yaml_pair.proofs.names.found_at.Goals as goal
 pub returns-in_err-node : goal.returns-in_err-node
 returns-in_err-node c = λ l.
     let t = YieldsList-turn (YieldsList-from_str_split 46 c.args.path.now (lit< tt) (cc) (cc) (cc)) c.loop-key.yielded _ c.loop-key.yielded_by _ _ c.in-Some.key c.in-Some.is c.next.ensures.steps in
-    let g = c.args.view.graph.now in
+    let g = c.args.forests.now in
     let keys = slice_split (λ b. b == 46) c.args.path.now in
     let at = c.loop-key.invariant l in
     let v = c.in_err-node.ensures at.0 in
@@ -22,7 +22,7 @@ returns-in_err-node c = λ l.
 pub loop-key-preserved : goal.loop-key-preserved
 loop-key-preserved c = λ l.
     let t = YieldsList-turn (YieldsList-from_str_split 46 c.args.path.now (lit< tt) (cc) (cc) (cc)) c.loop-key.yielded _ c.loop-key.yielded_by _ _ c.in-Some.key c.in-Some.is c.next.ensures.steps in
-    let g = c.args.view.graph.now in
+    let g = c.args.forests.now in
     let keys = slice_split (λ b. b == 46) c.args.path.now in
     let at = c.loop-key.invariant l in
     let v = c.in_ok-node.ensures at.0 in (
@@ -34,7 +34,7 @@ loop-key-preserved c = λ l.
 pub returns : goal.returns
 returns c = λ l.
     let t = YieldsList-end (YieldsList-from_str_split 46 c.args.path.now (lit< tt) (cc) (cc) (cc)) c.loop-key.yielded _ c.loop-key.yielded_by _ _ c.in-None.is c.next.ensures.steps in
-    let g = c.args.view.graph.now in
+    let g = c.args.forests.now in
     let keys = slice_split (λ b. b == 46) c.args.path.now in
     let at = c.loop-key.invariant l in
     record { is = sym (lead-end (tree g c.loop-key.node.0) keys (length c.loop-key.yielded) (omega (arith, t.1))) ∙ at.1; within = at.0 }

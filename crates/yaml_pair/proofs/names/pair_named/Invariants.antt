@@ -4,4 +4,4 @@ use Rattle.yaml_pair.proofs.names.pair_named.Given as goal
 
 abbrev pub invariant-loop-column : goal.invariant-loop-column
 invariant-loop-column l =
-    Within l.fn.view.graph.now l.lefts l.rights → HasPairs l.fn.partners (length l.lefts) (length l.rights) (EqualPairs l.fn.view.graph.now l.lefts l.rights) → HasPairs l.partners (length l.lefts) (length l.rights) (PairsBy l.fn.view.graph.now l.lefts l.rights (map naming_of (take l.column-index l.columns)))
+    Within l.fn.forests l.lefts l.rights → HasPairs l.fn.partners (length l.lefts) (length l.rights) (EqualPairs l.fn.forests l.lefts l.rights) → HasPairs l.partners (length l.lefts) (length l.rights) (PairsBy l.fn.forests l.lefts l.rights (map naming_of (take l.column-index l.columns)))

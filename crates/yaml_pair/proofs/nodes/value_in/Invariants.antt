@@ -1,8 +1,6 @@
 use Rattle.std.proofs.Common.{◌≡◌, drop}
 use Rattle.yaml_definitions.specs.model.Tag.{str_tag}
 use Rattle.yaml_definitions.specs.model.Tree.{scalar}
-use Rattle.yaml_graph.specs.GraphModel.{entries_at}
-use Rattle.yaml_graph.specs.GraphView.{graph_trees}
 use Rattle.yaml_tree.specs.TreeLists.{pairs}
 use Rattle.yaml_path.specs.Path.{value_in}
 use Rattle.yaml_pair.specs.Named.{EntriesWithin}
@@ -10,4 +8,4 @@ use Rattle.yaml_pair.proofs.view.View.value_in.Given as goal
 
 abbrev pub invariant-loop-name : goal.invariant-loop-name
 invariant-loop-name l =
-    EntriesWithin l.fn.self.graph.now l.entries → value_in (pairs (entries_at (graph_trees l.fn.self.graph.now) (drop l.name-index l.entries))) (scalar str_tag l.key) ≡ value_in (pairs (entries_at (graph_trees l.fn.self.graph.now) l.entries)) (scalar str_tag l.key)
+    EntriesWithin l.fn.forests l.entries → value_in (pairs (entries_at l.fn.forests (drop l.name-index l.entries))) (scalar str_tag l.key) ≡ value_in (pairs (entries_at l.fn.forests l.entries)) (scalar str_tag l.key)
