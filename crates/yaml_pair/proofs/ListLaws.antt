@@ -67,8 +67,8 @@ tally-more xs i d old new count l inv u c q = by (get_or xs i d == q) refl
     by false e =
         ap (λ z. unwrap_or z 0) (u q ∙ ap (λ z. cond z (Some (count + 1)) (old q)) (nat-eq (get_or xs i d) q ∙ e)) ∙ inv q ∙ sym (count_by_more_no (λ x. x == q) xs i d l e)
 
-pub ranks-more : (g : Forests) (items : List NodeId) (i : ℕ) (d : NodeId) (old new : List ℕ) (rank : ℕ) → AllWithin g items → i < length items → old ≡ map (λ x. rank g x.0) (take i items) → new ≡ old ++ (rank ∷ [])
-    → ((get_or items i d).0 < count g → rank ≡ rank g (get_or items i d).0) → new ≡ map (λ x. rank g x.0) (take (i + 1) items)
-ranks-more g items i d old new rank w l e n is =
-    n ∙ ap (λ z. z ++ (rank ∷ [])) e ∙ ap (λ z. map (λ (x : NodeId). rank g x.0) (take i items) ++ (z ∷ [])) (is (w i (get_or items i d) (slice_get-get_or items i d l)))
+pub ranks-more : (g : Forests) (items : List NodeId) (i : ℕ) (d : NodeId) (old new : List ℕ) (r : ℕ) → AllWithin g items → i < length items → old ≡ map (λ x. rank g x.0) (take i items) → new ≡ old ++ (r ∷ [])
+    → ((get_or items i d).0 < count g → r ≡ rank g (get_or items i d).0) → new ≡ map (λ x. rank g x.0) (take (i + 1) items)
+ranks-more g items i d old new r w l e n is =
+    n ∙ ap (λ z. z ++ (r ∷ [])) e ∙ ap (λ z. map (λ (x : NodeId). rank g x.0) (take i items) ++ (z ∷ [])) (is (w i (get_or items i d) (slice_get-get_or items i d l)))
     ∙ sym (map_more (λ (x : NodeId). rank g x.0) items i d l)

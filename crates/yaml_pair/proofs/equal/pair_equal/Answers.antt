@@ -16,7 +16,6 @@ pub returns : goal.returns
 returns c = record {
   ok = (
       let g = c.args.forests.now in
-      let r = in
       let ls = c.args.lefts.now in
       let rs = c.args.rights.now in
       let rl = c.deref.result.now in

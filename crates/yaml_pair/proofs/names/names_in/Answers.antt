@@ -9,7 +9,6 @@ use Rattle.yaml_pair.proofs.names.names_in.Goals.{then-is_free+in_ok-push, else-
 pub loop-place-preserved : goal.loop-place-preserved
 loop-place-preserved c =
     let g = c.args.forests.now in
-    let r = in
     let n = naming_of c.args.column in
     let xs = c.args.items.now in
     let i = c.loop-place.place in

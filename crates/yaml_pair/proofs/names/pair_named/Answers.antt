@@ -10,7 +10,6 @@ use Rattle.yaml_pair.proofs.names.pair_named.Goals as goal
 pub loop-column-preserved : goal.loop-column-preserved
 loop-column-preserved c = λ within start.
     let g = c.args.forests.now in
-    let r = in
     let ls = c.args.lefts.now in
     let rs = c.args.rights.now in
     let i = c.loop-column.column-index in

@@ -3,7 +3,7 @@ use Rattle.std.proofs.lemmas.Option.{slice_get-get_or}
 use Rattle.yaml_definitions.specs.model.Tag.{str_tag}
 use Rattle.yaml_definitions.specs.model.Tree.{scalar}
 use Rattle.yaml_pair.proofs.TreeLaws.{value-here, value-next}
-use Rattle.yaml_pair.proofs.view.View.value_in.Goals as goal
+use Rattle.yaml_pair.proofs.nodes.value_in.Goals as goal
 
 pub returns-then-is_text : goal.returns-then-is_text
 returns-then-is_text c = λ w.
