@@ -1,25 +1,22 @@
 -- The text of a step to the value of a key.
-use Rattle.std.proofs.Common.{◌≡◌, ◌&&◌, ℕ, true, false, cond, List, [], ◌++◌, refl, sym, ◌∙◌, ap, subst}
-use Rattle.std.specs.Prelude.{Some, None, bytes_eq, codes}
+use Rattle.std.proofs.Common.{◌≡◌, ◌&&◌, ◌≤◌, ℕ, true, false, cond, List, [], Bor, ◌++◌, refl, sym, ◌∙◌, ap, subst}
+use Rattle.std.specs.Prelude.{Some, bytes_eq, codes}
 use Rattle.std.specs.List.{slice_get}
-use Rattle.std.specs.Cow.{cow_str_bytes}
-use Rattle.yaml_definitions.specs.model.Tree.{Tree, scalar}
+use Rattle.yaml_definitions.specs.model.Tree.{Tree, Trees, Pairs, scalar, sequence, mapping}
 use Rattle.yaml_definitions.specs.model.Tag.{str_tag, core_tag}
-use Rattle.yaml_graph.specs.GraphModel.{kind_tree}
-use Rattle.yaml_graph.specs.GraphView.{nodes_of, graph_trees, tree}
-use Rattle.yaml_graph.proofs.GraphLaws.{node-tree}
-use Rattle.yaml_graph.specs.declared.node.Node.{Node}
-use Rattle.yaml_graph.specs.declared.node.NodeKind.{NodeKind}
-use Rattle.yaml_graph.specs.declared.node.NodeKind.TheVariants as kinds
-use Rattle.yaml_graph.specs.declared.graph.Graph.{Graph}
-use Rattle.review_text.specs.Shown.{shown}
+use Rattle.yaml_tree.specs.declared.node.NodeId.{NodeId}
+use Rattle.yaml_tree.specs.declared.shown.Shown.{Shown}
+use Rattle.yaml_tree.specs.declared.shown.Inside.{Inside}
+use Rattle.yaml_tree.specs.declared.shown.Inside.TheVariants as shown
+use Rattle.yaml_store_rank.specs.Forests.{Forests, count, tree, held_shown, IsRanked}
+use Rattle.review_text.specs.Shown as cut
 use Rattle.review_text.specs.NodeText.{text_of}
 use Rattle.review_text.specs.PathText.{is_name, key_text, bracketed, whole_limit}
 use Rattle.std.proofs.lemmas.List.{append-nil}
-use Rattle.review_text.proofs.GraphShapes.{none-there}
+use Rattle.review_text.proofs.ForestShapes.{none-there, shape-there}
 
 abbrev pub in_brackets : Tree → List ℕ
-in_brackets t = bracketed (shown whole_limit (text_of t))
+in_brackets t = bracketed (cut.shown whole_limit (text_of t))
 
 named : (g x : List ℕ) → (bytes_eq g str_tag && is_name x) ≡ true → key_text (scalar g x) ≡ codes "." ++ x
 unfolding key_text
@@ -36,28 +33,29 @@ empty_unnamed : (bytes_eq [] str_tag && is_name []) ≡ false
 unfolding core_tag
 empty_unnamed = refl
 
-module _ (g : Graph) (i : ℕ) where
+module _ (f : Forests) (i : ℕ) where
   -- a number that no node has
-  pub none_bracketed : None ≡ slice_get (nodes_of g) i → key_text (tree g i) ≡ in_brackets (tree g i)
-  none_bracketed e = subst (λ t. key_text t ≡ in_brackets t) (sym (none-there g i e)) (unnamed [] [] empty_unnamed)
+  pub none_bracketed : count f ≤ i → key_text (tree f i) ≡ in_brackets (tree f i)
+  none_bracketed l = subst (λ t. key_text t ≡ in_brackets t) (sym (none-there f i l)) (unnamed [] [] empty_unnamed)
 
-  module _ (n : Node) (there : slice_get (nodes_of g) i ≡ Some n) where
-    shape : tree g i ≡ kind_tree (graph_trees g) (cow_str_bytes n.tag) n.kind
-    shape = node-tree (nodes_of g) i n g.grounded there
+  module _ (are : IsRanked f) (s : Shown NodeId) (there : slice_get f.nodes i ≡ Some (held_shown s)) where
+    pub scalar_named : (x : Bor (List ℕ)) → s.inside ≡ shown.Scalar x → (bytes_eq s.tag.now str_tag && is_name x.now) ≡ true → key_text (tree f i) ≡ codes "." ++ x.now
+    scalar_named x e h = ap key_text (shape-there f are i s there (shown.Scalar x) e) ∙ named s.tag.now x.now h
 
-    pub scalar_named : (content : _) → n.kind ≡ kinds.Scalar content → (bytes_eq (cow_str_bytes n.tag) str_tag && is_name (cow_str_bytes content)) ≡ true → key_text (tree g i) ≡ codes "." ++ cow_str_bytes content
-    scalar_named content e h = ap key_text (shape ∙ ap (kind_tree (graph_trees g) (cow_str_bytes n.tag)) e) ∙ named (cow_str_bytes n.tag) (cow_str_bytes content) h
+    pub scalar_bracketed : (x : Bor (List ℕ)) → s.inside ≡ shown.Scalar x → (bytes_eq s.tag.now str_tag && is_name x.now) ≡ false → key_text (tree f i) ≡ in_brackets (tree f i)
+    scalar_bracketed x e h = subst (λ t. key_text t ≡ in_brackets t) (sym (shape-there f are i s there (shown.Scalar x) e)) (unnamed s.tag.now x.now h)
 
-    pub scalar_bracketed : (content : _) → n.kind ≡ kinds.Scalar content → (bytes_eq (cow_str_bytes n.tag) str_tag && is_name (cow_str_bytes content)) ≡ false → key_text (tree g i) ≡ in_brackets (tree g i)
-    scalar_bracketed content e h =
-        let s = shape ∙ ap (kind_tree (graph_trees g) (cow_str_bytes n.tag)) e in
-        subst (λ t. key_text t ≡ in_brackets t) (sym s) (unnamed (cow_str_bytes n.tag) (cow_str_bytes content) h)
-
-    pub other_bracketed : ((content : _) → n.kind ≡ kinds.Scalar content → ⊥) → key_text (tree g i) ≡ in_brackets (tree g i)
+    pub other_bracketed : ((x : Bor (List ℕ)) → s.inside ≡ shown.Scalar x → ⊥) → key_text (tree f i) ≡ in_brackets (tree f i)
     unfolding key_text
-    other_bracketed f = subst (λ t. key_text t ≡ in_brackets t) (sym shape) (by (cow_str_bytes n.tag) n.kind f)
+    other_bracketed other = by s.inside refl
       where
-        by : (h : List ℕ) (k : NodeKind) → ((content : _) → k ≡ kinds.Scalar content → ⊥) → key_text (kind_tree (graph_trees g) h k) ≡ in_brackets (kind_tree (graph_trees g) h k)
-        by h (kinds.Scalar content) f = absurd (f content refl)
-        by h (kinds.Sequence items) f = refl
-        by h (kinds.Mapping entries) f = refl
+        sequence-bracketed : (g : List ℕ) (ts : Trees) → key_text (sequence g ts) ≡ in_brackets (sequence g ts)
+        sequence-bracketed g ts = refl
+
+        mapping-bracketed : (g : List ℕ) (ps : Pairs) → key_text (mapping g ps) ≡ in_brackets (mapping g ps)
+        mapping-bracketed g ps = refl
+
+        by : (x : Inside NodeId) → s.inside ≡ x → key_text (tree f i) ≡ in_brackets (tree f i)
+        by (shown.Scalar x) e = absurd (other x e)
+        by (shown.Sequence xs) e = subst (λ t. key_text t ≡ in_brackets t) (sym (shape-there f are i s there (shown.Sequence xs) e)) (sequence-bracketed s.tag.now _)
+        by (shown.Mapping xs) e = subst (λ t. key_text t ≡ in_brackets t) (sym (shape-there f are i s there (shown.Mapping xs) e)) (mapping-bracketed s.tag.now _)

@@ -1,4 +1,5 @@
-pub mod GraphShapes
+mod EntryLaws
+pub mod ForestShapes
 pub mod HiddenLaws
 mod KeyLaws
 mod LineLaws

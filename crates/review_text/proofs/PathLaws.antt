@@ -3,7 +3,7 @@ use Rattle.std.proofs.Common.{◌≡◌, ◌==◌, ℕ, Bool, length, List, [], 
 use Rattle.std.specs.List.{flat_map}
 use Rattle.std.proofs.lemmas.List.{append-nil, map-append, reverse-append, length-map, length-reverse}
 use Rattle.std.proofs.lemmas.List.Concat.{flat_map-append}
-use Rattle.yaml_graph.specs.declared.graph.Graph.{Graph}
+use Rattle.yaml_store_rank.specs.Forests.{Forests}
 use Rattle.yaml_diff.specs.Lines.{step_of, way_of}
 use Rattle.yaml_diff.specs.declared.difference.Step as code
 use Rattle.review_text.proofs.Pieces.{then_more}
@@ -18,13 +18,13 @@ map_reverse f [] = refl
 map_reverse f (x ∷ xs) = ap (map f) (reverse-append (x ∷ []) xs) ∙ map-append f (reverse xs) (x ∷ []) ∙ ap (λ z. z ++ (f x ∷ [])) (map_reverse f xs) ∙ sym (reverse-append (f x ∷ []) (map f xs))
 
 -- a path begins with its last step
-pub way_split : (g : Graph) (steps : List code.Step) (s : code.Step) → way_of g (steps ++ (s ∷ [])) ≡ step_of g s ∷ map (step_of g) (reverse steps)
+pub way_split : (g : Forests) (steps : List code.Step) (s : code.Step) → way_of g (steps ++ (s ∷ [])) ≡ step_of g s ∷ map (step_of g) (reverse steps)
 way_split g steps s = ap reverse (map-append (step_of g) steps (s ∷ [])) ∙ reverse-append (map (step_of g) steps) (step_of g s ∷ []) ∙ ap (λ z. step_of g s ∷ z) (sym (map_reverse (step_of g) steps))
 
-same_count : (g : Graph) (steps : List code.Step) → length (map (step_of g) (reverse steps)) ≡ length steps
+same_count : (g : Forests) (steps : List code.Step) → length (map (step_of g) (reverse steps)) ≡ length steps
 same_count g steps = length-map (reverse steps) (step_of g) ∙ length-reverse steps
 
-pub path_written : (g : Graph) (path steps seen : List code.Step) (s : code.Step) (numbered : Bool) (o a : List ℕ) → path ≡ steps ++ (s ∷ []) → seen ≡ reverse steps → o ≡ start_text numbered (length steps == 0) (step_of g s) → a ≡ o ++ flat_map (λ z. step_text (step_of g z)) seen
+pub path_written : (g : Forests) (path steps seen : List code.Step) (s : code.Step) (numbered : Bool) (o a : List ℕ) → path ≡ steps ++ (s ∷ []) → seen ≡ reverse steps → o ≡ start_text numbered (length steps == 0) (step_of g s) → a ≡ o ++ flat_map (λ z. step_text (step_of g z)) seen
     → a ≡ path_text numbered (way_of g path)
 path_written g path steps seen s numbered o a e q h k =
     k ∙ ap (λ z. z ++ flat_map (λ z. step_text (step_of g z)) seen) h

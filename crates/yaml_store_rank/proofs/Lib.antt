@@ -22,4 +22,4 @@ mod OrderLaws
 mod WrittenLaws
 pub mod ForestLaws
 pub mod ForestTrees
-mod ArrangedForests
+pub mod ArrangedForests

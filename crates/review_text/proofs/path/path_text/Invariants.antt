@@ -6,4 +6,4 @@ use Rattle.review_text.specs.PathText.{step_text}
 use Rattle.review_text.proofs.path.path_text.Given as goal
 
 abbrev pub invariant-steps : goal.invariant-steps
-invariant-steps l = string_bytes l.out ≡ string_bytes l.initial.out ++ flat_map (λ s. step_text (step_of l.both.graph s)) (map (λ s. s.now) l.yielded)
+invariant-steps l = string_bytes l.out ≡ string_bytes l.initial.out ++ flat_map (λ s. step_text (step_of l.forests s)) (map (λ s. s.now) l.yielded)
