@@ -152,8 +152,8 @@ pub record AsksDiff (rows : List Row) (by : List Text) (is_terminal : Bool) (dif
   pub stat : diff.stat ≡ is_on (codes "stat") rows
   pub by_position : diff.by_position ≡ is_on (codes "by-position") rows
   pub keys : texts diff.by.now ≡ by
-  -- lines of text, without `--no-fold`
-  pub folds : diff.folds ≡ (has (codes "format") (codes "line") rows && not (is_on (codes "no-fold") rows))
+  -- each form but JSON, without `--no-fold`
+  pub folds : diff.folds ≡ (not (has (codes "format") (codes "json") rows) && not (is_on (codes "no-fold") rows))
   pub paths : diff.paths ≡ paths_in rows
 
 -- these are the patterns of these texts

@@ -211,11 +211,11 @@ pub(crate) fn globs_of<'a>(
     }
 }
 
-/// Whether one line tells several differences: in lines of text, unless it is asked otherwise.
+/// Whether one line tells several differences: in each form but JSON, unless it is asked otherwise.
 pub(crate) fn folds_of(matches: &ArgMatches<'_>) -> bool
-    ensures { result ≡ (has (codes "format") (codes "line") (rows_of (found_of matches.now)) && not (is_on (codes "no-fold") (rows_of (found_of matches.now)))) }
+    ensures { result ≡ (not (has (codes "format") (codes "json") (rows_of (found_of matches.now))) && not (is_on (codes "no-fold") (rows_of (found_of matches.now)))) }
 {
-    has(matches, "format", "line") && !is_on(matches, "no-fold")
+    !has(matches, "format", "json") && !is_on(matches, "no-fold")
 }
 
 pub(crate) fn format_of(matches: &ArgMatches<'_>) -> Format
