@@ -5,22 +5,20 @@ use Rattle.std.specs.Option.{is_some, option_map}
 use Rattle.std.specs.List.{slice_get}
 use Rattle.std.proofs.lemmas.Option.{slice_get_within}
 use Rattle.yaml_definitions.specs.model.Tree.{Tree}
+use Rattle.yaml_definitions.specs.model.Same.{Same}
 use Rattle.yaml_definitions.proofs.Members.{or_either}
 use Rattle.yaml_definitions.proofs.Equivalence.{same_refl, same_sym, same_trans}
-use Rattle.yaml_graph.specs.GraphModel.{Entries}
-use Rattle.yaml_graph.specs.GraphView.{nodes_of, tree}
 use Rattle.yaml_tree.proofs.Lists.{get-more}
 use Rattle.yaml_tree.specs.declared.node.NodeId.{NodeId}
-use Rattle.yaml_store_rank.specs.Forests.{Forests}
-use Rattle.yaml_rank.specs.RanksView.{RanksAre}
-use Rattle.yaml_rank.specs.declared.ranks.Ranks.{Ranks}
+use Rattle.yaml_store_rank.specs.Forests.{Forests, count, tree, entries_at, IsRanked}
+use Rattle.yaml_store_rank.specs.KeyOrder.{number_pairs}
 use Rattle.yaml_path.specs.Path.{at_key, part, part_of}
 use Rattle.yaml_diff.specs.Lines.{tree_of, trees_of}
-use Rattle.yaml_diff.specs.Found.{AllWithin, HasEntries}
-use Rattle.yaml_diff.proofs.Shapes.{value-some}
-use Rattle.yaml_diff.proofs.ListParts.{get-side, get-nth}
+use Rattle.yaml_diff.specs.Found.{AllWithin}
+use Rattle.yaml_diff.proofs.ListParts.{get-side, get-nth, get-map, map-get}
 use Rattle.yaml_conflicts.specs.declared.sides.Sides.{Sides}
-use Rattle.yaml_conflicts.specs.Keys.{side_has, Stands, Covers, HasSide, HasKeysBelow, HasKeys, Adds}
+use Rattle.yaml_conflicts.specs.Keys.{side_has, Stands, Covers, HasSide, HasKeysBelow, HasKeys, KeysWithin, Adds}
+use Rattle.yaml_conflicts.proofs.NodeLaws.{entry-below, value-some}
 
 -- ---- lists of keys
 
@@ -64,12 +62,20 @@ option-some : (o : Option Tree) → is_some o ≡ true → (v : Tree) × (o ≡ 
 option-some None e = absurd (cc)
 option-some (Some v) e = (v, refl)
 
-pub keys-side : (g : Forests) (r : Ranks) → RanksAre g r → (i : NodeId) (entries : Entries) (keys : List NodeId) → HasEntries g i.0 entries → HasKeys g entries keys → HasSide g (Some i) keys
-keys-side g r are i entries keys h p x e =
-    let v = option-some (part (tree g i.0) (at_key x)) e in
-    let f = value-some g r are i.0 entries h x v.0 v.1 in
-    let s = p f.0 f.1 (slice_get_within entries f.0 f.1 f.2) f.2 in
-    (s.0, s.1, s.2, same_trans (tree_of g s.1) (tree g f.1.0.0) x s.3 (same_sym x (tree g f.1.0.0) f.3))
+module _ (g : Forests) (are : IsRanked g) (i : NodeId) (l : i.0 < count g) (entries : List (NodeId × NodeId)) (is : number_pairs entries ≡ entries_at g i.0) where
+  pub keys-within : KeysWithin g entries
+  keys-within k p e =
+      let b = entry-below g are i.0 l k (p.0.0, p.1.0) (subst (λ z. slice_get z k ≡ Some (p.0.0, p.1.0)) is (map-get (λ p. (p.0.0, p.1.0)) entries k p e)) in
+      omega (arith, b.0, l)
+
+  pub keys-side : (keys : List NodeId) → HasKeys g entries keys → HasSide g (Some i) keys
+  keys-side keys p x e =
+      let v = option-some (part (tree g i.0) (at_key x)) e in
+      let f = value-some g are i.0 l x v.0 v.1 in
+      let q = get-map (λ p. (p.0.0, p.1.0)) entries f.0 f.1 (subst (λ z. slice_get z f.0 ≡ Some f.1) (sym is) f.2) in
+      let s = p f.0 q.0 (slice_get_within entries f.0 q.0 q.1) q.1 in
+      let h : q.0.0.0 ≡ f.1.0 = ap (λ z. z.0) q.2 in
+      (s.0, s.1, s.2, same_trans (tree_of g s.1) (tree g q.0.0.0) x s.3 (same_sym x (tree g q.0.0.0) (subst (λ z. Same x (tree g z)) (sym h) f.3)))
 
 pub none-side : (g : Forests) (side : Option NodeId) (keys : List NodeId) → ((x : Tree) → part_of (trees_of g side) (at_key x) ≡ None) → HasSide g side keys
 none-side g side keys n x e = absurd (some-none (part_of (trees_of g side) (at_key x)) (n x) e)
@@ -103,14 +109,14 @@ split (suc k) zero l = absurd (omega arith)
 split (suc k) (suc n) l = elim (split k n (omega arith)) [ inl a ↦ inl (omega arith) | inr e ↦ inr (ap suc e) ]
 
 -- the keys of the entries before a place were added
-pub record KeysAdded (g : Forests) (entries : Entries) (old new : List NodeId) (n : ℕ) : Type 0 where
+pub record KeysAdded (g : Forests) (entries : List (NodeId × NodeId)) (old new : List NodeId) (n : ℕ) : Type 0 where
   pub adds : Adds g old new
   pub keys : HasKeysBelow g n entries new
 
-pub keys-first : (g : Forests) (entries : Entries) (keys : List NodeId) → AllWithin g keys → KeysAdded g entries keys keys 0
+pub keys-first : (g : Forests) (entries : List (NodeId × NodeId)) (keys : List NodeId) → AllWithin g keys → KeysAdded g entries keys keys 0
 keys-first g entries keys w = record { adds = adds-none g keys w; keys = λ k p l e. absurd (omega (arith, l)) }
 
-pub keys-next : (g : Forests) (entries : Entries) (old keys new : List NodeId) (n : ℕ) (q : NodeId × NodeId) → slice_get entries n ≡ Some q → KeysAdded g entries old keys n → Adds g keys new → Stands g new (tree_of g q.0) → KeysAdded g entries old new (n + 1)
+pub keys-next : (g : Forests) (entries : List (NodeId × NodeId)) (old keys new : List NodeId) (n : ℕ) (q : NodeId × NodeId) → slice_get entries n ≡ Some q → KeysAdded g entries old keys n → Adds g keys new → Stands g new (tree_of g q.0) → KeysAdded g entries old new (n + 1)
 keys-next g entries old keys new n q is p a s = record {
   adds = adds-both g old keys new p.adds a;
   keys = λ k x l e. elim (split k n l) [

@@ -1,6 +1,7 @@
 //! The keys of which one side or another has a value.
 ghost use Rattle.std.specs.Prelude.{◌≡◌, ◌<◌, IfOk, OnOk};
-ghost use Rattle.yaml_store_rank.specs.Forests.{count};
+ghost use Rattle.yaml_store_rank.specs.Forests.{count, entries_at};
+ghost use Rattle.yaml_store_rank.specs.KeyOrder.{number_pairs};
 ghost use Rattle.yaml_diff.specs.Lines.{tree_of};
 ghost use Rattle.yaml_diff.specs.Found.{Within, AllWithin};
 ghost use Rattle.yaml_conflicts.specs.Found.{SidesWithin};
@@ -75,6 +76,17 @@ fn add_keys(
     Ok(())
 }
 
+/// The entries of a mapping as they are written; none of another node.
+fn entries_of<'f>(forests: &'f RankedForests<'_>, id: NodeId) -> &'f [(NodeId, NodeId)]
+    requires { id.0 < count forests.now }
+    ensures { number_pairs result.now ≡ entries_at forests.now id.0 }
+{
+    match forests.node(id).inside {
+        Inside::Mapping(entries) => entries,
+        _ => &[],
+    }
+}
+
 /// Adds the keys of one side.
 fn add_side(
     keys: &mut Vec<NodeId>,
@@ -93,10 +105,7 @@ fn add_side(
         return Ok(());
     };
     forests.laws();
-    if let Inside::Mapping(entries) = forests.node(id).inside {
-        add_keys(keys, forests, entries, earlier)?;
-    }
-    Ok(())
+    add_keys(keys, forests, entries_of(forests, id), earlier)
 }
 
 /// The keys of all sides, each once.

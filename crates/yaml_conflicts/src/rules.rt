@@ -48,8 +48,7 @@ fn is_followed(forests: &RankedForests<'_>, sides: Sides) -> bool
     ensures { result ≡ follows (trees_of forests.now sides.base) (trees_of forests.now sides.ours) (trees_of forests.now sides.theirs) (trees_of forests.now sides.merge) }
 {
     let is_ours = is_alike(forests, sides.merge, sides.ours);
-    (is_alike(forests, sides.ours, sides.base)
-        && is_alike(forests, sides.merge, sides.theirs))
+    (is_alike(forests, sides.ours, sides.base) && is_alike(forests, sides.merge, sides.theirs))
         || ((is_alike(forests, sides.theirs, sides.base) && is_ours)
             || (is_alike(forests, sides.ours, sides.theirs) && is_ours))
 }

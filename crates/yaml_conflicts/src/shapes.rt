@@ -13,7 +13,7 @@ use yaml_tree::node::NodeId;
 use yaml_tree::shown::Inside;
 
 fn are_mappings(left: Inside<'_, NodeId>, right: Inside<'_, NodeId>) -> bool
-    ensures { result ≡ (is_mapping (inside_shown (λ i. i.0) left) && is_mapping (inside_shown (λ i. i.0) right)) }
+    ensures { result ≡ (is_mapping (inside_shown (λ i. i.0) left.entry) && is_mapping (inside_shown (λ i. i.0) right.entry)) }
 {
     matches!(left, Inside::Mapping(_)) && matches!(right, Inside::Mapping(_))
 }
@@ -52,5 +52,6 @@ pub(crate) fn is_open(forests: &RankedForests<'_>, sides: Sides) -> bool
     ensures { result ≡ opens (trees_of forests.now sides.base) (trees_of forests.now sides.ours) (trees_of forests.now sides.theirs) (trees_of forests.now sides.merge) }
 {
     has_shape(forests, sides.base, sides.ours)
-        && (has_shape(forests, sides.base, sides.theirs) && has_shape(forests, sides.base, sides.merge))
+        && (has_shape(forests, sides.base, sides.theirs)
+            && has_shape(forests, sides.base, sides.merge))
 }

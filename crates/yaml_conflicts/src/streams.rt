@@ -110,8 +110,7 @@ fn is_followed(forests: &RankedForests<'_>, roots: &Roots<'_>) -> bool
     ensures { result ≡ follows (stream (documents forests.now roots.now.base.now)) (stream (documents forests.now roots.now.ours.now)) (stream (documents forests.now roots.now.theirs.now)) (stream (documents forests.now roots.now.merge.now)) }
 {
     let is_ours = are_alike(forests, roots.merge, roots.ours);
-    (are_alike(forests, roots.ours, roots.base)
-        && are_alike(forests, roots.merge, roots.theirs))
+    (are_alike(forests, roots.ours, roots.base) && are_alike(forests, roots.merge, roots.theirs))
         || ((are_alike(forests, roots.theirs, roots.base) && is_ours)
             || (are_alike(forests, roots.ours, roots.theirs) && is_ours))
 }
@@ -133,7 +132,8 @@ fn are_paired(forests: &RankedForests<'_>, roots: &Roots<'_>) -> bool
     ensures { result ≡ are_paired (documents forests.now roots.now.base.now) (documents forests.now roots.now.ours.now) (documents forests.now roots.now.theirs.now) (documents forests.now roots.now.merge.now) }
 {
     are_long(forests, roots.base, roots.ours)
-        && (are_long(forests, roots.base, roots.theirs) && are_long(forests, roots.base, roots.merge))
+        && (are_long(forests, roots.base, roots.theirs)
+            && are_long(forests, roots.base, roots.merge))
 }
 
 /// The places of the documents at one place: each is one value, unless it is alone in its stream.

@@ -1,8 +1,8 @@
 -- The trees of the nodes of ranked forests.
-use Rattle.std.proofs.Common.{◌≡◌, ℕ, ◌<◌, ◌≤◌, List, [], ◌∷◌, map, refl, ◌∙◌, ap, subst, arith}
+use Rattle.std.proofs.Common.{◌≡◌, ℕ, zero, suc, ◌<◌, ◌≤◌, List, [], ◌∷◌, map, refl, ◌∙◌, ap, subst, arith}
 use Rattle.std.specs.Prelude.{Some}
 use Rattle.std.specs.Borrow.{Bor}
-use Rattle.std.specs.List.{slice_get, All}
+use Rattle.std.specs.List.{slice_get, slice_index_or, All}
 use Rattle.std.proofs.lemmas.List.Elements.{All-weaker}
 use Rattle.yaml_definitions.specs.model.Tree.{scalar, sequence, mapping}
 use Rattle.yaml_tree.specs.TreeLists.{trees, pairs}
@@ -14,7 +14,7 @@ use Rattle.yaml_tree.specs.declared.shown.Inside as declared
 use Rattle.yaml_tree.specs.declared.shown.Inside.TheVariants.{Scalar, Sequence, Mapping}
 use Rattle.yaml_tree.specs.declared.shown.Shown.{Shown}
 use Rattle.yaml_tree.proofs.InsideLaws.{held-tree}
-use Rattle.yaml_store_rank.specs.Forests.{Forests, count, tree, item_trees, entry_trees, held_shown, IsRanked}
+use Rattle.yaml_store_rank.specs.Forests.{Forests, count, tree, item_trees, entry_trees, documents_of, held_shown, IsRanked}
 use Rattle.yaml_store_rank.proofs.KeyOrderLaws.{unmap}
 
 below-more : (i k : ℕ) (x : Inside) → i ≤ k → InsideBelow i x → InsideBelow k x
@@ -35,6 +35,15 @@ module _ (f : Forests) (are : IsRanked f) where
   -- its parts are nodes
   pub parts-within : (i : ℕ) (n : Held) → i < count f → slice_get f.nodes i ≡ Some n → InsideBelow (count f) n.1
   parts-within i n l e = below-more i (count f) n.1 (omega arith) (are.below i n e)
+
+  -- the roots of a stream are nodes
+  pub documents-within : (k : ℕ) → All (λ i. i < count f) (documents_of f k)
+  documents-within k = by f.streams k are.rooted
+    where
+      by : (streams : List (List ℕ)) (k : ℕ) → All (All (λ i. i < count f)) streams → All (λ i. i < count f) (slice_index_or streams k [])
+      by [] k a = λ j d l. absurd (omega (arith, l))
+      by (roots ∷ streams) zero a = a 0 [] (omega arith)
+      by (roots ∷ streams) (suc k) a = by streams k (λ j d l. a (suc j) d (omega (arith, l)))
 
   -- ---- of what is shown
 

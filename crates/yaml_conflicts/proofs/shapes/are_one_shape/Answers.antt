@@ -1,13 +1,12 @@
-use Rattle.std.proofs.Common.{◌∙◌}
-use Rattle.yaml_conflicts.proofs.NodeLaws.{tag-eq, shape-then, shape-else}
+use Rattle.std.proofs.Common.{sym, ◌∙◌}
+use Rattle.yaml_store_rank.specs.Forests.{held_shown}
+use Rattle.yaml_conflicts.proofs.NodeLaws.{node-shape}
 use Rattle.yaml_conflicts.proofs.shapes.are_one_shape.Goals as goal
 
 pub returns-then-eq : goal.returns-then-eq
 returns-then-eq c =
-    let t = tag-eq c.as_str.result.now c.as_str-2.result.now _ _ c.eq.result c.eq.ensures c.as_str.ensures.value c.as_str-2.ensures.value in
-    shape-then c.args.forests.now c.args.left.0 c.args.right.0 c.node-first.result.now c.node-second.result.now c.node-first.ensures c.node-second.ensures c.are_mappings.result (t ∙ c.if-eq.true) c.are_mappings.ensures
+    c.are_mappings.ensures ∙ node-shape c.args.forests.now c.laws.ensures c.args.left.0 c.args.right.0 (held_shown c.node-first.result) (held_shown c.node-second.result) _ c.node-first.ensures c.node-second.ensures (sym c.eq.ensures ∙ c.if-eq.true)
 
 pub returns-else-eq : goal.returns-else-eq
 returns-else-eq c =
-    let t = tag-eq c.as_str.result.now c.as_str-2.result.now _ _ c.eq.result c.eq.ensures c.as_str.ensures.value c.as_str-2.ensures.value in
-    shape-else c.args.forests.now c.args.left.0 c.args.right.0 c.node-first.result.now c.node-second.result.now c.node-first.ensures c.node-second.ensures c.eq.result (t ∙ c.if-eq.false) c.if-eq.false
+    c.if-eq.false ∙ node-shape c.args.forests.now c.laws.ensures c.args.left.0 c.args.right.0 (held_shown c.node-first.result) (held_shown c.node-second.result) _ c.node-first.ensures c.node-second.ensures (sym c.eq.ensures ∙ c.if-eq.false)

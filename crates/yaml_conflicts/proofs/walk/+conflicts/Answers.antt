@@ -43,7 +43,7 @@ conflicts-requires t c =
     let values = c.values_at-values.result in
     let b = c.values_at-values.ensures.below in
     let a = total-less g s values (sym c.is_open.ensures ∙ c.if-not-is_open.false) b in
-    (omega (arith, a), (parts-within g s values b c.requires.within, c.requires.ranked))
+    (omega (arith, a), parts-within g s values b c.requires.within)
 
 pub loop-key-preserved : goal.loop-key-preserved
 loop-key-preserved t c =
