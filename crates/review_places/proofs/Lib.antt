@@ -4,6 +4,4 @@ mod Lists
 mod NodeLaws
 mod LayoutLaws
 mod AliasLaws
-mod KeyLaws
-mod RankLaws
 mod SeatLaws

@@ -1,42 +1,40 @@
 //! Where the nodes of differences stand.
-ghost use Rattle.std.specs.Prelude.{◌≡◌, ◌+◌, ◌*◌, ◌∷◌, [], ℕ, Some, None, length, nat_lt, slice_get, option_map, IfOk, IfSome, IfNone};
+ghost use Rattle.std.specs.Prelude.{◌≡◌, ◌<◌, ◌+◌, ◌*◌, ◌∷◌, [], ℕ, Some, None, length, map, nat_lt, slice_get, option_map, IfSome, IfNone};
 ghost use Rattle.yaml_tree.specs.declared.node.NodeId.{NodeId};
-ghost use Rattle.yaml_diff.specs.Found.{HasEntries};
+ghost use Rattle.yaml_store_rank.specs.Forests.{count, entries_at};
 ghost use Rattle.review_places.specs.Layout.{offsets_of, alias_events, node_numbers, node_told};
-ghost use Rattle.review_places.specs.Seats.{layout_of, both_of, place_on, IsRanked, IsValue, LeadsDown, IsRoot, IsPart, IsEnd, EndsNowhere, IsSeat, HasNoSeat, SameStream};
+ghost use Rattle.review_places.specs.Seats.{layout_of, forests_of, place_on, IsValue, LeadsDown, IsRoot, IsPart, IsEnd, EndsNowhere, IsSeat, HasNoSeat};
 
-use crate::keys::Keys;
 use crate::layout::Layout;
-use review_text::Both;
-use std::alloc::{AllocError, Global};
 use yaml_diff::Step;
-use yaml_graph::node::NodeKind;
 use yaml_path::places::Places;
+use yaml_store_rank::RankedForests;
 use yaml_tree::node::NodeId;
+use yaml_tree::shown::Inside;
 
-/// One of the two streams.
+/// One of the two streams that are compared.
 #[derive(Clone, Copy)]
-pub enum Hand {
+pub enum Side {
     Left,
     Right,
 }
 
-impl Hand {
+impl Side {
     /// The place of an item on this side.
     fn place(self, places: Places) -> Option<usize>
         ensures { result ≡ place_on self places }
     {
         match self {
-            Hand::Left => places.left(),
-            Hand::Right => places.right(),
+            Side::Left => places.left(),
+            Side::Right => places.right(),
         }
     }
 }
 
-/// One stream of two in a graph: the roots of its documents.
+/// One stream of ranked forests: the roots of its documents.
 #[derive(Clone, Copy)]
 pub struct Stream<'g> {
-    pub hand: Hand,
+    pub side: Side,
     pub roots: &'g [NodeId],
 }
 
@@ -75,110 +73,96 @@ fn seat_of(layout: &Layout, event: usize, is_own: bool) -> Option<Seat>
 /// Where the nodes of one stream stand.
 #[derive(Drop)]
 pub struct Finder<'g> {
+    forests: &'g RankedForests<'g>,
     stream: Stream<'g>,
     layout: Layout,
-    keys: Keys<'g>,
 }
 
 impl<'g> Finder<'g> {
     /// For a stream of this layout.
-    pub fn new(alloc: Global, both: &'g Both<'g>, stream: Stream<'g>, layout: Layout) -> Finder<'g>
-        ensures both { both_of result ≡ both.now }
+    pub fn new(forests: &'g RankedForests<'g>, stream: Stream<'g>, layout: Layout) -> Finder<'g>
+        ensures forests { forests_of result ≡ forests.now }
         ensures stream { result.stream ≡ stream.entry }
         ensures layout { layout_of result ≡ layout }
     {
         Finder {
+            forests,
             stream,
             layout,
-            keys: Keys::new(alloc, both),
         }
     }
 
     /// The value of a key in a mapping of these entries, and its number among the parts. The key there may be another node of its rank.
     fn value(
-        &mut self,
-        alloc: Global,
+        &self,
         mapping: NodeId,
         entries: &[(NodeId, NodeId)],
         key: NodeId,
-    ) -> Result<Option<(NodeId, usize)>, AllocError>
-        requires { HasEntries (both_of self.now).graph mapping.0 entries.now }
-        ensures same { SameStream self.old self.new }
-        ensures some { IfOk result (λ found. IfSome found (λ value. IsValue (both_of self.old) mapping key value.0 value.1)) }
-        ensures none { IfOk result (λ found. IfNone found ((part : NodeId) (number : ℕ) → IsValue (both_of self.old) mapping key part number → ⊥)) }
+    ) -> Option<(NodeId, usize)>
+        requires within { mapping.0 < count (forests_of self.now) }
+        requires entries { map (λ p. (p.0.0, p.1.0)) entries.now ≡ entries_at (forests_of self.now) mapping.0 }
+        ensures some { IfSome result (λ value. IsValue (forests_of self.now) mapping key value.0 value.1) }
+        ensures none { IfNone result ((part : NodeId) (number : ℕ) → IsValue (forests_of self.now) mapping key part number → ⊥) }
     {
-        let Some(rank) = self.keys.both.rank(key) else {
-            return Ok(None);
-        };
-        match self.keys.place(alloc, mapping, entries, rank)? {
-            Some(place) => Ok(value_at(entries, place)),
-            None => Ok(None),
+        self.forests.laws();
+        if key.0 >= self.forests.len() {
+            return None;
+        }
+        match self.forests.find(mapping, self.forests.rank(key)) {
+            Some(place) => value_at(entries, place),
+            None => None,
         }
     }
 
     /// The part to which a step leads, and its number among the parts of its node.
-    fn step_down(
-        &mut self,
-        alloc: Global,
-        node: NodeId,
-        step: Step,
-    ) -> Result<Option<(NodeId, usize)>, AllocError>
-        ensures same { SameStream self.old self.new }
-        ensures down { IfOk result (λ found. IfSome found (λ part. LeadsDown (both_of self.old) self.old.stream.hand step node part.0 part.1)) }
-        ensures none { IfOk result (λ found. IfNone found ((part : NodeId) (number : ℕ) → LeadsDown (both_of self.old) self.old.stream.hand step node part number → ⊥)) }
+    fn step_down(&self, node: NodeId, step: Step) -> Option<(NodeId, usize)>
+        ensures down { IfSome result (λ part. LeadsDown (forests_of self.now) self.now.stream.side step node part.0 part.1) }
+        ensures none { IfNone result ((part : NodeId) (number : ℕ) → LeadsDown (forests_of self.now) self.now.stream.side step node part number → ⊥) }
     {
-        let Some(whole) = self.keys.both.node(node) else {
-            return Ok(None);
+        let Some(shown) = self.forests.get(node) else {
+            return None;
         };
-        match (&whole.kind, step) {
-            (NodeKind::Sequence(items), Step::Item(places)) => {
-                Ok(item_at(items, self.stream.hand.place(places)))
+        match (shown.inside, step) {
+            (Inside::Sequence(items), Step::Item(places)) => {
+                item_at(items, self.stream.side.place(places))
             }
-            (NodeKind::Mapping(entries), Step::Value(key)) => self.value(alloc, node, entries, key),
-            _ => Ok(None),
+            (Inside::Mapping(entries), Step::Value(key)) => self.value(node, entries, key),
+            _ => None,
         }
     }
 
     /// The node and the event of a document's root.
     fn root(&self, step: Step) -> Option<(NodeId, usize)>
-        ensures root { IfSome result (λ root. IsRoot (both_of self.now) self.now.stream self.now.layout step root.0 root.1) }
-        ensures none { IfNone result ((node : NodeId) (event : ℕ) → IsRoot (both_of self.now) self.now.stream self.now.layout step node event → ⊥) }
+        ensures root { IfSome result (λ root. IsRoot (forests_of self.now) self.now.stream self.now.layout step root.0 root.1) }
+        ensures none { IfNone result ((node : NodeId) (event : ℕ) → IsRoot (forests_of self.now) self.now.stream self.now.layout step node event → ⊥) }
     {
         let Step::Item(places) = step else {
             return None;
         };
-        let document = self.stream.hand.place(places)?;
+        let document = self.stream.side.place(places)?;
         let node = root_at(self.stream.roots, document)?;
         Some((node, self.layout.root(document)?))
     }
 
     /// The same, and whether the event is no alias.
     fn begin(&self, step: Step) -> Option<(NodeId, usize, bool)>
-        ensures leads { IfSome result (λ end. IsEnd (both_of self.now) self.now.stream self.now.layout (step ∷ []) end.0 end.1 end.2) }
-        ensures none { IfNone result ((node : NodeId) (event : ℕ) → IsRoot (both_of self.now) self.now.stream self.now.layout step node event → ⊥) }
+        ensures leads { IfSome result (λ end. IsEnd (forests_of self.now) self.now.stream self.now.layout (step ∷ []) end.0 end.1 end.2) }
+        ensures none { IfNone result ((node : NodeId) (event : ℕ) → IsRoot (forests_of self.now) self.now.stream self.now.layout step node event → ⊥) }
     {
         let (node, event) = self.root(step)?;
         Some((node, event, !self.layout.is_alias(event)))
     }
 
     /// The part to which one more step leads from a node, and the event that begins it or stands for it.
-    fn further(
-        &mut self,
-        alloc: Global,
-        node: NodeId,
-        event: usize,
-        step: Step,
-    ) -> Result<Option<(NodeId, usize)>, AllocError>
-        ensures same { SameStream self.old self.new }
-        ensures leads { IfOk result (λ found. IfSome found (λ part. IsPart (both_of self.old) self.old.stream self.old.layout step node event part.0 part.1)) }
-        ensures none { IfOk result (λ found. IfNone found (IsRanked (both_of self.old) → (part : NodeId) (below : ℕ) → IsPart (both_of self.old) self.old.stream self.old.layout step node event part below → ⊥)) }
+    fn further(&self, node: NodeId, event: usize, step: Step) -> Option<(NodeId, usize)>
+        ensures leads { IfSome result (λ part. IsPart (forests_of self.now) self.now.stream self.now.layout step node event part.0 part.1) }
+        ensures none { IfNone result ((part : NodeId) (below : ℕ) → IsPart (forests_of self.now) self.now.stream self.now.layout step node event part below → ⊥) }
     {
-        let Some(part) = self.step_down(alloc, node, step)? else {
-            return Ok(None);
-        };
+        self.forests.laws();
+        let part = self.step_down(node, step)?;
         match self.layout.below(event, part.1) {
-            Some(below) => Ok(Some((part.0, below))),
-            None => Ok(None),
+            Some(below) => Some((part.0, below)),
+            None => None,
         }
     }
 
@@ -190,44 +174,29 @@ impl<'g> Finder<'g> {
     }
 
     /// The node and the event to which a path leads, the last step first; and whether no alias is on the way.
-    fn walk(
-        &mut self,
-        alloc: Global,
-        path: &[Step],
-    ) -> Result<Option<(NodeId, usize, bool)>, AllocError>
-        ensures same { SameStream self.old self.new }
-        ensures leads { IfOk result (λ found. IfSome found (λ end. IsEnd (both_of self.old) self.old.stream self.old.layout path.now end.0 end.1 end.2)) }
-        ensures none { IfOk result (λ found. IfNone found (EndsNowhere (both_of self.old) self.old.stream self.old.layout path.now)) }
+    fn walk(&self, path: &[Step]) -> Option<(NodeId, usize, bool)>
+        ensures leads { IfSome result (λ end. IsEnd (forests_of self.now) self.now.stream self.now.layout path.now end.0 end.1 end.2) }
+        ensures none { IfNone result (EndsNowhere (forests_of self.now) self.now.stream self.now.layout path.now) }
     {
-        let Some((step, rest)) = path.split_first() else {
-            return Ok(None);
-        };
+        self.forests.laws();
+        let (step, rest) = path.split_first()?;
         if rest.is_empty() {
-            return Ok(self.begin(*step));
+            return self.begin(*step);
         }
-        let Some(above) = self.walk(alloc, rest)? else {
-            return Ok(None);
-        };
-        let Some(part) = self.further(alloc, above.0, above.1, *step)? else {
-            return Ok(None);
-        };
+        let above = self.walk(rest)?;
+        let part = self.further(above.0, above.1, *step)?;
         let is_own = above.2 && !self.layout.is_alias(part.1);
-        Ok(Some((part.0, part.1, is_own)))
+        Some((part.0, part.1, is_own))
     }
 
     /// Where the node stands to which a path leads, which has its last step first; nowhere where none leads.
-    ///
-    /// # Errors
-    /// `OutOfMemory`
-    pub fn seat(&mut self, alloc: Global, path: &[Step]) -> Result<Option<Seat>, AllocError>
-        ensures seat { IfOk result (λ found. IfSome found (IsSeat self.old path.now)) }
-        ensures none { IfOk result (λ found. IfNone found (HasNoSeat self.old path.now)) }
-        ensures same { SameStream self.old self.new }
+    pub fn seat(&self, path: &[Step]) -> Option<Seat>
+        ensures seat { IfSome result (IsSeat self.now path.now) }
+        ensures none { IfNone result (HasNoSeat self.now path.now) }
     {
-        let Some(end) = self.walk(alloc, path)? else {
-            return Ok(None);
-        };
-        Ok(seat_of(&self.layout, end.1, end.2))
+        self.forests.laws();
+        let end = self.walk(path)?;
+        seat_of(&self.layout, end.1, end.2)
     }
 }
 

@@ -2,7 +2,6 @@
 #![tactic(auto)]
 
 pub mod finder;
-mod keys;
 pub mod layout;
 pub mod places;
 pub mod trace;
