@@ -1,5 +1,5 @@
 -- The entries of a mapping of ranked forests, written in the order of their keys.
-use Rattle.std.proofs.Common.{◌≡◌, ℕ, ◌+◌, ◌<◌, List, ◌∷◌, [], ◌++◌, length, sym, subst, arith}
+use Rattle.std.proofs.Common.{◌≡◌, ℕ, ◌+◌, List, ◌∷◌, [], ◌++◌, sym, subst}
 use Rattle.std.specs.Prelude.{Some}
 use Rattle.std.specs.List.{slice_get}
 use Rattle.std.specs.Str.{encode_utf8_all}
@@ -8,7 +8,7 @@ use Rattle.yaml_tree.proofs.Numbering.{get-within}
 use Rattle.yaml_store_rank.specs.Forests.{Forests, tree}
 use Rattle.yaml_store_rank.specs.ArrangedForests.{two_arranged}
 use Rattle.review_text.specs.Fills.{Fills}
-use Rattle.review_text.specs.NodeText.{text_of, arranged_text, separator}
+use Rattle.review_text.specs.NodeText.{text_of, separator}
 use Rattle.review_text.proofs.NodeLaws.{Alike, entries_left, entries_step}
 
 -- the entry at this place is written

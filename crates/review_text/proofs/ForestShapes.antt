@@ -1,13 +1,13 @@
 -- Nodes of ranked forests: their trees, and their entries in the order of keys.
-use Rattle.std.proofs.Common.{◌≡◌, ℕ, zero, suc, ◌<◌, ◌≤◌, List, [], ◌∷◌, Bor, length, map, get_or, refl, sym, ◌∙◌, ap, subst, arith}
+use Rattle.std.proofs.Common.{◌≡◌, ℕ, ◌<◌, ◌≤◌, List, [], Bor, length, map, sym, ◌∙◌, ap, subst, arith}
 use Rattle.std.specs.Prelude.{Some}
 use Rattle.std.specs.List.{slice_get, All}
 use Rattle.std.proofs.lemmas.List.{get_or_past, length-map}
 use Rattle.std.proofs.lemmas.Option.{get_or_from_slice_get}
-use Rattle.yaml_definitions.specs.model.Tree.{Tree, scalar, sequence, mapping}
+use Rattle.yaml_definitions.specs.model.Tree.{scalar, sequence, mapping}
 use Rattle.yaml_definitions.specs.model.Order.{arranged}
 use Rattle.yaml_tree.specs.TreeLists.{trees, pairs}
-use Rattle.yaml_tree.specs.View.{inside_tree, items}
+use Rattle.yaml_tree.specs.View.{items}
 use Rattle.yaml_tree.specs.Insides.{trees_held}
 use Rattle.yaml_tree.specs.Shown.{inside_shown}
 use Rattle.yaml_tree.specs.declared.node.NodeId.{NodeId}
@@ -21,7 +21,8 @@ use Rattle.yaml_tree.proofs.RankOrder.{arranged-items}
 use Rattle.yaml_store_rank.specs.Forests.{Forests, count, tree, rank, held_shown, entries_held, entries_at, InKeyOrder, IsRanked}
 use Rattle.yaml_store_rank.specs.ArrangedForests.{two_arranged}
 use Rattle.yaml_store_rank.proofs.ArrangedForests.{mapping-arranged}
-use Rattle.yaml_store_rank.proofs.ForestTrees.{tree-held}
+use Rattle.yaml_store_rank.proofs.ForestTrees.{scalar-shown, sequence-shown}
+use Rattle.yaml_store_rank.proofs.KeyOrderLaws.{unmap}
 
 -- a number that no node has stands for an empty scalar
 pub none-there : (f : Forests) (i : ℕ) → count f ≤ i → tree f i ≡ scalar [] []
@@ -36,31 +37,17 @@ module _ (f : Forests) (are : IsRanked f) where
     held : (x : Part NodeId) → s.inside ≡ x → slice_get f.nodes i ≡ Some (s.tag.now, inside_shown (λ j. j.0) x)
     held x e = there ∙ ap (λ z. Some (s.tag.now, inside_shown (λ j. j.0) z)) e
 
-    pub shape-there : (x : Part NodeId) → s.inside ≡ x → tree f i ≡ inside_tree (tree f) s.tag.now (inside_shown (λ j. j.0) x)
-    shape-there x e = tree-held f are i (s.tag.now, inside_shown (λ j. j.0) x) (held x e)
-
     pub scalar-there : (x : Bor (List ℕ)) → s.inside ≡ shown.Scalar x → arranged (tree f i) ≡ scalar s.tag.now x.now
     unfolding arranged
-    scalar-there x e = ap arranged (shape-there (shown.Scalar x) e)
+    scalar-there x e = ap arranged (scalar-shown f are i s there x e)
 
     pub sequence-there : (xs : Bor (List NodeId)) → s.inside ≡ shown.Sequence xs → arranged (tree f i) ≡ sequence s.tag.now (trees (map (λ j. arranged (tree f j.0)) xs.now))
     unfolding arranged
-    sequence-there xs e =
-        ap arranged (shape-there (shown.Sequence xs) e)
-        ∙ ap (sequence s.tag.now) (arranged-items (tree f) (map (λ j. j.0) xs.now) ∙ ap trees (by-number xs.now))
-      where
-        by-number : (ys : List NodeId) → map (λ j. arranged (tree f j)) (map (λ j. j.0) ys) ≡ map (λ j. arranged (tree f j.0)) ys
-        by-number [] = refl
-        by-number (y ∷ ys) = ap (λ z. arranged (tree f y.0) ∷ z) (by-number ys)
+    sequence-there xs e = ap arranged (sequence-shown f are i s there xs e) ∙ ap (sequence s.tag.now) (arranged-items (λ j. tree f j.0) xs.now)
 
     -- its items stand before it
     pub items-below : (xs : Bor (List NodeId)) → s.inside ≡ shown.Sequence xs → All (λ j. j.0 < i) xs.now
-    items-below xs e = of-map xs.now (are.below i (s.tag.now, items (map (λ j. j.0) xs.now)) (held (shown.Sequence xs) e)).0
-      where
-        of-map : (ys : List NodeId) → All (λ j. j < i) (map (λ j. j.0) ys) → (k : ℕ) (d : NodeId) → k < length ys → (get_or ys k d).0 < i
-        of-map [] a k d l = absurd (omega arith)
-        of-map (y ∷ ys) a zero d l = a 0 y.0 (omega arith)
-        of-map (y ∷ ys) a (suc k) d l = of-map ys (λ j e h. a (suc j) e (omega arith)) k d (omega arith)
+    items-below xs e = unmap (λ j. j.0) (λ j. j < i) xs.now (are.below i (s.tag.now, items (map (λ j. j.0) xs.now)) (held (shown.Sequence xs) e)).0
 
     entries-there : (xs : Bor (List (NodeId × NodeId))) → s.inside ≡ shown.Mapping xs → entries_at f i ≡ map (λ p. (p.0.0, p.1.0)) xs.now
     entries-there xs e = ap entries_held (held (shown.Mapping xs) e)

@@ -9,11 +9,12 @@ use Rattle.yaml_tree.specs.declared.shown.Shown.{Shown}
 use Rattle.yaml_tree.specs.declared.shown.Inside.{Inside}
 use Rattle.yaml_tree.specs.declared.shown.Inside.TheVariants as shown
 use Rattle.yaml_store_rank.specs.Forests.{Forests, count, tree, held_shown, IsRanked}
+use Rattle.yaml_store_rank.proofs.ForestTrees.{tree-shown}
 use Rattle.review_text.specs.Shown as cut
 use Rattle.review_text.specs.NodeText.{text_of}
 use Rattle.review_text.specs.PathText.{is_name, key_text, bracketed, whole_limit}
 use Rattle.std.proofs.lemmas.List.{append-nil}
-use Rattle.review_text.proofs.ForestShapes.{none-there, shape-there}
+use Rattle.review_text.proofs.ForestShapes.{none-there}
 
 abbrev pub in_brackets : Tree → List ℕ
 in_brackets t = bracketed (cut.shown whole_limit (text_of t))
@@ -40,10 +41,10 @@ module _ (f : Forests) (i : ℕ) where
 
   module _ (are : IsRanked f) (s : Shown NodeId) (there : slice_get f.nodes i ≡ Some (held_shown s)) where
     pub scalar_named : (x : Bor (List ℕ)) → s.inside ≡ shown.Scalar x → (bytes_eq s.tag.now str_tag && is_name x.now) ≡ true → key_text (tree f i) ≡ codes "." ++ x.now
-    scalar_named x e h = ap key_text (shape-there f are i s there (shown.Scalar x) e) ∙ named s.tag.now x.now h
+    scalar_named x e h = ap key_text (tree-shown f are i s there (shown.Scalar x) e) ∙ named s.tag.now x.now h
 
     pub scalar_bracketed : (x : Bor (List ℕ)) → s.inside ≡ shown.Scalar x → (bytes_eq s.tag.now str_tag && is_name x.now) ≡ false → key_text (tree f i) ≡ in_brackets (tree f i)
-    scalar_bracketed x e h = subst (λ t. key_text t ≡ in_brackets t) (sym (shape-there f are i s there (shown.Scalar x) e)) (unnamed s.tag.now x.now h)
+    scalar_bracketed x e h = subst (λ t. key_text t ≡ in_brackets t) (sym (tree-shown f are i s there (shown.Scalar x) e)) (unnamed s.tag.now x.now h)
 
     pub other_bracketed : ((x : Bor (List ℕ)) → s.inside ≡ shown.Scalar x → ⊥) → key_text (tree f i) ≡ in_brackets (tree f i)
     unfolding key_text
@@ -57,5 +58,5 @@ module _ (f : Forests) (i : ℕ) where
 
         by : (x : Inside NodeId) → s.inside ≡ x → key_text (tree f i) ≡ in_brackets (tree f i)
         by (shown.Scalar x) e = absurd (other x e)
-        by (shown.Sequence xs) e = subst (λ t. key_text t ≡ in_brackets t) (sym (shape-there f are i s there (shown.Sequence xs) e)) (sequence-bracketed s.tag.now _)
-        by (shown.Mapping xs) e = subst (λ t. key_text t ≡ in_brackets t) (sym (shape-there f are i s there (shown.Mapping xs) e)) (mapping-bracketed s.tag.now _)
+        by (shown.Sequence xs) e = subst (λ t. key_text t ≡ in_brackets t) (sym (tree-shown f are i s there (shown.Sequence xs) e)) (sequence-bracketed s.tag.now _)
+        by (shown.Mapping xs) e = subst (λ t. key_text t ≡ in_brackets t) (sym (tree-shown f are i s there (shown.Mapping xs) e)) (mapping-bracketed s.tag.now _)

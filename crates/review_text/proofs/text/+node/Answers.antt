@@ -1,6 +1,4 @@
-use Rattle.std.proofs.Common.{refl, sym, ap, ◌∙◌, arith, subst, map, length, ◌<◌}
-use Rattle.yaml_tree.specs.TreeLists.{trees, pairs}
-use Rattle.yaml_definitions.specs.model.Tree.{sequence, mapping}
+use Rattle.std.proofs.Common.{refl, sym, ap, arith, subst, length, ◌<◌}
 use Rattle.yaml_definitions.specs.model.Order.{arranged}
 use Rattle.review_text.specs.NodeText.{text_of}
 use Rattle.yaml_definitions.specs.model.Tag.{core_tag}
