@@ -13,8 +13,7 @@ use Rattle.review_folds.specs.Moves.{Groups}
 use Rattle.review_folds.specs.declared.moves.Group.{Group}
 use Rattle.review_folds.specs.Labels.{label, AreKeys}
 use Rattle.review_folds.specs.declared.keys.Keys.{Keys}
-use Rattle.review_text.specs.declared.both.Both.{Both}
-use Rattle.yaml_graph.specs.declared.graph.Graph.{Graph}
+use Rattle.yaml_store_rank.specs.Forests.{Forests}
 use Rattle.yaml_path.specs.Ways.{Way}
 use Rattle.yaml_path.specs.declared.places.Places.{Places}
 use Rattle.yaml_diff.specs.Lines.{way_of, step_of, line_of}
@@ -38,16 +37,16 @@ no-groups : (folds ranges : Bool) (f : Found) (end : ℕ) (gs : List Group) → 
 no-groups folds ranges f end [] e h = refl
 no-groups folds ranges f end (g ∷ gs) e h = let r = groups-rise folds ranges f g.end end gs h.3 in absurd (omega (arith, e, h.0, h.1, r))
 
-no-lines : (labels : Bool) (both : Both) (asked : Diff) (moves : List Move) (ls : List Line) → TellsGroups labels both asked moves [] ls → ls ≡ []
-no-lines labels both asked moves [] h = refl
-no-lines labels both asked moves (l ∷ ls) h = absurd h
+no-lines : (labels : Bool) (g : Forests) (asked : Diff) (moves : List Move) (ls : List Line) → TellsGroups labels g asked moves [] ls → ls ≡ []
+no-lines labels g asked moves [] h = refl
+no-lines labels g asked moves (l ∷ ls) h = absurd h
 
 -- without moves there is no line, and none is left out
-pub moves_none : (columns : Bool) (both : Both) (asked : Diff) (f : Found) (room : ℕ) (ls : List Line) (untold : ℕ) → f.moves.items ≡ [] → TellsMoves columns both asked f room ls untold → (ls ≡ []) × (untold ≡ 0)
-moves_none columns both asked f room ls untold m t =
+pub moves_none : (columns : Bool) (g : Forests) (asked : Diff) (f : Found) (room : ℕ) (ls : List Line) (untold : ℕ) → f.moves.items ≡ [] → TellsMoves columns g asked f room ls untold → (ls ≡ []) × (untold ≡ 0)
+moves_none columns g asked f room ls untold m t =
     let none = no-groups (columns && asked.folds) (is_plain asked.paths) f (length f.moves.items) t.groups (ap length m) t.grouped in
     let many = ap length m in (
-      no-lines columns both asked f.moves.items ls (subst (λ z. TellsGroups columns both asked f.moves.items z ls) (ap (take room) none ∙ none-taken room) t.each),
+      no-lines columns g asked f.moves.items ls (subst (λ z. TellsGroups columns g asked f.moves.items z ls) (ap (take room) none ∙ none-taken room) t.each),
       omega (arith, t.others, many),
     )
   where
@@ -57,11 +56,11 @@ moves_none columns both asked f room ls untold m t =
 
 -- ---- paths
 
-way-length : (g : Graph) (steps : List code.Step) → length (way_of g steps) ≡ length steps
+way-length : (g : Forests) (steps : List code.Step) → length (way_of g steps) ≡ length steps
 way-length g steps = length-reverse (map (step_of g) steps) ∙ length-map steps (step_of g)
 
 -- the document alone has nothing before the step to an item, where its number is not told
-pub before_alone : (g : Graph) (steps : List code.Step) (numbered : Bool) (text : List ℕ) → length steps ≡ 1 → numbered ≡ false → text ≡ [] → text ≡ before_text numbered (way_of g steps)
+pub before_alone : (g : Forests) (steps : List code.Step) (numbered : Bool) (text : List ℕ) → length steps ≡ 1 → numbered ≡ false → text ≡ [] → text ≡ before_text numbered (way_of g steps)
 before_alone g steps numbered text l n e = e ∙ subst (λ z. [] ≡ before_text z (way_of g steps)) (sym n) (by (way_of g steps) (way-length g steps ∙ l))
   where
     by : (w : Way) → length w ≡ 1 → [] ≡ before_text false w
@@ -73,7 +72,7 @@ not-alone : (b : Bool) → (b ≡ true → ⊥) → cond b (codes ".") [] ≡ []
 not-alone true h = absurd (h refl)
 not-alone false h = refl
 
-pub before_path : (g : Graph) (steps : List code.Step) (numbered : Bool) (text : List ℕ) → (length steps ≡ 1 → numbered ≡ false → ⊥) → text ≡ path_text numbered (way_of g steps) → text ≡ before_text numbered (way_of g steps)
+pub before_path : (g : Forests) (steps : List code.Step) (numbered : Bool) (text : List ℕ) → (length steps ≡ 1 → numbered ≡ false → ⊥) → text ≡ path_text numbered (way_of g steps) → text ≡ before_text numbered (way_of g steps)
 before_path g steps numbered text not e = e ∙ by numbered (way_of g steps) (λ q f. not (sym (way-length g steps) ∙ q) f)
   where
     by : (b : Bool) (w : Way) → (length w ≡ 1 → b ≡ false → ⊥) → path_text b w ≡ before_text b w
@@ -82,11 +81,11 @@ before_path g steps numbered text not e = e ∙ by numbered (way_of g steps) (λ
     by false (s ∷ []) h = absurd (h refl refl)
     by false (s ∷ t ∷ w) h = ap (λ z. z ++ flat_map step_text (t ∷ w)) (not-alone (suc (length w) == 0) (λ q. let z = eqb-true (suc (length w)) 0 q in absurd (omega (arith, z))))
 
-pub range_empty : (g : Graph) (steps : List code.Step) (numbered : Bool) (s : code.Step) (z : Places) (before text : List ℕ) → steps ≡ [] → before ≡ before_text numbered (way_of g steps) → text ≡ before ++ range_of s z → text ≡ range_path numbered s z (way_of g steps)
+pub range_empty : (g : Forests) (steps : List code.Step) (numbered : Bool) (s : code.Step) (z : Places) (before text : List ℕ) → steps ≡ [] → before ≡ before_text numbered (way_of g steps) → text ≡ before ++ range_of s z → text ≡ range_path numbered s z (way_of g steps)
 range_empty g steps numbered s z before text e b t =
     t ∙ ap (λ y. y ++ range_of s z) b ∙ subst (λ y. before_text numbered (way_of g y) ++ range_of s z ≡ range_path numbered s z (way_of g y)) (sym e) refl
 
-pub range_some : (g : Graph) (steps : List code.Step) (numbered : Bool) (s : code.Step) (z : Places) (before text : List ℕ) → (steps ≡ [] → ⊥) → before ≡ before_text numbered (way_of g steps) → text ≡ before ++ bracketed (range_of s z) → text ≡ range_path numbered s z (way_of g steps)
+pub range_some : (g : Forests) (steps : List code.Step) (numbered : Bool) (s : code.Step) (z : Places) (before text : List ℕ) → (steps ≡ [] → ⊥) → before ≡ before_text numbered (way_of g steps) → text ≡ before ++ bracketed (range_of s z) → text ≡ range_path numbered s z (way_of g steps)
 range_some g steps numbered s z before text not b t = t ∙ ap (λ y. y ++ bracketed (range_of s z)) b ∙ by steps (way_of g steps) (way-length g steps) not
   where
     by : (xs : List code.Step) (w : Way) → length w ≡ length xs → (xs ≡ [] → ⊥) → before_text numbered w ++ bracketed (range_of s z) ≡ range_path numbered s z w
@@ -94,7 +93,7 @@ range_some g steps numbered s z before text not b t = t ∙ ap (λ y. y ++ brack
     by (x ∷ xs) [] l n = absurd (omega (arith, l))
     by (x ∷ xs) (t ∷ w) l n = refl
 
-module _ (paths : Paths) (numbered : Bool) (g : Graph) where
+module _ (paths : Paths) (numbered : Bool) (g : Forests) where
   pub list_pasted : (list : List code.Step) (text : List ℕ) → is_plain paths ≡ false → text ≡ path_as paths numbered None None (way_of g list) → text ≡ list_path paths numbered (way_of g list)
   list_pasted list text p e = e ∙ by paths (way_of g list) p
     where
@@ -150,17 +149,17 @@ first_some moves group x d s p l r = record { is = λ m e. pair ∙ ap (λ z. mo
     pair : line_of d ≡ moved_line (move_line_of x)
     pair = ap (λ z. (z, (d.left, d.right))) p ∙ ap (λ z. (Item x.places ∷ x.path.items, (z, d.right))) l ∙ ap (λ z. (Item x.places ∷ x.path.items, (None, z))) r
 
-pub group_told : (labels : Bool) (both : Both) (asked : Diff) (moves : List Move) (group : Group) (d : Difference) (seen again : List code.Step) (last : Option Places) (l : Line) → IsFirst moves group d → seen ≡ d.path.items → again ≡ d.path.items → last ≡ last_of moves group
-    → string_bytes l.path ≡ group_text asked.paths (is_numbered both) both.graph group.whole last seen → l.left ≡ None → l.right ≡ None → l.changes ≡ None → option_map string_bytes l.label ≡ cond labels (label both (room_of asked.whole) group again) None
-    → TellsMembers asked.form both.graph d l.members → l.count ≡ 1 → TellsGroup labels both asked moves group l
-group_told labels both asked moves group d seen again last l f s t z p a b c k m n = record {
+pub group_told : (labels : Bool) (g : Forests) (asked : Diff) (moves : List Move) (group : Group) (d : Difference) (seen again : List code.Step) (last : Option Places) (l : Line) → IsFirst moves group d → seen ≡ d.path.items → again ≡ d.path.items → last ≡ last_of moves group
+    → string_bytes l.path ≡ group_text asked.paths (is_numbered g) g group.whole last seen → l.left ≡ None → l.right ≡ None → l.changes ≡ None → option_map string_bytes l.label ≡ cond labels (label g (room_of asked.whole) group again) None
+    → TellsMembers asked.form g d l.members → l.count ≡ 1 → TellsGroup labels g asked moves group l
+group_told labels g asked moves group d seen again last l f s t z p a b c k m n = record {
   first = d;
   is_first = f;
-  path = p ∙ ap (group_text asked.paths (is_numbered both) both.graph group.whole last) s ∙ ap (λ y. group_text asked.paths (is_numbered both) both.graph group.whole y d.path.items) z;
+  path = p ∙ ap (group_text asked.paths (is_numbered g) g group.whole last) s ∙ ap (λ y. group_text asked.paths (is_numbered g) g group.whole y d.path.items) z;
   no_left = a;
   no_right = b;
   no_changes = c;
-  labelled = k ∙ ap (λ y. cond labels (label both (room_of asked.whole) group y) None) t;
+  labelled = k ∙ ap (λ y. cond labels (label g (room_of asked.whole) group y) None) t;
   members = m;
   one = n;
 }
@@ -168,11 +167,11 @@ group_told labels both asked moves group d seen again last l f s t z p a b c k m
 -- ---- labels
 
 -- a group has a label exactly where there are keys
-pub label_some : (both : Both) (keys : Option Keys) (k : Keys) (room shown : ℕ) (group : Group) (path : List code.Step) (r : Result (Option (String Global)) AllocError) → keys ≡ Some k → IfSome keys (AreKeys both) → shown ≡ room → IfOk r (λ told. AreKeys both k → option_map string_bytes told ≡ label both shown group path)
-    → IfOk r (λ told. option_map string_bytes told ≡ cond (is_some keys) (label both room group path) None)
-label_some both keys k room shown group path (Ok told) e a m h =
-    h (subst (λ z. IfSome z (AreKeys both)) e a) ∙ ap (λ z. label both z group path) m ∙ sym (ap (λ z. cond (is_some z) (label both room group path) None) e)
-label_some both keys k room shown group path (Err fault) e a m h = tt
+pub label_some : (g : Forests) (keys : Option Keys) (k : Keys) (room shown : ℕ) (group : Group) (path : List code.Step) (r : Result (Option (String Global)) AllocError) → keys ≡ Some k → IfSome keys (AreKeys g) → shown ≡ room → IfOk r (λ told. AreKeys g k → option_map string_bytes told ≡ label g shown group path)
+    → IfOk r (λ told. option_map string_bytes told ≡ cond (is_some keys) (label g room group path) None)
+label_some g keys k room shown group path (Ok told) e a m h =
+    h (subst (λ z. IfSome z (AreKeys g)) e a) ∙ ap (λ z. label g z group path) m ∙ sym (ap (λ z. cond (is_some z) (label g room group path) None) e)
+label_some g keys k room shown group path (Err fault) e a m h = tt
 
-pub label_none : (both : Both) (keys : Option Keys) (room : ℕ) (group : Group) (path : List code.Step) → keys ≡ None → None ≡ cond (is_some keys) (label both room group path) None
-label_none both keys room group path e = sym (ap (λ z. cond (is_some z) (label both room group path) None) e)
+pub label_none : (g : Forests) (keys : Option Keys) (room : ℕ) (group : Group) (path : List code.Step) → keys ≡ None → None ≡ cond (is_some keys) (label g room group path) None
+label_none g keys room group path e = sym (ap (λ z. cond (is_some z) (label g room group path) None) e)

@@ -1,33 +1,44 @@
--- The documents of either stream are nodes of the graph of both.
-use Rattle.std.proofs.Common.{◌≡◌, ℕ, zero, suc, ◌<◌, ◌≤◌, List, [], ◌∷◌, length, take, drop, get_or, sym, subst, arith, get_or-take}
+-- The documents of a stream, as nodes and as trees.
+use Rattle.std.proofs.Common.{◌≡◌, ℕ, ◌<◌, ◌||◌, List, [], ◌∷◌, map, sym, subst, ◌∙◌, ap, refl}
 use Rattle.std.specs.Prelude.{Some}
-use Rattle.std.specs.List.{All, slice_get}
-use Rattle.std.proofs.lemmas.List.{length-take-le}
+use Rattle.std.specs.List.{All, list_any, slice_get}
 use Rattle.std.proofs.lemmas.Option.{slice_get_within, get_or_from_slice_get}
-use Rattle.yaml_graph.specs.GraphView.{nodes_of, roots_of}
+use Rattle.yaml_definitions.specs.model.Tree.{Tree, sequence}
+use Rattle.yaml_tree.specs.TreeLists.{trees}
 use Rattle.yaml_tree.specs.declared.node.NodeId.{NodeId}
-use Rattle.yaml_graph.specs.declared.graph.Graph.{Graph}
-use Rattle.yaml_diff.specs.Found.{AllWithin}
-
-all_take : {X : Type 0} (P : X → Type 0) (xs : List X) (m k : ℕ) (d : X) → All P xs → m ≤ length xs → k < m → P (get_or (take m xs) k d)
-all_take P xs m k d h l q = rw get_or-take (h k d (omega arith))
-
-all_taken : {X : Type 0} (P : X → Type 0) (xs : List X) (m : ℕ) → All P xs → m ≤ length xs → All P (take m xs)
-all_taken P xs m h l = λ k d q. all_take P xs m k d h l (subst (λ z. k < z) (length-take-le m xs l) q)
-
-all_drop : {X : Type 0} (P : X → Type 0) (xs : List X) (m : ℕ) → All P xs → All P (drop m xs)
-all_drop P xs zero h = h
-all_drop P [] (suc m) h = h
-all_drop P (x ∷ xs) (suc m) h = all_drop P xs m (λ k d l. h (suc k) d (omega arith))
+use Rattle.yaml_store_rank.specs.KeyOrder.{numbers}
+use Rattle.yaml_store_rank.specs.Forests.{Forests, count, tree, documents_of, IsRanked}
+use Rattle.yaml_store_rank.proofs.KeyOrderLaws.{unmap}
+use Rattle.yaml_store_rank.proofs.ForestTrees.{documents-within}
+use Rattle.yaml_diff.specs.Found.{AllWithin, Finds, FindsItems}
+use Rattle.yaml_diff.specs.Lines.{tree_of, sequence_of}
+use Rattle.yaml_diff.specs.declared.difference.Found.{Found}
+use Rattle.review_lines.specs.Searched.{is_high, has_high, stream_tree, FindsStreams}
 
 all_sliced : {X : Type 0} (P : X → Type 0) (xs : List X) → All P xs → (k : ℕ) (x : X) → slice_get xs k ≡ Some x → P x
 all_sliced P xs h k x e = subst P (get_or_from_slice_get xs k x x e) (h k x (slice_get_within xs k x e))
 
-abbrev IsNode : Graph → NodeId → Type 0
-IsNode g i = i.0 < length (nodes_of g)
+module _ (g : Forests) (stream : ℕ) (roots : List NodeId) (are : numbers roots ≡ documents_of g stream) where
+  pub nodes_within : IsRanked g → All (λ i. i.0 < count g) roots
+  nodes_within h = unmap (λ (i : NodeId). i.0) (λ i. i < count g) roots (subst (All (λ i. i < count g)) (sym are) (documents-within g h stream))
 
-pub left_within : (g : Graph) (m : ℕ) (xs : List NodeId) → m ≤ length (roots_of g) → xs ≡ take m (roots_of g) → AllWithin g xs
-left_within g m xs l e = all_sliced (IsNode g) xs (subst (All (IsNode g)) (sym e) (all_taken (IsNode g) (roots_of g) m g.rooted l))
+  pub roots_within : IsRanked g → AllWithin g roots
+  roots_within h = all_sliced (λ i. i.0 < count g) roots (nodes_within h)
 
-pub right_within : (g : Graph) (m : ℕ) (xs : List NodeId) → xs ≡ drop m (roots_of g) → AllWithin g xs
-right_within g m xs e = all_sliced (IsNode g) xs (subst (All (IsNode g)) (sym e) (all_drop (IsNode g) (roots_of g) m g.rooted))
+  pub any_high : list_any (λ i. is_high g i.0) roots ≡ has_high g stream
+  any_high = by roots ∙ ap (list_any (is_high g)) are
+    where
+      by : (is : List NodeId) → list_any (λ i. is_high g i.0) is ≡ list_any (is_high g) (numbers is)
+      by [] = refl
+      by (i ∷ is) = ap (λ z. is_high g i.0 || z) (by is)
+
+  stream_is : (tag : List ℕ) → sequence_of g tag roots ≡ stream_tree g tag stream
+  stream_is tag = ap (λ z. Some (sequence tag (trees z))) (by roots ∙ ap (map (tree g)) are)
+    where
+      by : (is : List NodeId) → map (tree_of g) is ≡ map (tree g) (numbers is)
+      by [] = refl
+      by (i ∷ is) = ap (λ z. tree g i.0 ∷ z) (by is)
+
+-- what is found of the nodes is found of the streams
+pub streams_found : (g : Forests) (lefts rights : List NodeId) (room : ℕ) (f : Found) → numbers lefts ≡ documents_of g 0 → numbers rights ≡ documents_of g 1 → FindsItems g lefts rights room f → FindsStreams g room f
+streams_found g lefts rights room f l r h = λ tag. subst (λ z. Finds g (stream_tree g tag 0) z room f) (stream_is g 1 rights r tag) (subst (λ z. Finds g z (sequence_of g tag rights) room f) (stream_is g 0 lefts l tag) (h tag))

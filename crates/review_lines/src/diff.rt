@@ -2,8 +2,7 @@
 ghost use Rattle.std.specs.Prelude.{◌≡◌, ◌↔◌, ◌<◌, ◌≤◌, ◌&&◌, ◌==◌, ◌++◌, ◌-◌, true, false, not, length, map, take, drop, [], string_bytes, OnOk, IfOk};
 ghost use Rattle.std.specs.List.{sum_by};
 ghost use Rattle.yaml_definitions.specs.model.Same.{Alike};
-ghost use Rattle.yaml_graph.specs.GraphView.{roots_of, tree};
-ghost use Rattle.yaml_rank.specs.RanksView.{RanksAre};
+ghost use Rattle.yaml_store_rank.specs.Forests.{documents_of, tree};
 ghost use Rattle.yaml_diff.specs.Lines.{way_of};
 ghost use Rattle.review_lines.specs.Lines.{lines_text};
 ghost use Rattle.review_lines.specs.Stat.{stat_text};
@@ -21,27 +20,26 @@ use review_paths::{Members, members_of, pasted};
 use review_patterns::Pattern;
 use review_places::trace::Traced;
 use review_text::alike::{ascii_text, look_alike};
-use review_text::both::Both;
 use review_text::options::{Diff, Form, Paths};
 use review_text::path::path_text;
 use review_text::text::{CUT, WHOLE, node_text};
 use std::alloc::{AllocError, Global};
 use yaml_diff::{Difference, Found};
 use yaml_path::Place;
+use yaml_store_rank::RankedForests;
 use yaml_tree::node::NodeId;
 
 /// The text of a node, if there is one.
 fn shown(
     alloc: Global,
-    both: &Both<'_>,
+    forests: &RankedForests<'_>,
     id: Option<NodeId>,
     room: usize,
 ) -> Result<Option<String>, AllocError>
-    requires ranked { RanksAre both.now.graph both.now.ranks }
-    ensures ok { IfOk result (ShowsNode both.now.graph room id) }
+    ensures ok { IfOk result (ShowsNode forests.now room id) }
 {
     match id {
-        Some(id) => Ok(Some(node_text(alloc, both, id, room)?)),
+        Some(id) => Ok(Some(node_text(alloc, forests, id, room)?)),
         None => Ok(None),
     }
 }
@@ -71,17 +69,16 @@ impl Texts {
 /// The texts of both nodes as far as there is room.
 fn fronts(
     alloc: Global,
-    both: &Both<'_>,
+    forests: &RankedForests<'_>,
     difference: &Difference,
     room: usize,
 ) -> Result<Texts, AllocError>
-    requires ranked { RanksAre both.now.graph both.now.ranks }
-    ensures left { IfOk result (λ s. ShowsNode both.now.graph room difference.now.left s.left) }
-    ensures right { IfOk result (λ s. ShowsNode both.now.graph room difference.now.right s.right) }
+    ensures left { IfOk result (λ s. ShowsNode forests.now room difference.now.left s.left) }
+    ensures right { IfOk result (λ s. ShowsNode forests.now room difference.now.right s.right) }
 {
     Ok(Texts {
-        left: shown(alloc, both, difference.left, room)?,
-        right: shown(alloc, both, difference.right, room)?,
+        left: shown(alloc, forests, difference.left, room)?,
+        right: shown(alloc, forests, difference.right, room)?,
     })
 }
 
@@ -89,19 +86,18 @@ fn fronts(
 #[tactic(auto, using(crate::proofs::StringLaws::both_shown, crate::proofs::StringLaws::parts_shown))]
 fn shown_both(
     alloc: Global,
-    both: &Both<'_>,
+    forests: &RankedForests<'_>,
     difference: &Difference,
     room: usize,
     budget: &mut Budget,
 ) -> Result<Texts, AllocError>
-    requires ranked { RanksAre both.now.graph both.now.ranks }
-    ensures ok { IfOk result (λ s. ShowsBoth both.now.graph room difference.now s.left s.right) }
+    ensures ok { IfOk result (λ s. ShowsBoth forests.now room difference.now s.left s.right) }
 {
-    let texts = fronts(alloc, both, difference, room)?;
+    let texts = fronts(alloc, forests, difference, room)?;
     if !texts.is_one() {
         return Ok(texts);
     }
-    match differing_parts(alloc, both, difference, room, budget)? {
+    match differing_parts(alloc, forests, difference, room, budget)? {
         Some((left, right)) => Ok(Texts {
             left: Some(left),
             right: Some(right),
@@ -151,23 +147,22 @@ fn told_apart(alloc: Global, texts: Texts) -> Result<Texts, AllocError>
 #[tactic(auto, using(crate::proofs::StringLaws::apart_shown))]
 fn shown_apart(
     alloc: Global,
-    both: &Both<'_>,
+    forests: &RankedForests<'_>,
     difference: &Difference,
     room: usize,
     budget: &mut Budget,
 ) -> Result<Texts, AllocError>
-    requires ranked { RanksAre both.now.graph both.now.ranks }
-    ensures ok { IfOk result (λ s. ShowsApart both.now.graph room difference.now s.left s.right) }
+    ensures ok { IfOk result (λ s. ShowsApart forests.now room difference.now s.left s.right) }
 {
-    let texts = shown_both(alloc, both, difference, room, budget)?;
+    let texts = shown_both(alloc, forests, difference, room, budget)?;
     told_apart(alloc, texts)
 }
 
 /// Whether paths tell the number of the document: unless each side has one document.
-pub(crate) fn is_numbered(both: &Both<'_>) -> bool
-    ensures { result ≡ is_numbered both.now }
+pub(crate) fn is_numbered(forests: &RankedForests<'_>) -> bool
+    ensures { result ≡ is_numbered forests.now }
 {
-    !(both.documents == 1 && both.graph.roots().len() == 2)
+    !(forests.documents(0).len() == 1 && forests.documents(1).len() == 1)
 }
 
 /// Whether the left side has a node: unless only the right one has. Where a pair of items moved, both have.
@@ -193,37 +188,35 @@ fn has_right(difference: &Difference) -> bool
 /// The path of a difference in the form that is asked for.
 fn path_of(
     alloc: Global,
-    both: &Both<'_>,
+    forests: &RankedForests<'_>,
     difference: &Difference,
     paths: Paths,
 ) -> Result<String, AllocError>
-    requires ranked { RanksAre both.now.graph both.now.ranks }
-    ensures ok { IfOk result (λ s. string_bytes s ≡ path_as paths (is_numbered both.now) difference.now.left difference.now.right (way_of both.now.graph difference.now.path.items)) }
+    ensures ok { IfOk result (λ s. string_bytes s ≡ path_as paths (is_numbered forests.now) difference.now.left difference.now.right (way_of forests.now difference.now.path.items)) }
 {
-    let numbered = is_numbered(both);
+    let numbered = is_numbered(forests);
     let path = &difference.path;
     let (left, right) = (has_left(difference), has_right(difference));
     match paths {
-        Paths::Plain => path_text(alloc, both, path, numbered),
-        Paths::Jq => pasted(alloc, both, path, numbered, true, left, right),
-        Paths::JsonPointer => pasted(alloc, both, path, numbered, false, left, right),
+        Paths::Plain => path_text(alloc, forests, path, numbered),
+        Paths::Jq => pasted(alloc, forests, path, numbered, true, left, right),
+        Paths::JsonPointer => pasted(alloc, forests, path, numbered, false, left, right),
     }
 }
 
 /// What a program reads of a difference, where JSON is written.
 pub(crate) fn members_in(
     alloc: Global,
-    both: &Both<'_>,
+    forests: &RankedForests<'_>,
     difference: &Difference,
     form: Form,
     budget: &mut Budget,
 ) -> Result<Option<Members>, AllocError>
-    requires ranked { RanksAre both.now.graph both.now.ranks }
-    ensures ok { IfOk result (TellsMembers form both.now.graph difference.now) }
+    ensures ok { IfOk result (TellsMembers form forests.now difference.now) }
 {
     match form {
         Form::Line => Ok(None),
-        Form::Json => Ok(Some(members_of(alloc, both, difference, &mut budget.values)?)),
+        Form::Json => Ok(Some(members_of(alloc, forests, difference, &mut budget.values)?)),
     }
 }
 
@@ -231,21 +224,20 @@ pub(crate) fn members_in(
 #[tactic(auto, using(crate::proofs::StringLaws::one_told))]
 fn line_of(
     alloc: Global,
-    both: &Both<'_>,
+    forests: &RankedForests<'_>,
     difference: &Difference,
     asked: &Diff<'_>,
     places: (Option<Place>, Option<Place>),
     count: usize,
     budget: &mut Budget,
 ) -> Result<Line, AllocError>
-    requires ranked { RanksAre both.now.graph both.now.ranks }
-    ensures one { IfOk result (TellsOne both.now asked.now difference.now) }
+    ensures one { IfOk result (TellsOne forests.now asked.now difference.now) }
     ensures count { IfOk result (λ line. line.count ≡ count) }
 {
-    let path = path_of(alloc, both, difference, asked.paths)?;
-    let nodes = shown_apart(alloc, both, difference, room_of(asked.whole), budget)?;
-    let lines = changed_lines(alloc, both, difference, asked, budget)?;
-    let members = members_in(alloc, both, difference, asked.form, budget)?;
+    let path = path_of(alloc, forests, difference, asked.paths)?;
+    let nodes = shown_apart(alloc, forests, difference, room_of(asked.whole), budget)?;
+    let lines = changed_lines(alloc, forests, difference, asked, budget)?;
+    let members = members_in(alloc, forests, difference, asked.form, budget)?;
     Ok(Line {
         path,
         label: None,
@@ -262,15 +254,14 @@ fn line_of(
 /// The lines of the first differences, at most so many of those that have a line, with how many each tells.
 fn lines_with(
     alloc: Global,
-    both: &Both<'_>,
+    forests: &RankedForests<'_>,
     list: &[Difference],
     asked: &Diff<'_>,
     places: &Places,
     counts: &[usize],
 ) -> Result<Vec<Line>, AllocError>
-    requires ranked { RanksAre both.now.graph both.now.ranks }
     requires level { length counts.now ≡ length list.now }
-    ensures ok { IfOk result (λ lines. TellsEach both.now asked.now (take asked.now.lines (with_lines list.now counts.now)) lines.items) }
+    ensures ok { IfOk result (λ lines. TellsEach forests.now asked.now (take asked.now.lines (with_lines list.now counts.now)) lines.items) }
 {
     let mut lines = Vec::new(alloc);
     let mut budget = Budget::new();
@@ -281,7 +272,7 @@ fn lines_with(
                 place_at(&places.left, number),
                 place_at(&places.right, number),
             );
-            lines.push(line_of(alloc, both, difference, asked, at, count, &mut budget)?)?;
+            lines.push(line_of(alloc, forests, difference, asked, at, count, &mut budget)?)?;
         }
     }
     Ok(lines)
@@ -291,14 +282,13 @@ fn lines_with(
 #[tactic(auto, using(crate::proofs::CompareLaws::differences_told))]
 pub(crate) fn lines_of(
     alloc: Global,
-    both: &Both<'_>,
+    forests: &RankedForests<'_>,
     list: &[Difference],
     asked: &Diff<'_>,
     columns: bool,
     sides: Option<(Traced<'_>, Traced<'_>)>,
 ) -> Result<Vec<Line>, AllocError>
-    requires ranked { RanksAre both.now.graph both.now.ranks }
-    ensures ok { IfOk result (λ lines. TellsDifferences columns both.now asked.now list.now lines.items) }
+    ensures ok { IfOk result (λ lines. TellsDifferences columns forests.now asked.now list.now lines.items) }
 {
     let folds = columns && asked.folds;
     let sides = if list.is_empty() { None } else { sides };
@@ -308,9 +298,9 @@ pub(crate) fn lines_of(
     } else {
         list.get(..asked.lines).unwrap_or(list)
     };
-    let places = find_places(alloc, both, placed, sides, asked.lines)?;
+    let places = find_places(alloc, forests, placed, sides, asked.lines)?;
     let counts = counts(alloc, folds, list, &places.causes)?;
-    lines_with(alloc, both, list, asked, &places, &counts)
+    lines_with(alloc, forests, list, asked, &places, &counts)
 }
 
 /// How many differences no line tells.
@@ -370,18 +360,17 @@ fn is_line(form: Form) -> bool
 /// The lines of differences and moves as text.
 fn text_of(
     alloc: Global,
-    both: &Both<'_>,
+    forests: &RankedForests<'_>,
     asked: &Diff<'_>,
     sides: Option<(Traced<'_>, Traced<'_>)>,
     found: &Found,
 ) -> Result<String, AllocError>
-    requires ranked { RanksAre both.now.graph both.now.ranks }
-    ensures ok { IfOk result (λ text. TellsFound both.now asked.now found.now (string_bytes text)) }
+    ensures ok { IfOk result (λ text. TellsFound forests.now asked.now found.now (string_bytes text)) }
 {
     let columns = is_line(asked.form);
-    let lines = lines_of(alloc, both, &found.list, asked, columns, sides)?;
+    let lines = lines_of(alloc, forests, &found.list, asked, columns, sides)?;
     let room = asked.lines.saturating_sub(lines.len());
-    let moves = lines_of_moves(alloc, both, asked, sides, found, room, columns)?;
+    let moves = lines_of_moves(alloc, forests, asked, sides, found, room, columns)?;
     let mut text = String::new(alloc);
     put_each(alloc, &mut text, &lines, asked)?;
     put_each(alloc, &mut text, &moves.lines, asked)?;
@@ -393,36 +382,34 @@ fn text_of(
 #[tactic(auto, using(crate::proofs::CompareLaws::asked_none, crate::proofs::CompareLaws::asked_some))]
 fn asked_text(
     alloc: Global,
-    both: &Both<'_>,
+    forests: &RankedForests<'_>,
     asked: &Diff<'_>,
     sides: Option<(Traced<'_>, Traced<'_>)>,
     found: &Found,
 ) -> Result<String, AllocError>
-    requires ranked { RanksAre both.now.graph both.now.ranks }
-    ensures ok { IfOk result (λ text. TellsAsked asked.now.lines both.now asked.now found.now (string_bytes text)) }
+    ensures ok { IfOk result (λ text. TellsAsked asked.now.lines forests.now asked.now found.now (string_bytes text)) }
 {
     if asked.lines == 0 {
         return Ok(String::new(alloc));
     }
-    text_of(alloc, both, asked, sides, found)
+    text_of(alloc, forests, asked, sides, found)
 }
 
 /// The same, or how many differences of each kind there are.
 fn told_text(
     alloc: Global,
-    both: &Both<'_>,
+    forests: &RankedForests<'_>,
     asked: &Diff<'_>,
     sides: Option<(Traced<'_>, Traced<'_>)>,
     found: &Found,
 ) -> Result<String, AllocError>
-    requires ranked { RanksAre both.now.graph both.now.ranks }
-    ensures lines { IfOk result (λ text. asked.now.stat ≡ false → TellsAsked asked.now.lines both.now asked.now found.now (string_bytes text)) }
+    ensures lines { IfOk result (λ text. asked.now.stat ≡ false → TellsAsked asked.now.lines forests.now asked.now found.now (string_bytes text)) }
     ensures counts { IfOk result (λ text. asked.now.stat ≡ true → string_bytes text ≡ stat_text asked.now found.now) }
 {
     if asked.stat {
         return stat_text(alloc, asked, found);
     }
-    asked_text(alloc, both, asked, sides, found)
+    asked_text(alloc, forests, asked, sides, found)
 }
 
 /// What a comparison tells: its lines, and whether no difference is told.
@@ -432,23 +419,23 @@ pub struct Compared {
     pub same: bool,
 }
 
-/// The lines of the differences and moves of two streams, whose graph this is, but for those that are at or below a path that one of the
+/// The lines of the differences and moves of the first two streams, but for those that are at or below a path that one of the
 /// patterns matches, and whether there are none. Without patterns this is so if the streams have equally many documents, pairwise the same.
 /// Places are told where both sides are given with their traces.
 pub fn compare(
     alloc: Global,
-    both: &Both<'_>,
+    forests: &RankedForests<'_>,
     asked: &Diff<'_>,
     ignored: &[Pattern<'_>],
     sides: Option<(Traced<'_>, Traced<'_>)>,
 ) -> Result<Compared, AllocError>
-    requires ranked { RanksAre both.now.graph both.now.ranks }
-    ensures text { IfOk result (λ told. TellsStreams both.now asked.now ignored.now told.same (string_bytes told.text)) }
-    ensures same { IfOk result (λ told. ignored.now ≡ [] → ((told.same ≡ true) ↔ Alike (map (λ i. tree both.now.graph i.0) (take both.now.documents (roots_of both.now.graph))) (map (λ i. tree both.now.graph i.0) (drop both.now.documents (roots_of both.now.graph))))) }
+    ensures text { IfOk result (λ told. TellsStreams forests.now asked.now ignored.now told.same (string_bytes told.text)) }
+    ensures same { IfOk result (λ told. ignored.now ≡ [] → ((told.same ≡ true) ↔ Alike (map (tree forests.now) (documents_of forests.now 0)) (map (tree forests.now) (documents_of forests.now 1)))) }
 {
-    let found = searched(alloc, both, asked, ignored)?;
-    let kept = kept(alloc, both, ignored, found)?;
+    forests.laws();
+    let found = searched(alloc, forests, asked, ignored)?;
+    let kept = kept(alloc, forests, ignored, found)?;
     let same = lists_none(&kept);
-    let text = told_text(alloc, both, asked, sides, &kept)?;
+    let text = told_text(alloc, forests, asked, sides, &kept)?;
     Ok(Compared { text, same })
 }

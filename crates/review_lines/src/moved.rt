@@ -1,7 +1,6 @@
 //! The lines of items that moved.
 ghost use Rattle.std.specs.Prelude.{◌≡◌, ◌++◌, ◌-◌, length, None, cond, take, option_map, is_some, string_bytes, OnOk, IfOk, IfSome};
 ghost use Rattle.std.specs.List.{sum_by};
-ghost use Rattle.yaml_rank.specs.RanksView.{RanksAre};
 ghost use Rattle.yaml_diff.specs.Lines.{way_of};
 ghost use Rattle.review_folds.specs.Labels.{label, AreKeys};
 ghost use Rattle.review_lines.specs.Compared.{is_numbered, room_of, path_as, is_plain, list_path, last_of, range_of, before_text, range_path, group_text, IsFirst, TellsGroup, TellsGroups, TellsMoves};
@@ -13,13 +12,13 @@ use crate::strings::Budget;
 use review_folds::{Group, Keys, groups, item_path, label_of};
 use review_paths::pasted;
 use review_places::trace::Traced;
-use review_text::both::Both;
 use review_text::options::{Diff, Paths};
 use review_text::path::path_text;
 use std::alloc::{AllocError, Global};
 use yaml_diff::{Difference, Found, Move, Step};
 use yaml_path::Place;
 use yaml_path::places::Places;
+use yaml_store_rank::RankedForests;
 
 /// Whether paths are as the pages show them, with the places of both sides.
 fn is_plain(paths: Paths) -> bool
@@ -82,30 +81,32 @@ fn put_range(out: &mut String, first: Step, last: Places) -> Result<(), AllocErr
 
 /// What a plain path to an item of a list has before the item's own step.
 #[tactic(auto, using(crate::proofs::MoveLaws::before_alone, crate::proofs::MoveLaws::before_path))]
-fn before_text(alloc: Global, both: &Both<'_>, list: &[Step]) -> Result<String, AllocError>
-    requires ranked { RanksAre both.now.graph both.now.ranks }
-    ensures ok { IfOk result (λ s. string_bytes s ≡ before_text (is_numbered both.now) (way_of both.now.graph list.now)) }
+fn before_text(
+    alloc: Global,
+    forests: &RankedForests<'_>,
+    list: &[Step],
+) -> Result<String, AllocError>
+    ensures ok { IfOk result (λ s. string_bytes s ≡ before_text (is_numbered forests.now) (way_of forests.now list.now)) }
 {
-    let numbered = is_numbered(both);
+    let numbered = is_numbered(forests);
     if list.len() == 1 && !numbered {
         return Ok(String::new(alloc));
     }
-    path_text(alloc, both, list, numbered)
+    path_text(alloc, forests, list, numbered)
 }
 
 /// The path of neighbours that moved together: that to their list, and their places.
 #[tactic(auto, using(crate::proofs::MoveLaws::range_empty, crate::proofs::MoveLaws::range_some))]
 fn range_path(
     alloc: Global,
-    both: &Both<'_>,
+    forests: &RankedForests<'_>,
     list: &[Step],
     first: Step,
     last: Places,
 ) -> Result<String, AllocError>
-    requires ranked { RanksAre both.now.graph both.now.ranks }
-    ensures ok { IfOk result (λ s. string_bytes s ≡ range_path (is_numbered both.now) first last (way_of both.now.graph list.now)) }
+    ensures ok { IfOk result (λ s. string_bytes s ≡ range_path (is_numbered forests.now) first last (way_of forests.now list.now)) }
 {
-    let mut out = before_text(alloc, both, list)?;
+    let mut out = before_text(alloc, forests, list)?;
     if list.is_empty() {
         put_range(&mut out, first, last)?;
         return Ok(out);
@@ -119,18 +120,17 @@ fn range_path(
 /// A path that both sides have, in the form that is asked for.
 fn path_of_both(
     alloc: Global,
-    both: &Both<'_>,
+    forests: &RankedForests<'_>,
     paths: Paths,
     path: &[Step],
 ) -> Result<String, AllocError>
-    requires ranked { RanksAre both.now.graph both.now.ranks }
-    ensures ok { IfOk result (λ s. string_bytes s ≡ path_as paths (is_numbered both.now) None None (way_of both.now.graph path.now)) }
+    ensures ok { IfOk result (λ s. string_bytes s ≡ path_as paths (is_numbered forests.now) None None (way_of forests.now path.now)) }
 {
-    let numbered = is_numbered(both);
+    let numbered = is_numbered(forests);
     match paths {
-        Paths::Plain => path_text(alloc, both, path, numbered),
-        Paths::Jq => pasted(alloc, both, path, numbered, true, true, true),
-        Paths::JsonPointer => pasted(alloc, both, path, numbered, false, true, true),
+        Paths::Plain => path_text(alloc, forests, path, numbered),
+        Paths::Jq => pasted(alloc, forests, path, numbered, true, true, true),
+        Paths::JsonPointer => pasted(alloc, forests, path, numbered, false, true, true),
     }
 }
 
@@ -138,18 +138,17 @@ fn path_of_both(
 #[tactic(auto, using(crate::proofs::MoveLaws::list_pasted, crate::proofs::MoveLaws::list_inside, crate::proofs::MoveLaws::list_of_all))]
 fn list_path(
     alloc: Global,
-    both: &Both<'_>,
+    forests: &RankedForests<'_>,
     paths: Paths,
     list: &[Step],
 ) -> Result<String, AllocError>
-    requires ranked { RanksAre both.now.graph both.now.ranks }
-    ensures ok { IfOk result (λ s. string_bytes s ≡ list_path paths (is_numbered both.now) (way_of both.now.graph list.now)) }
+    ensures ok { IfOk result (λ s. string_bytes s ≡ list_path paths (is_numbered forests.now) (way_of forests.now list.now)) }
 {
     if !is_plain(paths) {
-        return path_of_both(alloc, both, paths, list);
+        return path_of_both(alloc, forests, paths, list);
     }
     if !list.is_empty() {
-        return path_of_both(alloc, both, paths, list);
+        return path_of_both(alloc, forests, paths, list);
     }
     let mut out = String::new(alloc);
     out.push('.')?;
@@ -161,24 +160,23 @@ fn list_path(
 #[tactic(auto, using(crate::proofs::MoveLaws::group_none, crate::proofs::MoveLaws::group_whole, crate::proofs::MoveLaws::group_range, crate::proofs::MoveLaws::group_one))]
 fn group_path(
     alloc: Global,
-    both: &Both<'_>,
+    forests: &RankedForests<'_>,
     paths: Paths,
     whole: bool,
     last: Option<Places>,
     path: &[Step],
 ) -> Result<String, AllocError>
-    requires ranked { RanksAre both.now.graph both.now.ranks }
-    ensures ok { IfOk result (λ s. string_bytes s ≡ group_text paths (is_numbered both.now) both.now.graph whole last path.now) }
+    ensures ok { IfOk result (λ s. string_bytes s ≡ group_text paths (is_numbered forests.now) forests.now whole last path.now) }
 {
     let Some((first, list)) = path.split_first() else {
         return Ok(String::new(alloc));
     };
     if whole {
-        return list_path(alloc, both, paths, list);
+        return list_path(alloc, forests, paths, list);
     }
     match last {
-        Some(last) => range_path(alloc, both, list, *first, last),
-        None => path_of_both(alloc, both, paths, path),
+        Some(last) => range_path(alloc, forests, list, *first, last),
+        None => path_of_both(alloc, forests, paths, path),
     }
 }
 
@@ -186,18 +184,17 @@ fn group_path(
 #[tactic(auto, using(crate::proofs::MoveLaws::label_some, crate::proofs::MoveLaws::label_none))]
 fn label_if(
     alloc: Global,
-    both: &Both<'_>,
+    forests: &RankedForests<'_>,
     asked: &Diff<'_>,
     keys: &Option<Keys>,
     group: Group,
     path: &[Step],
 ) -> Result<Option<String>, AllocError>
-    requires ranked { RanksAre both.now.graph both.now.ranks }
-    requires keys { IfSome keys.now (AreKeys both.now) }
-    ensures ok { IfOk result (λ told. option_map string_bytes told ≡ cond (is_some keys.now) (label both.now (room_of asked.now.whole) group path.now) None) }
+    requires keys { IfSome keys.now (AreKeys forests.now) }
+    ensures ok { IfOk result (λ told. option_map string_bytes told ≡ cond (is_some keys.now) (label forests.now (room_of asked.now.whole) group path.now) None) }
 {
     match keys {
-        Some(keys) => label_of(alloc, both, keys, group, path, room_of(asked.whole)),
+        Some(keys) => label_of(alloc, forests, keys, group, path, room_of(asked.whole)),
         None => Ok(None),
     }
 }
@@ -206,24 +203,23 @@ fn label_if(
 #[tactic(auto, using(crate::proofs::MoveLaws::group_told))]
 fn line_of_group(
     alloc: Global,
-    both: &Both<'_>,
+    forests: &RankedForests<'_>,
     asked: &Diff<'_>,
     moves: &[Move],
     group: Group,
     keys: &Option<Keys>,
     places: (Option<Place>, Option<Place>),
 ) -> Result<Line, AllocError>
-    requires ranked { RanksAre both.now.graph both.now.ranks }
-    requires keys { IfSome keys.now (AreKeys both.now) }
-    ensures ok { IfOk result (TellsGroup (is_some keys.now) both.now asked.now moves.now group) }
+    requires keys { IfSome keys.now (AreKeys forests.now) }
+    ensures ok { IfOk result (TellsGroup (is_some keys.now) forests.now asked.now moves.now group) }
 {
     let first = first_of(alloc, moves, group)?;
     let last = last_of(moves, group);
-    let path = group_path(alloc, both, asked.paths, group.whole, last, &first.path)?;
-    let label = label_if(alloc, both, asked, keys, group, &first.path)?;
+    let path = group_path(alloc, forests, asked.paths, group.whole, last, &first.path)?;
+    let label = label_if(alloc, forests, asked, keys, group, &first.path)?;
     // There are no nodes, whose values alone take room.
     let mut budget = Budget::new();
-    let members = members_in(alloc, both, &first, asked.form, &mut budget)?;
+    let members = members_in(alloc, forests, &first, asked.form, &mut budget)?;
     Ok(Line {
         path,
         label,
@@ -249,39 +245,41 @@ fn firsts(alloc: Global, moves: &[Move], groups: &[Group]) -> Result<Vec<Differe
 /// The lines of groups, with places where both sides are given.
 fn lines_of_groups(
     alloc: Global,
-    both: &Both<'_>,
+    forests: &RankedForests<'_>,
     asked: &Diff<'_>,
     moves: &[Move],
     groups: &[Group],
     keys: &Option<Keys>,
     sides: Option<(Traced<'_>, Traced<'_>)>,
 ) -> Result<Vec<Line>, AllocError>
-    requires ranked { RanksAre both.now.graph both.now.ranks }
-    requires keys { IfSome keys.now (AreKeys both.now) }
-    ensures ok { IfOk result (λ lines. TellsGroups (is_some keys.now) both.now asked.now moves.now groups.now lines.items) }
+    requires keys { IfSome keys.now (AreKeys forests.now) }
+    ensures ok { IfOk result (λ lines. TellsGroups (is_some keys.now) forests.now asked.now moves.now groups.now lines.items) }
 {
     let firsts = firsts(alloc, moves, groups)?;
     let sides = if firsts.is_empty() { None } else { sides };
-    let places = find_places(alloc, both, &firsts, sides, firsts.len())?;
+    let places = find_places(alloc, forests, &firsts, sides, firsts.len())?;
     let mut lines = Vec::new(alloc);
     for (number, group) in groups.iter().enumerate() {
         let at = (
             place_at(&places.left, number),
             place_at(&places.right, number),
         );
-        lines.push(line_of_group(alloc, both, asked, moves, *group, keys, at)?)?;
+        lines.push(line_of_group(alloc, forests, asked, moves, *group, keys, at)?)?;
     }
     Ok(lines)
 }
 
 /// The keys that name items, where there are labels.
-fn keys_if(alloc: Global, both: &Both<'_>, has_labels: bool) -> Result<Option<Keys>, AllocError>
-    requires ranked { RanksAre both.now.graph both.now.ranks }
-    ensures are { IfOk result (λ keys. IfSome keys (AreKeys both.now)) }
+fn keys_if(
+    alloc: Global,
+    forests: &RankedForests<'_>,
+    has_labels: bool,
+) -> Result<Option<Keys>, AllocError>
+    ensures are { IfOk result (λ keys. IfSome keys (AreKeys forests.now)) }
     ensures told { IfOk result (λ keys. is_some keys ≡ has_labels) }
 {
     if has_labels {
-        return Ok(Some(Keys::new(alloc, both)?));
+        return Ok(Some(Keys::new(alloc, forests)?));
     }
     Ok(None)
 }
@@ -317,15 +315,14 @@ fn untold(moves: &[Move], groups: &[Group]) -> usize
 #[tactic(auto, using(crate::proofs::CompareLaws::moves_told, crate::proofs::CompareLaws::moves_untold))]
 pub(crate) fn lines_of_moves(
     alloc: Global,
-    both: &Both<'_>,
+    forests: &RankedForests<'_>,
     asked: &Diff<'_>,
     sides: Option<(Traced<'_>, Traced<'_>)>,
     found: &Found,
     room: usize,
     columns: bool,
 ) -> Result<MoveLines, AllocError>
-    requires ranked { RanksAre both.now.graph both.now.ranks }
-    ensures ok { IfOk result (λ told. TellsMoves columns both.now asked.now found.now room told.lines.items told.untold) }
+    ensures ok { IfOk result (λ told. TellsMoves columns forests.now asked.now found.now room told.lines.items told.untold) }
 {
     let folds = columns && asked.folds;
     let groups = groups(alloc, folds, is_plain(asked.paths), found)?;
@@ -337,7 +334,7 @@ pub(crate) fn lines_of_moves(
             untold,
         });
     }
-    let keys = keys_if(alloc, both, columns)?;
-    let lines = lines_of_groups(alloc, both, asked, &found.moves, told, &keys, sides)?;
+    let keys = keys_if(alloc, forests, columns)?;
+    let lines = lines_of_groups(alloc, forests, asked, &found.moves, told, &keys, sides)?;
     Ok(MoveLines { lines, untold })
 }

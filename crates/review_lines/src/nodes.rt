@@ -6,11 +6,11 @@ use review_places::finder::{Finder, Hand, Seat, Stream};
 use review_places::layout::lay_out_from;
 use review_places::places::{places, unmarked};
 use review_places::trace::Traced;
-use review_text::both::Both;
 use std::alloc::{AllocError, Global};
 use std::collections::BTreeSet;
 use yaml_diff::Difference;
 use yaml_path::Place;
+use yaml_store_rank::RankedForests;
 
 /// The places of the nodes of each difference, where they are told, and what each has as its cause, where that is known.
 #[derive(Drop)]
@@ -29,7 +29,7 @@ pub(crate) fn place_at(places: &[Option<Place>], number: usize) -> Option<Place>
 }
 
 /// One of two streams.
-fn stream_of<'g>(both: &'g Both<'_>, hand: Hand) -> Stream<'g> {
+fn stream_of<'g>(forests: &'g RankedForests<'_>, hand: Hand) -> Stream<'g> {
     let (lefts, rights) = both.sides();
     match hand {
         Hand::Left => Stream { hand, roots: lefts },
@@ -104,14 +104,14 @@ fn seat_at(
 /// which one line may tell several differences.
 fn side_places(
     alloc: Global,
-    both: &Both<'_>,
+    forests: &RankedForests<'_>,
     list: &[Difference],
     hand: Hand,
     side: Traced<'_>,
     lines: usize,
 ) -> Result<SidePlaces, AllocError> {
     let layout = lay_out_from(alloc, side.trace, side.first, side.end)?;
-    let mut finder = Finder::new(alloc, both, stream_of(both, hand), layout);
+    let mut finder = Finder::new(alloc, forests, stream_of(forests, hand), layout);
     let mut offsets = Vec::new(alloc);
     let mut marks = Vec::new(alloc);
     for (number, difference) in list.iter().enumerate() {
@@ -203,15 +203,15 @@ fn spread(
 /// The places of both sides' nodes, of as many differences as lines are asked for; none where they are not asked for.
 pub(crate) fn find_places(
     alloc: Global,
-    both: &Both<'_>,
+    forests: &RankedForests<'_>,
     list: &[Difference],
     sides: Option<(Traced<'_>, Traced<'_>)>,
     lines: usize,
 ) -> Result<Places, AllocError> {
     match sides {
         Some((left, right)) => {
-            let lefts = side_places(alloc, both, list, Hand::Left, left, lines)?;
-            let rights = side_places(alloc, both, list, Hand::Right, right, lines)?;
+            let lefts = side_places(alloc, forests, list, Hand::Left, left, lines)?;
+            let rights = side_places(alloc, forests, list, Hand::Right, right, lines)?;
             Ok(Places {
                 left: spread(alloc, &lefts.places, list.len())?,
                 right: spread(alloc, &rights.places, list.len())?,

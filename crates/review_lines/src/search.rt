@@ -1,17 +1,14 @@
 //! The differences and moves of two streams.
-ghost use Rattle.std.specs.Prelude.{◌≡◌, ◌&&◌, ◌==◌, [], true, take, drop, length, IfOk};
-ghost use Rattle.yaml_graph.specs.GraphView.{roots_of};
-ghost use Rattle.yaml_rank.specs.RanksView.{RanksAre};
-ghost use Rattle.yaml_diff.specs.Found.{FindsItems, moves_of};
-ghost use Rattle.review_lines.specs.Searched.{least_room, search_room, Searches};
+ghost use Rattle.std.specs.Prelude.{◌≡◌, ◌&&◌, ◌==◌, [], true, length, IfOk};
+ghost use Rattle.yaml_diff.specs.Found.{moves_of};
+ghost use Rattle.review_lines.specs.Searched.{has_high, least_room, search_room, FindsStreams, Searches};
 
 use review_patterns::Pattern;
-use review_text::both::Both;
 use review_text::options::Diff;
 use std::alloc::{AllocError, Global};
 use yaml_diff::{Found, stream_differences};
-use yaml_graph::graph::Graph;
 use yaml_pair::Asked;
+use yaml_store_rank::RankedForests;
 
 /// The keys of texts, in each of which commas part them.
 fn keys_of<'a>(alloc: Global, texts: &[&'a str]) -> Result<Vec<&'a str>, AllocError> {
@@ -29,21 +26,21 @@ fn keys_of<'a>(alloc: Global, texts: &[&'a str]) -> Result<Vec<&'a str>, AllocEr
 /// The differences and moves of two streams, at most so many.
 fn list_of(
     alloc: Global,
-    both: &Both<'_>,
+    forests: &RankedForests<'_>,
     asked: &Diff<'_>,
     room: usize,
 ) -> Result<Found, AllocError>
-    requires ranked { RanksAre both.now.graph both.now.ranks }
-    ensures ok { IfOk result (FindsItems both.now.graph (take both.now.documents (roots_of both.now.graph)) (drop both.now.documents (roots_of both.now.graph)) room) }
+    ensures ok { IfOk result (FindsStreams forests.now room) }
     ensures calm { asked.now.by_position ≡ true → IfOk result (λ found. moves_of found ≡ []) }
 {
-    let (lefts, rights) = both.sides();
+    forests.laws();
+    let (lefts, rights) = (forests.documents(0), forests.documents(1));
     let by = keys_of(alloc, asked.by)?;
     let asked = Asked {
         by_position: asked.by_position,
         by: &by,
     };
-    stream_differences(alloc, &both.graph, &both.ranks, lefts, rights, asked, room)
+    stream_differences(alloc, forests, lefts, rights, asked, room)
 }
 
 /// How many differences and moves are looked for, at least.
@@ -56,44 +53,55 @@ const IGNORED: usize = 1_000_000;
 const FEW: usize = 10_000;
 
 /// The greatest height of a document that is not high.
-const LOW: u32 = 100;
+const LOW: u16 = 100;
 
-/// So many, but few where a document is high.
-fn least_room(graph: &Graph<'_>, many: usize) -> usize
-    ensures { result ≡ least_room graph.now many }
+/// Whether a document of a stream is high.
+fn has_high(forests: &RankedForests<'_>, stream: usize) -> bool
+    ensures { result ≡ has_high forests.now stream }
 {
-    for root in graph.roots() {
-        if graph.height(*root) > LOW {
-            return FEW;
+    forests.laws();
+    for root in forests.documents(stream) {
+        if forests.height(*root) > LOW {
+            return true;
         }
     }
-    many
+    false
+}
+
+/// So many, but few where a document is high.
+fn least_room(forests: &RankedForests<'_>, many: usize) -> usize
+    ensures { result ≡ least_room forests.now many }
+{
+    if has_high(forests, 0) || has_high(forests, 1) {
+        FEW
+    } else {
+        many
+    }
 }
 
 /// How many differences and moves are looked for: as many as lines are asked for, or more.
-fn search_room(graph: &Graph<'_>, ignored: &[Pattern<'_>], lines: usize) -> usize
-    ensures { result ≡ search_room graph.now ignored.now lines }
+fn search_room(forests: &RankedForests<'_>, ignored: &[Pattern<'_>], lines: usize) -> usize
+    ensures { result ≡ search_room forests.now ignored.now lines }
 {
     let many = if ignored.is_empty() {
         SEARCHED
     } else {
         IGNORED
     };
-    least_room(graph, many).max(lines)
+    least_room(forests, many).max(lines)
 }
 
 /// The differences and moves of two streams.
 pub(crate) fn searched(
     alloc: Global,
-    both: &Both<'_>,
+    forests: &RankedForests<'_>,
     asked: &Diff<'_>,
     ignored: &[Pattern<'_>],
 ) -> Result<Found, AllocError>
-    requires ranked { RanksAre both.now.graph both.now.ranks }
-    ensures ok { IfOk result (Searches both.now ignored.now asked.now) }
+    ensures ok { IfOk result (Searches forests.now ignored.now asked.now) }
 {
-    let room = search_room(&both.graph, ignored, asked.lines);
-    list_of(alloc, both, asked, room)
+    let room = search_room(forests, ignored, asked.lines);
+    list_of(alloc, forests, asked, room)
 }
 
 /// Whether all differences and moves were found, and there is none.

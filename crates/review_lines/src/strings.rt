@@ -2,20 +2,20 @@
 ghost use Rattle.std.specs.Prelude.{◌≡◌, ◌==◌, ◌++◌, ◌≤◌, [], cond, nat_le, take, drop, length, codes, string_bytes, Some, OnOk, IfOk, IfSome};
 ghost use Rattle.yaml_scalar.specs.Spelling.{quoted_bytes};
 ghost use Rattle.yaml_definitions.specs.model.Tree.{scalar};
-ghost use Rattle.yaml_graph.specs.GraphView.{tree};
+ghost use Rattle.yaml_store_rank.specs.Forests.{tree};
 ghost use Rattle.yaml_unified.specs.Printed.{script_text};
 ghost use Rattle.review_text.specs.Shown.{front};
 ghost use Rattle.review_lines.specs.Compared.{IsScalar, part_text, ShowsParts, ShowsChanges};
 
 use crate::lines::Changes;
 use review_paths::Room;
-use review_text::both::Both;
 use review_text::options::Diff;
 use review_text::text::{front, put_spelled};
 use std::alloc::{AllocError, Global};
 use yaml_diff::Difference;
-use yaml_graph::node::NodeKind;
+use yaml_store_rank::RankedForests;
 use yaml_tree::node::NodeId;
+use yaml_tree::shown::Inside;
 use yaml_unified::{Edit, put_script, script_of};
 
 /// How many bytes before the first difference are shown.
@@ -66,19 +66,20 @@ struct Scalar<'b> {
 }
 
 /// The scalar of this number, if it is one.
-fn scalar_of<'b>(both: &'b Both<'_>, id: Option<NodeId>) -> Option<Scalar<'b>>
-    ensures { IfSome result (λ s. IsScalar both.now.graph id s.tag.now s.content.now) }
+fn scalar_of<'b>(forests: &'b RankedForests<'_>, id: Option<NodeId>) -> Option<Scalar<'b>>
+    ensures { IfSome result (λ s. IsScalar forests.now id s.tag.now s.content.now) }
 {
     let Some(id) = id else {
         return None;
     };
-    let Some(node) = both.node(id) else {
+    forests.laws();
+    let Some(shown) = forests.get(id) else {
         return None;
     };
-    match &node.kind {
-        NodeKind::Scalar(content) => Some(Scalar {
-            tag: node.tag.as_str(),
-            content: content.as_str(),
+    match shown.inside {
+        Inside::Scalar(content) => Some(Scalar {
+            tag: shown.tag,
+            content,
         }),
         _ => None,
     }
@@ -86,14 +87,17 @@ fn scalar_of<'b>(both: &'b Both<'_>, id: Option<NodeId>) -> Option<Scalar<'b>>
 
 /// Both nodes of a difference, if they are scalars of one tag.
 #[tactic(auto, using(crate::proofs::StringLaws::same_tag))]
-fn scalars_of<'b>(both: &'b Both<'_>, difference: &Difference) -> Option<(Scalar<'b>, Scalar<'b>)>
-    ensures left { IfSome result (λ s. IsScalar both.now.graph difference.now.left s.0.tag.now s.0.content.now) }
-    ensures right { IfSome result (λ s. IsScalar both.now.graph difference.now.right s.0.tag.now s.1.content.now) }
+fn scalars_of<'b>(
+    forests: &'b RankedForests<'_>,
+    difference: &Difference,
+) -> Option<(Scalar<'b>, Scalar<'b>)>
+    ensures left { IfSome result (λ s. IsScalar forests.now difference.now.left s.0.tag.now s.0.content.now) }
+    ensures right { IfSome result (λ s. IsScalar forests.now difference.now.right s.0.tag.now s.1.content.now) }
 {
-    let Some(left) = scalar_of(both, difference.left) else {
+    let Some(left) = scalar_of(forests, difference.left) else {
         return None;
     };
-    let Some(right) = scalar_of(both, difference.right) else {
+    let Some(right) = scalar_of(forests, difference.right) else {
         return None;
     };
     if left.tag == right.tag {
@@ -189,14 +193,14 @@ fn rests_of<'b>(left: &'b str, right: &'b str) -> Option<Rests<'b>>
 #[tactic(auto, using(crate::proofs::StringLaws::parts_told))]
 pub(crate) fn differing_parts(
     alloc: Global,
-    both: &Both<'_>,
+    forests: &RankedForests<'_>,
     difference: &Difference,
     room: usize,
     budget: &mut Budget,
 ) -> Result<Option<(String, String)>, AllocError>
-    ensures ok { IfOk result (λ told. IfSome told (λ texts. ShowsParts both.now.graph room difference.now (Some texts.0) (Some texts.1))) }
+    ensures ok { IfOk result (λ told. IfSome told (λ texts. ShowsParts forests.now room difference.now (Some texts.0) (Some texts.1))) }
 {
-    let Some((left, right)) = scalars_of(both, difference) else {
+    let Some((left, right)) = scalars_of(forests, difference) else {
         return Ok(None);
     };
     if !budget.take(left.content, right.content) {
@@ -323,14 +327,14 @@ fn lines_of(alloc: Global, edits: &[Edit<'_>], asked: &Diff<'_>) -> Result<Strin
 #[tactic(auto, using(crate::proofs::StringLaws::script_told))]
 pub(crate) fn changed_lines(
     alloc: Global,
-    both: &Both<'_>,
+    forests: &RankedForests<'_>,
     difference: &Difference,
     asked: &Diff<'_>,
     budget: &mut Budget,
 ) -> Result<Option<Changes>, AllocError>
-    ensures ok { IfOk result (ShowsChanges both.now.graph asked.now.context asked.now.color difference.now) }
+    ensures ok { IfOk result (ShowsChanges forests.now asked.now.context asked.now.color difference.now) }
 {
-    let Some((left, right)) = scalars_of(both, difference) else {
+    let Some((left, right)) = scalars_of(forests, difference) else {
         return Ok(None);
     };
     let has_lines = left.content.contains('\n') || right.content.contains('\n');

@@ -1,7 +1,5 @@
-use Rattle.std.proofs.Common.{◌∙◌, refl, take, drop}
-use Rattle.yaml_graph.specs.GraphView.{roots_of}
+use Rattle.std.proofs.Common.{◌∙◌}
 use Rattle.review_lines.proofs.CompareLaws.{keeps_none, some_room}
-use Rattle.review_lines.proofs.SideLaws.{left_within, right_within}
 use Rattle.review_lines.proofs.SameLaws.{alike_by_list}
 use Rattle.review_lines.specs.Searched.{search_room}
 use Rattle.review_lines.proofs.diff.compare.Goals as goal
@@ -19,11 +17,9 @@ returns-clause-text c = record {
 
 pub returns-clause-same : goal.returns-clause-same
 returns-clause-same c e =
-    let g = c.args.both.now.graph in
-    let m = c.args.both.now.documents in
+    let g = c.args.forests.now in
     let s = c.in_ok-found.ensures.ok in
     let ps = c.args.ignored.now in
     let lines = c.args.asked.now.lines in
-    alike_by_list g (take m (roots_of g)) (drop m (roots_of g)) (search_room g ps lines) c.in_ok-found.found c.lists_none-same.result c.requires.ranked.keyed
-    (left_within g m (take m (roots_of g)) c.args.both.now.middle refl) (right_within g m (drop m (roots_of g)) refl) (some_room g ps lines) s.finds
+    alike_by_list g (search_room g ps lines) c.in_ok-found.found c.lists_none-same.result c.laws.ensures (some_room g ps lines) s.finds
     (c.lists_none-same.ensures ∙ keeps_none g ps c.in_ok-found.found c.in_ok-kept.kept e c.in_ok-kept.ensures.ok)

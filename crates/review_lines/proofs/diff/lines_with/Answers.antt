@@ -5,7 +5,7 @@ use Rattle.review_lines.proofs.diff.lines_with.Goals as goal
 
 pub loop-number-preserved : goal.loop-number-preserved
 loop-number-preserved c =
-    let both = c.args.both.now in
+    let g = c.args.forests.now in
     let asked = c.args.asked.now in
     let ds = c.args.list.now in
     let ns = c.args.counts.now in
@@ -15,13 +15,13 @@ loop-number-preserved c =
     let n = get_or ns i 0 in
     elim c.if-count-gt0.branch [
       | then-count-gt0+then-len-asked+in_ok-line_of+in_ok-push w ↦
-          subst (TellsBefore both asked ds ns (i + 1)) (sym (ap (λ z. z.items) w.lines-is))
-          (line_told both asked ds ns ls i d n 0 (omega arith) c.requires.level c.index-list-number.is refl c.loop-number.invariant _ _ (omega (arith, w.if-count-gt0.true)) (omega (arith, w.len.ensures, w.if-len-asked.true)) w.in_ok-line_of.ensures.one w.in_ok-line_of.ensures.count w.in_ok-push.ensures.items)
-      | else-count-gt0 w ↦ subst (TellsBefore both asked ds ns (i + 1)) (sym (ap (λ z. z.items) w.lines-is)) (elim w.else-count-gt0.branch [
-        | else-count-gt0-via-then-count-gt0+else-len-asked v ↦ line_full both asked ds ns ls i d n 0 (omega arith) c.requires.level c.index-list-number.is refl c.loop-number.invariant (omega (arith, v.if-count-gt0.true)) (omega (arith, v.len.ensures, v.if-len-asked.false))
-        | else-count-gt0-via-else-count-gt0 v ↦ line_none both asked ds ns ls i d n 0 (omega arith) c.requires.level c.index-list-number.is refl c.loop-number.invariant (omega (arith, v.if-count-gt0.false))
+          subst (TellsBefore g asked ds ns (i + 1)) (sym (ap (λ z. z.items) w.lines-is))
+          (line_told g asked ds ns ls i d n 0 (omega arith) c.requires.level c.index-list-number.is refl c.loop-number.invariant _ _ (omega (arith, w.if-count-gt0.true)) (omega (arith, w.len.ensures, w.if-len-asked.true)) w.in_ok-line_of.ensures.one w.in_ok-line_of.ensures.count w.in_ok-push.ensures.items)
+      | else-count-gt0 w ↦ subst (TellsBefore g asked ds ns (i + 1)) (sym (ap (λ z. z.items) w.lines-is)) (elim w.else-count-gt0.branch [
+        | else-count-gt0-via-then-count-gt0+else-len-asked v ↦ line_full g asked ds ns ls i d n 0 (omega arith) c.requires.level c.index-list-number.is refl c.loop-number.invariant (omega (arith, v.if-count-gt0.true)) (omega (arith, v.len.ensures, v.if-len-asked.false))
+        | else-count-gt0-via-else-count-gt0 v ↦ line_none g asked ds ns ls i d n 0 (omega arith) c.requires.level c.index-list-number.is refl c.loop-number.invariant (omega (arith, v.if-count-gt0.false))
       ])
     ]
 
 pub returns : goal.returns
-returns c = record { ok = (all_told c.args.both.now c.args.asked.now c.args.list.now c.args.counts.now c.loop-number.lines.items c.loop-number.number (omega arith) c.requires.level c.loop-number.invariant) }
+returns c = record { ok = (all_told c.args.forests.now c.args.asked.now c.args.list.now c.args.counts.now c.loop-number.lines.items c.loop-number.number (omega arith) c.requires.level c.loop-number.invariant) }

@@ -1,9 +1,7 @@
-use Rattle.std.proofs.Common.{◌∙◌, refl, take, drop}
-use Rattle.yaml_graph.specs.GraphView.{roots_of}
+use Rattle.std.proofs.Common.{◌∙◌}
 use Rattle.review_lines.specs.Searched.{search_room}
 use Rattle.review_lines.proofs.CompareLaws.{keeps_none, some_room}
 use Rattle.review_lines.proofs.ListLaws.{if_ok}
-use Rattle.review_lines.proofs.SideLaws.{left_within, right_within}
 use Rattle.review_lines.proofs.SameLaws.{alike_by_list}
 use Rattle.review_lines.proofs.listed.list_differences.Goals as goal
 
@@ -21,14 +19,12 @@ returns-clause-lists c =
 
 pub returns-clause-same : goal.returns-clause-same
 returns-clause-same c =
-    let g = c.args.both.now.graph in
-    let m = c.args.both.now.documents in
+    let g = c.args.forests.now in
     let s = c.in_ok-found.ensures.ok in
     let ps = c.args.ignored.now in
     let lines = c.args.asked.now.lines in
     if_ok c.lines_listed.result
     (λ x h e.
-    alike_by_list g (take m (roots_of g)) (drop m (roots_of g)) (search_room g ps lines) c.in_ok-found.found x.same c.requires.ranked.keyed
-    (left_within g m (take m (roots_of g)) c.args.both.now.middle refl) (right_within g m (drop m (roots_of g)) refl) (some_room g ps lines) s.finds
+    alike_by_list g (search_room g ps lines) c.in_ok-found.found x.same c.laws.ensures (some_room g ps lines) s.finds
     (h.is_none ∙ keeps_none g ps c.in_ok-found.found c.in_ok-kept.kept e c.in_ok-kept.ensures.ok))
     c.lines_listed.ensures.ok
