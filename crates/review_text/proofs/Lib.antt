@@ -1,4 +1,3 @@
-mod EntryLaws
 pub mod ForestShapes
 pub mod HiddenLaws
 mod KeyLaws

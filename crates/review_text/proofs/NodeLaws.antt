@@ -13,7 +13,8 @@ use Rattle.std.proofs.lemmas.List.Concat.{flat_map-append}
 use Rattle.std.proofs.lemmas.Str.{encode_ascii, encodes-append, chars-encodes, chars-append, length-encode, len_utf8_bounds, len_utf8_ascii, length-le-encodes}
 use Rattle.std.proofs.lemmas.Bool.{cond_both}
 use Rattle.std.proofs.lemmas.Bool.Decides.{nat_tests}
-use Rattle.std.specs.Prelude.{flat_map}
+use Rattle.std.specs.Prelude.{flat_map, Some}
+use Rattle.std.specs.List.{slice_get}
 use Rattle.yaml_definitions.specs.model.Tree.{Tree, Trees, Pairs, scalar, sequence, mapping, end, item, done, entry, a_scalar, a_sequence, a_mapping}
 use Rattle.yaml_definitions.specs.model.Tag.{default_tag}
 use Rattle.yaml_definitions.specs.model.Order.{arranged}
@@ -25,7 +26,7 @@ use Rattle.yaml_scalar.specs.Spelling.{quoted_bytes, spelled_chars}
 use Rattle.yaml_scalar.proofs.SpellingLemmas.{quoted_more, spelled_is}
 use Rattle.yaml_tree.specs.TreeLists.{trees, pairs}
 use Rattle.review_text.specs.Fills.{Fills}
-use Rattle.review_text.proofs.Pieces.{drop_next}
+use Rattle.review_text.proofs.Pieces.{drop_next, drop_at}
 use Rattle.review_text.specs.Shown.{IsLongFront}
 use Rattle.review_text.specs.NodeText.{written_out, items_out, pairs_out, arranged_text, text_of, separator}
 
@@ -145,14 +146,14 @@ module _ {X : Type 0} (f : X → Tree × Tree) (xs : List X) where
   abbrev pub entries_whole : List ℕ
   entries_whole = encode_utf8_all (123 ∷ pairs_text [] (pairs_out (pairs (map f xs))) [])
 
-  entries_split : (i : ℕ) (d : X) → i < length xs → entries_left i ≡ encode_utf8_all (separator i) ++ (arranged_text (f (get_or xs i d)).0 ++ ((32 ∷ 58 ∷ 32 ∷ []) ++ (arranged_text (f (get_or xs i d)).1 ++ entries_left (i + 1))))
+  entries_split : (i : ℕ) (x : X) → slice_get xs i ≡ Some x → entries_left i ≡ encode_utf8_all (separator i) ++ (arranged_text (f x).0 ++ ((32 ∷ 58 ∷ 32 ∷ []) ++ (arranged_text (f x).1 ++ entries_left (i + 1))))
   unfolding node_text
-  entries_split i d l =
-      let k = (f (get_or xs i d)).0 in
-      let v = (f (get_or xs i d)).1 in
+  entries_split i x l =
+      let k = (f x).0 in
+      let v = (f x).1 in
       let e = pairs_text (44 ∷ 32 ∷ []) (pairs_out (pairs (map f (drop (i + 1) xs)))) [] in
       let S = encode_utf8_all (separator i) in
-      ap (λ z. encode_utf8_all (pairs_text (separator i) (pairs_out (pairs (map f z))) [])) (drop_next xs i d l)
+      ap (λ z. encode_utf8_all (pairs_text (separator i) (pairs_out (pairs (map f z))) [])) (drop_at xs i x l)
       ∙ encodes-append (separator i) (node_text (written_out k) (32 ∷ 58 ∷ 32 ∷ node_text (written_out v) e))
       ∙ ap (λ z. S ++ z)
       (node_bytes k (32 ∷ 58 ∷ 32 ∷ node_text (written_out v) e)
@@ -163,11 +164,11 @@ module _ {X : Type 0} (f : X → Tree × Tree) (xs : List X) where
   pub entries_first : (room : ℕ) (old a : List ℕ) → a ≡ old ++ encode_utf8 123 → Alike room (a ++ entries_left 0) (old ++ entries_whole)
   entries_first room old a e = ap (λ z. take (room + 1) (z ++ entries_left 0)) e ∙ ap (take (room + 1)) (append_assoc old (encode_utf8 123) (entries_left 0))
 
-  pub entries_step : (room i : ℕ) (d : X) (whole o a b c e : List ℕ) → i < length xs → Alike room (o ++ entries_left i) whole → a ≡ o ++ encode_utf8_all (separator i) → Fills room a b (arranged_text (f (get_or xs i d)).0) → c ≡ b ++ (32 ∷ 58 ∷ 32 ∷ [])
-      → Fills room c e (arranged_text (f (get_or xs i d)).1) → Alike room (e ++ entries_left (i + 1)) whole
-  entries_step room i d whole o a b c e l h p k q m =
-      let K = arranged_text (f (get_or xs i d)).0 in
-      let V = arranged_text (f (get_or xs i d)).1 in
+  pub entries_step : (room i : ℕ) (x : X) (whole o a b c e : List ℕ) → slice_get xs i ≡ Some x → Alike room (o ++ entries_left i) whole → a ≡ o ++ encode_utf8_all (separator i) → Fills room a b (arranged_text (f x).0) → c ≡ b ++ (32 ∷ 58 ∷ 32 ∷ [])
+      → Fills room c e (arranged_text (f x).1) → Alike room (e ++ entries_left (i + 1)) whole
+  entries_step room i x whole o a b c e l h p k q m =
+      let K = arranged_text (f x).0 in
+      let V = arranged_text (f x).1 in
       let C = 32 ∷ 58 ∷ 32 ∷ [] in
       let S = encode_utf8_all (separator i) in
       let r = entries_left (i + 1) in
@@ -176,7 +177,7 @@ module _ {X : Type 0} (f : X → Tree × Tree) (xs : List X) where
       ∙ ap (take (room + 1)) (append_assoc (b ++ C) V r ∙ append_assoc b C (V ++ r))
       ∙ alike_more (room + 1) b (a ++ K) (C ++ (V ++ r)) k
       ∙ ap (λ z. take (room + 1) ((z ++ K) ++ (C ++ (V ++ r)))) p
-      ∙ ap (take (room + 1)) (append_assoc (o ++ S) K (C ++ (V ++ r)) ∙ append_assoc o S (K ++ (C ++ (V ++ r))) ∙ ap (λ z. o ++ z) (sym (entries_split i d l)))
+      ∙ ap (take (room + 1)) (append_assoc (o ++ S) K (C ++ (V ++ r)) ∙ append_assoc o S (K ++ (C ++ (V ++ r))) ∙ ap (λ z. o ++ z) (sym (entries_split i x l)))
       ∙ h
 
   pub entries_end : (room i : ℕ) (whole o a : List ℕ) → length xs ≤ i → Alike room (o ++ entries_left i) whole → a ≡ o ++ encode_utf8 125 → Alike room a whole

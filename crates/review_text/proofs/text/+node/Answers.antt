@@ -5,9 +5,8 @@ use Rattle.yaml_definitions.specs.model.Tag.{core_tag}
 use Rattle.yaml_tree.specs.declared.node.NodeId.{NodeId}
 use Rattle.yaml_store_rank.specs.Forests.{tree}
 use Rattle.yaml_store_rank.specs.ArrangedForests.{two_arranged}
-use Rattle.review_text.proofs.NodeLaws.{items_first, items_step, items_end, entries_first, entries_end, left_full, fills_full, fills_as, scalar_text_of, sequence_filled, mapping_filled}
+use Rattle.review_text.proofs.NodeLaws.{items_first, items_step, items_end, entries_first, entries_step, entries_end, left_full, fills_full, fills_as, scalar_text_of, sequence_filled, mapping_filled}
 use Rattle.review_text.proofs.ForestShapes.{none-there, shown-within, scalar-there, sequence-there, items-below, entries-counted, mapping-there, entry-below}
-use Rattle.review_text.proofs.EntryLaws.{entry_step}
 use Rattle.review_text.proofs.Pieces.{on_ok}
 use Rattle.review_text.proofs.text.+node.Goals as goal
 
@@ -35,7 +34,7 @@ put_entries-put_node-requires-in-loop-place t c = let b = entry-below c.args.for
 
 pub put_entries-loop-place-preserved : goal.put_entries-loop-place-preserved
 put_entries-loop-place-preserved t c = λ sorted o.
-    entry_step c.args.forests.now sorted (c.entry_in_order.result.0.0, c.entry_in_order.result.1.0) c.args.room c.loop-place.place _ _ _ _ _ _ (c.entry_in_order.ensures sorted o) (c.loop-place.invariant sorted o) c.in_ok-put_separator.ensures.ok c.in_ok-put_node.ensures.ok c.in_ok-push_str.ensures.bytes c.in_ok-put_node-2.ensures.ok
+    entries_step (two_arranged c.args.forests.now) sorted c.args.room c.loop-place.place (c.entry_in_order.result.0.0, c.entry_in_order.result.1.0) _ _ _ _ _ _ (c.entry_in_order.ensures sorted o) (c.loop-place.invariant sorted o) c.in_ok-put_separator.ensures.ok c.in_ok-put_node.ensures.ok c.in_ok-push_str.ensures.bytes c.in_ok-put_node-2.ensures.ok
 
 pub put_entries-returns-then-is_full : goal.put_entries-returns-then-is_full
 put_entries-returns-then-is_full t c = record { ok = (λ sorted o. left_full c.args.room _ _ _ (subst (λ z. c.args.room < length z) c.deref.ensures c.if-is_full.ensures) (c.loop-place.invariant sorted o)) }
