@@ -5,6 +5,6 @@ use Rattle.yaml_pair.proofs.equal.ranks_of.Goals as goal
 
 pub loop-item-preserved : goal.loop-item-preserved
 loop-item-preserved c = (
-  omega (arith, ap length c.in_ok-push.ensures.items, length_push c.loop-item.ranks.items c.rank.result, c.loop-item.invariant.0),
-  λ w. ranks-more c.args.forests.now c.args.items.now c.loop-item.item-index _ c.loop-item.ranks.items c.push.new.self.items c.rank.result w c.loop-item-test.true (c.loop-item.invariant.1 w) c.in_ok-push.ensures.items c.rank.ensures,
+  omega (arith, ap length c.in_ok-push.ensures.items, length_push c.loop-item.ranks.items c.rank_at.result, c.loop-item.invariant.0),
+  λ w. ranks-more c.args.forests.now c.args.items.now c.loop-item.item-index _ c.loop-item.ranks.items c.push.new.self.items c.rank_at.result w c.loop-item-test.true (c.loop-item.invariant.1 w) c.in_ok-push.ensures.items c.rank_at.ensures,
 )

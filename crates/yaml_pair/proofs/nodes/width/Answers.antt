@@ -1,4 +1,3 @@
-use Rattle.std.proofs.Common.{◌∙◌}
 use Rattle.yaml_pair.proofs.TreeLaws.{width-scalar, width-sequence, width-mapping}
 use Rattle.yaml_pair.proofs.nodes.width.Goals as goal
 
