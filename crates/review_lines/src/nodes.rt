@@ -2,7 +2,7 @@
 ghost use Rattle.std.specs.Prelude.{◌≡◌};
 
 use review_folds::Cause;
-use review_places::finder::{Finder, Hand, Seat, Stream};
+use review_places::finder::{Finder, Seat, Side, Stream};
 use review_places::layout::lay_out_from;
 use review_places::places::{places, unmarked};
 use review_places::trace::Traced;
@@ -29,22 +29,19 @@ pub(crate) fn place_at(places: &[Option<Place>], number: usize) -> Option<Place>
 }
 
 /// One of two streams.
-fn stream_of<'g>(forests: &'g RankedForests<'_>, hand: Hand) -> Stream<'g> {
-    let (lefts, rights) = both.sides();
-    match hand {
-        Hand::Left => Stream { hand, roots: lefts },
-        Hand::Right => Stream {
-            hand,
-            roots: rights,
-        },
-    }
+fn stream_of<'g>(forests: &'g RankedForests<'_>, side: Side) -> Stream<'g> {
+    let roots = match side {
+        Side::Left => forests.documents(0),
+        Side::Right => forests.documents(1),
+    };
+    Stream { side, roots }
 }
 
 /// Whether there is a node on this side: of a difference, or of a pair of items that moved, which is told with no nodes.
-fn has_node(difference: &Difference, hand: Hand) -> bool {
-    match hand {
-        Hand::Left => difference.left.is_some() || difference.right.is_none(),
-        Hand::Right => difference.right.is_some() || difference.left.is_none(),
+fn has_node(difference: &Difference, side: Side) -> bool {
+    match side {
+        Side::Left => difference.left.is_some() || difference.right.is_none(),
+        Side::Right => difference.right.is_some() || difference.left.is_none(),
     }
 }
 
@@ -59,10 +56,10 @@ struct Mark {
 }
 
 /// What a seat has of a difference. The three kinds of numbers differ, so that a pair of them tells which side has a node.
-fn mark_of(difference: &Difference, hand: Hand, seat: Seat) -> Option<Mark> {
-    let (here, there) = match hand {
-        Hand::Left => (difference.left, difference.right),
-        Hand::Right => (difference.right, difference.left),
+fn mark_of(difference: &Difference, side: Side, seat: Seat) -> Option<Mark> {
+    let (here, there) = match side {
+        Side::Left => (difference.left, difference.right),
+        Side::Right => (difference.right, difference.left),
     };
     let (number, kind) = match (here.is_some(), there.is_some()) {
         (true, true) => (seat.node?, 0),
@@ -85,19 +82,14 @@ struct SidePlaces {
 }
 
 /// The seat of the node to which a path leads on one side, or else of that whose part it would be.
-fn seat_at(
-    alloc: Global,
-    finder: &mut Finder<'_>,
-    difference: &Difference,
-    hand: Hand,
-) -> Result<Option<Seat>, AllocError> {
-    if has_node(difference, hand) {
-        return finder.seat(alloc, &difference.path);
+fn seat_at(finder: &Finder<'_>, difference: &Difference, side: Side) -> Option<Seat> {
+    if has_node(difference, side) {
+        return finder.seat(&difference.path);
     }
     if !finder.has_aliases() {
-        return Ok(None);
+        return None;
     }
-    finder.seat(alloc, difference.path.get(1..).unwrap_or(&[]))
+    finder.seat(difference.path.get(1..).unwrap_or(&[]))
 }
 
 /// Where the nodes of one side stand: of the first differences, as many as lines are asked for, or of all where there are aliases, through
@@ -106,30 +98,30 @@ fn side_places(
     alloc: Global,
     forests: &RankedForests<'_>,
     list: &[Difference],
-    hand: Hand,
-    side: Traced<'_>,
+    side: Side,
+    traced: Traced<'_>,
     lines: usize,
 ) -> Result<SidePlaces, AllocError> {
-    let layout = lay_out_from(alloc, side.trace, side.first, side.end)?;
-    let mut finder = Finder::new(alloc, forests, stream_of(forests, hand), layout);
+    let layout = lay_out_from(alloc, traced.trace, traced.first, traced.end)?;
+    let finder = Finder::new(forests, stream_of(forests, side), layout);
     let mut offsets = Vec::new(alloc);
     let mut marks = Vec::new(alloc);
     for (number, difference) in list.iter().enumerate() {
         if number >= lines && !finder.has_aliases() {
             break;
         }
-        let seat = seat_at(alloc, &mut finder, difference, hand)?;
+        let seat = seat_at(&finder, difference, side);
         if let Some(seat) = seat {
-            if has_node(difference, hand) {
+            if has_node(difference, side) {
                 offsets.push((seat.offset, number))?;
             }
         }
         if finder.has_aliases() {
-            marks.push(seat.and_then(|seat| mark_of(difference, hand, seat)))?;
+            marks.push(seat.and_then(|seat| mark_of(difference, side, seat)))?;
         }
     }
     Ok(SidePlaces {
-        places: places(alloc, unmarked(side.bytes), offsets)?,
+        places: places(alloc, unmarked(traced.bytes), offsets)?,
         marks,
     })
 }
@@ -210,8 +202,8 @@ pub(crate) fn find_places(
 ) -> Result<Places, AllocError> {
     match sides {
         Some((left, right)) => {
-            let lefts = side_places(alloc, forests, list, Hand::Left, left, lines)?;
-            let rights = side_places(alloc, forests, list, Hand::Right, right, lines)?;
+            let lefts = side_places(alloc, forests, list, Side::Left, left, lines)?;
+            let rights = side_places(alloc, forests, list, Side::Right, right, lines)?;
             Ok(Places {
                 left: spread(alloc, &lefts.places, list.len())?,
                 right: spread(alloc, &rights.places, list.len())?,
