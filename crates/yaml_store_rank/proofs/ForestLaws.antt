@@ -38,6 +38,9 @@ held_in v n = node_held (text_of v.text) (numbers v.items.items) (number_pairs v
 module _ (v : Inside) (holds : Holds v) (f : Forests) (is : forests_of v ≡ f) where
   -- ---- streams
 
+  pub streams-count : length f.streams ≡ length v.ends.items
+  streams-count = sym (ap (λ z. length z.streams) is) ∙ cut-length (numbers v.roots.items) 0 v.ends.items
+
   module _ (k : ℕ) (l : k < length f.streams) where
     pub end-there : k < length v.ends.items
     end-there = omega (arith, l, ap (λ z. length z.streams) is, cut-length (numbers v.roots.items) 0 v.ends.items)
