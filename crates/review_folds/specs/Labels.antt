@@ -1,23 +1,19 @@
 -- What is told of which items moved.
-use Rattle.std.specs.Prelude.{◌≡◌, ◌↔◌, ◌<◌, ◌-◌, ℕ, zero, suc, Bool, true, false, nat_lt, cond, take, length, List, [], ◌∷◌, ◌++◌, Option, Some, None, option_map, codes}
+use Rattle.std.specs.Prelude.{◌≡◌, ◌↔◌, ◌<◌, ◌-◌, ℕ, zero, suc, Bool, true, false, nat_lt, cond, map, List, [], ◌∷◌, ◌++◌, Option, Some, None, option_map, codes}
 use Rattle.std.specs.Fmt.{decimal}
 use Rattle.yaml_definitions.specs.model.Tree.{Tree, scalar, sequence, mapping}
 use Rattle.yaml_definitions.specs.model.Same.{same}
 use Rattle.yaml_definitions.specs.model.Tag.{str_tag}
-use Rattle.yaml_graph.specs.GraphView.{nodes_of, roots_of, tree}
-use Rattle.yaml_tree.specs.declared.node.NodeId.{NodeId}
-use Rattle.yaml_graph.specs.declared.graph.Graph.{Graph}
-use Rattle.yaml_rank.specs.RanksView.{rank_of}
-use Rattle.yaml_rank.specs.declared.ranks.Ranks.{Ranks}
+use Rattle.yaml_tree.specs.TreeLists.{trees}
+use Rattle.yaml_store_rank.specs.Forests as forests
+use Rattle.yaml_store_rank.specs.Forests.{Forests, tree, rank, documents_of}
 use Rattle.yaml_path.specs.Path.{part_of, at_key}
 use Rattle.yaml_path.specs.Ways.{left_place, placed, count}
-use Rattle.yaml_diff.specs.Lines.{sequence_of}
 use Rattle.yaml_diff.specs.declared.difference.Step.{Step}
 use Rattle.yaml_diff.specs.declared.difference.Step.TheVariants.{Item, Value}
 use Rattle.review_folds.specs.declared.moves.Group.{Group}
 use Rattle.review_text.specs.Shown.{shown}
 use Rattle.review_text.specs.NodeText.{text_of}
-use Rattle.review_text.specs.declared.both.Both.{Both}
 use Rattle.review_folds.specs.declared.keys.Key.{Key}
 use Rattle.review_folds.specs.declared.keys.Keys.{Keys}
 
@@ -71,15 +67,19 @@ called room t (Some n) = n.0 ++ (codes " " ++ shown room (text_of n.1))
 
 -- ---- which items
 
--- one step down on the left; a key that is no node of the graph leads nowhere
-abbrev pub left_below : Graph → Option Tree → Step → Option Tree
-left_below g t (Item places) = placed t (left_place places)
-left_below g t (Value key) = cond (nat_lt key.0 (length (nodes_of g))) (part_of t (at_key (tree g key.0))) None
+-- one step down on the left; a key that is no node leads nowhere
+abbrev pub left_below : Forests → Option Tree → Step → Option Tree
+left_below f t (Item places) = placed t (left_place places)
+left_below f t (Value key) = cond (nat_lt key.0 (forests.count f)) (part_of t (at_key (tree f key.0))) None
+
+-- the sequence of the left documents
+abbrev pub left_documents : Forests → Tree
+left_documents f = sequence [] (trees (map (tree f) (documents_of f 0)))
 
 -- the left tree to which steps lead, the last one first, from the sequence of the left documents on
-abbrev pub left_tree : Both → List Step → Option Tree
-left_tree both [] = sequence_of both.graph [] (take both.documents (roots_of both.graph))
-left_tree both (s ∷ list) = left_below both.graph (left_tree both list) s
+abbrev pub left_tree : Forests → List Step → Option Tree
+left_tree f [] = Some (left_documents f)
+left_tree f (s ∷ list) = left_below f (left_tree f list) s
 
 -- ---- labels
 
@@ -88,8 +88,8 @@ abbrev pub words_of : List Step → List ℕ
 words_of [] = codes " documents"
 words_of (s ∷ list) = codes " items"
 
-abbrev pub order_label : Both → List Step → List ℕ
-order_label both list = decimal (count (left_tree both list)) ++ (words_of list ++ codes " in another order, none changed")
+abbrev pub order_label : Forests → List Step → List ℕ
+order_label f list = decimal (count (left_tree f list)) ++ (words_of list ++ codes " in another order, none changed")
 
 -- how many others there are, if there are some
 abbrev pub others_text : ℕ → List ℕ
@@ -102,27 +102,27 @@ item_label room others None = None
 item_label room others (Some t) = Some (called room t (name_of (Some t)) ++ others_text others)
 
 -- of moves, where these steps lead to the first items, the last step first
-abbrev pub label : Both → ℕ → Group → List Step → Option (List ℕ)
-label both room group [] = None
-label both room group (s ∷ list) = cond group.whole (Some (order_label both list)) (item_label room ((group.end - group.first) - 1) (left_tree both (s ∷ list)))
+abbrev pub label : Forests → ℕ → Group → List Step → Option (List ℕ)
+label f room group [] = None
+label f room group (s ∷ list) = cond group.whole (Some (order_label f list)) (item_label room ((group.end - group.first) - 1) (left_tree f (s ∷ list)))
 
 -- ---- keys by their ranks
 
 -- this is the rank of the nodes that are the same as the tree, if there are any
-abbrev pub IsRankOf : Graph → Ranks → Tree → Option ℕ → Type 0
-IsRankOf g r x rank = (i : ℕ) → i < length (nodes_of g) → (same x (tree g i) ≡ true) ↔ (rank ≡ Some (rank_of r i))
+abbrev pub IsRankOf : Forests → Tree → Option ℕ → Type 0
+IsRankOf f x r = (i : ℕ) → i < forests.count f → (same x (tree f i) ≡ true) ↔ (r ≡ Some (rank f i))
 
-pub record IsKey (both : Both) (text : List ℕ) (key : Key) : Type 0 where
+pub record IsKey (f : Forests) (text : List ℕ) (key : Key) : Type 0 where
   pub text_is : key.text.now ≡ text
-  pub ranked : IsRankOf both.graph both.ranks (string text) key.rank
+  pub ranked : IsRankOf f (string text) key.rank
 
 -- a key for each text, in order
-abbrev pub AreEach : Both → List (List ℕ) → List Key → Type 0
-AreEach both [] [] = Unit {0}
-AreEach both (t ∷ ts) (k ∷ ks) = IsKey both t k × AreEach both ts ks
-AreEach both _ _ = ⊥
+abbrev pub AreEach : Forests → List (List ℕ) → List Key → Type 0
+AreEach f [] [] = Unit {0}
+AreEach f (t ∷ ts) (k ∷ ks) = IsKey f t k × AreEach f ts ks
+AreEach f _ _ = ⊥
 
-pub record AreKeys (both : Both) (keys : Keys) : Type 0 where
-  pub each : AreEach both table keys.table.items
-  pub metadata_is : IsKey both (codes "metadata") keys.metadata
-  pub name_is : IsKey both (codes "name") keys.name
+pub record AreKeys (f : Forests) (keys : Keys) : Type 0 where
+  pub each : AreEach f table keys.table.items
+  pub metadata_is : IsKey f (codes "metadata") keys.metadata
+  pub name_is : IsKey f (codes "name") keys.name

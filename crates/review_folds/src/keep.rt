@@ -1,31 +1,29 @@
 //! The differences and moves that no pattern covers.
 ghost use Rattle.std.specs.Prelude.{◌≡◌, ◌∷◌, ◌||◌, [], IfOk};
 ghost use Rattle.yaml_diff.specs.declared.difference.Step.TheVariants.{Item};
-ghost use Rattle.yaml_rank.specs.RanksView.{RanksAre};
 ghost use Rattle.review_folds.specs.Ignored.{is_ignored, item_path, covers_all, outside, moves_outside, Keeps};
 
 use crate::steps::step_texts;
 use review_patterns::Pattern;
 use review_patterns::pattern::is_covered;
-use review_text::both::Both;
 use std::alloc::{AllocError, Global};
 use yaml_diff::{Difference, Found, Move, Step};
+use yaml_store_rank::RankedForests;
 
 /// Whether a path is at or below one that one of the patterns matches.
 #[tactic(auto, using(crate::proofs::KeptLaws::none_ignored))]
 fn is_ignored(
     alloc: Global,
-    both: &Both<'_>,
+    forests: &RankedForests<'_>,
     patterns: &[Pattern<'_>],
     path: &[Step],
 ) -> Result<bool, AllocError>
-    requires ranked { RanksAre both.now.graph both.now.ranks }
-    ensures ok { IfOk result (λ answer. answer ≡ is_ignored both.now.graph patterns.now path.now) }
+    ensures ok { IfOk result (λ answer. answer ≡ is_ignored forests.now patterns.now path.now) }
 {
     if patterns.is_empty() {
         return Ok(false);
     }
-    let texts = step_texts(alloc, both, path)?;
+    let texts = step_texts(alloc, forests, path)?;
     Ok(is_covered(patterns, &texts))
 }
 
@@ -44,15 +42,14 @@ pub fn item_path(alloc: Global, one: &Move) -> Result<Vec<Step>, AllocError>
 /// Whether the items of a move are at or below such a path.
 fn is_move_ignored(
     alloc: Global,
-    both: &Both<'_>,
+    forests: &RankedForests<'_>,
     patterns: &[Pattern<'_>],
     one: &Move,
 ) -> Result<bool, AllocError>
-    requires ranked { RanksAre both.now.graph both.now.ranks }
-    ensures ok { IfOk result (λ answer. answer ≡ is_ignored both.now.graph patterns.now (item_path one.now)) }
+    ensures ok { IfOk result (λ answer. answer ≡ is_ignored forests.now patterns.now (item_path one.now)) }
 {
     let path = item_path(alloc, one)?;
-    is_ignored(alloc, both, patterns, &path)
+    is_ignored(alloc, forests, patterns, &path)
 }
 
 /// Whether one of the patterns matches each document.
@@ -67,16 +64,15 @@ fn covers_all(alloc: Global, patterns: &[Pattern<'_>]) -> Result<bool, AllocErro
 /// The differences that are not at or below a path that one of the patterns matches.
 fn differences_outside(
     alloc: Global,
-    both: &Both<'_>,
+    forests: &RankedForests<'_>,
     patterns: &[Pattern<'_>],
     list: Vec<Difference>,
 ) -> Result<Vec<Difference>, AllocError>
-    requires ranked { RanksAre both.now.graph both.now.ranks }
-    ensures ok { IfOk result (λ kept. kept.items ≡ outside both.now.graph patterns.now list.items) }
+    ensures ok { IfOk result (λ kept. kept.items ≡ outside forests.now patterns.now list.items) }
 {
     let mut kept = Vec::new(alloc);
     for difference in list {
-        if !is_ignored(alloc, both, patterns, &difference.path)? {
+        if !is_ignored(alloc, forests, patterns, &difference.path)? {
             kept.push(difference)?;
         }
     }
@@ -86,16 +82,15 @@ fn differences_outside(
 /// The moves whose items are not.
 fn moves_outside(
     alloc: Global,
-    both: &Both<'_>,
+    forests: &RankedForests<'_>,
     patterns: &[Pattern<'_>],
     moves: Vec<Move>,
 ) -> Result<Vec<Move>, AllocError>
-    requires ranked { RanksAre both.now.graph both.now.ranks }
-    ensures ok { IfOk result (λ kept. kept.items ≡ moves_outside both.now.graph patterns.now moves.items) }
+    ensures ok { IfOk result (λ kept. kept.items ≡ moves_outside forests.now patterns.now moves.items) }
 {
     let mut kept = Vec::new(alloc);
     for one in moves {
-        if !is_move_ignored(alloc, both, patterns, &one)? {
+        if !is_move_ignored(alloc, forests, patterns, &one)? {
             kept.push(one)?;
         }
     }
@@ -109,17 +104,16 @@ fn moves_outside(
 /// `OutOfMemory`
 pub fn kept(
     alloc: Global,
-    both: &Both<'_>,
+    forests: &RankedForests<'_>,
     patterns: &[Pattern<'_>],
     found: Found,
 ) -> Result<Found, AllocError>
-    requires ranked { RanksAre both.now.graph both.now.ranks }
-    ensures ok { IfOk result (Keeps both.now.graph patterns.now found) }
+    ensures ok { IfOk result (Keeps forests.now patterns.now found) }
 {
     let Found { list, moves, whole } = found;
     Ok(Found {
-        list: differences_outside(alloc, both, patterns, list)?,
-        moves: moves_outside(alloc, both, patterns, moves)?,
+        list: differences_outside(alloc, forests, patterns, list)?,
+        moves: moves_outside(alloc, forests, patterns, moves)?,
         whole: covers_all(alloc, patterns)? || whole,
     })
 }

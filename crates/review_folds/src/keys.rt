@@ -1,17 +1,16 @@
 //! The keys that name items.
-ghost use Rattle.std.specs.Prelude.{◌≡◌, ◌&&◌, map, bytes_eq, IfOk};
+ghost use Rattle.std.specs.Prelude.{◌≡◌, ◌<◌, ◌&&◌, map, bytes_eq, IfOk};
 ghost use Rattle.yaml_definitions.specs.model.Same.{same};
 ghost use Rattle.yaml_definitions.specs.model.Tag.{str_tag};
-ghost use Rattle.yaml_graph.specs.GraphView.{tree};
-ghost use Rattle.yaml_rank.specs.RanksView.{RanksAre};
+ghost use Rattle.yaml_store_rank.specs.Forests.{count, tree};
 ghost use Rattle.review_folds.specs.Labels.{string, IsRankOf, IsKey, AreEach};
 
-use review_text::both::Both;
 use std::alloc::{AllocError, Global};
-use yaml_graph::node::NodeKind;
 use yaml_pair::TABLE;
+use yaml_store_rank::RankedForests;
 use yaml_text::core_tag;
 use yaml_tree::node::NodeId;
+use yaml_tree::shown::Inside;
 
 /// The key of the table that names what `metadata` stands in, too.
 const NAME: &str = "name";
@@ -23,7 +22,7 @@ const METADATA: &str = "metadata";
 #[derive(Clone, Copy)]
 pub struct Key {
     pub(crate) text: &'static str,
-    pub(crate) rank: Option<usize>,
+    pub(crate) rank: Option<u32>,
 }
 
 /// The keys that name items.
@@ -43,68 +42,72 @@ fn is_str(tag: &str, content: &str, text: &str) -> bool
 }
 
 /// Whether a node is this string.
-#[tactic(auto, using(crate::proofs::KeyLaws::string_none, crate::proofs::KeyLaws::string_scalar, crate::proofs::KeyLaws::string_other))]
-fn is_string(both: &Both<'_>, id: NodeId, text: &str) -> bool
-    ensures { result ≡ same (string text.now) (tree both.now.graph id.0) }
+#[tactic(auto, using(crate::proofs::KeyLaws::string_scalar, crate::proofs::KeyLaws::string_other))]
+fn is_string(forests: &RankedForests<'_>, id: NodeId, text: &str) -> bool
+    requires { id.0 < count forests.now }
+    ensures { result ≡ same (string text.now) (tree forests.now id.0) }
 {
-    let Some(node) = both.node(id) else {
-        return false;
-    };
-    match &node.kind {
-        NodeKind::Scalar(content) => is_str(node.tag.as_str(), content.as_str(), text),
+    forests.laws();
+    let shown = forests.node(id);
+    match shown.inside {
+        Inside::Scalar(content) => is_str(shown.tag, content, text),
         _ => false,
     }
 }
 
 /// The rank of the nodes that are this string, if there are any.
-fn rank_of(both: &Both<'_>, text: &str) -> Option<usize>
-    ensures { RanksAre both.now.graph both.now.ranks → IsRankOf both.now.graph both.now.ranks (string text.now) result }
+fn rank_of(forests: &RankedForests<'_>, text: &str) -> Option<u32>
+    ensures { IsRankOf forests.now (string text.now) result }
 {
-    for number in 0..both.graph.len() {
+    forests.laws();
+    for number in 0..forests.len() {
         let id = NodeId(number);
-        if is_string(both, id, text) {
-            return both.rank(id);
+        if is_string(forests, id, text) {
+            return Some(forests.rank(id));
         }
     }
     None
 }
 
-fn key_of(both: &Both<'_>, text: &'static str) -> Key
-    ensures { RanksAre both.now.graph both.now.ranks → IsKey both.now text.now result }
+fn key_of(forests: &RankedForests<'_>, text: &'static str) -> Key
+    ensures { IsKey forests.now text.now result }
 {
     Key {
         text,
-        rank: rank_of(both, text),
+        rank: rank_of(forests, text),
     }
 }
 
 /// A key for each of these texts.
-fn keys_of(alloc: Global, both: &Both<'_>, texts: &[&'static str]) -> Result<Vec<Key>, AllocError>
-    ensures ok { IfOk result (λ keys. RanksAre both.now.graph both.now.ranks → AreEach both.now (map (λ text. text.now) texts.now) keys.items) }
+fn keys_of(
+    alloc: Global,
+    forests: &RankedForests<'_>,
+    texts: &[&'static str],
+) -> Result<Vec<Key>, AllocError>
+    ensures ok { IfOk result (λ keys. AreEach forests.now (map (λ text. text.now) texts.now) keys.items) }
 {
     let mut keys = Vec::new(alloc);
     for text in texts {
-        keys.push(key_of(both, *text))?;
+        keys.push(key_of(forests, *text))?;
     }
     Ok(keys)
 }
 
 impl Keys {
     ghost use Rattle.std.specs.Prelude.{◌≡◌, IfOk};
-    ghost use Rattle.yaml_rank.specs.RanksView.{RanksAre};
     ghost use Rattle.review_folds.specs.Labels.{AreKeys};
 
-    /// Those of the nodes of both streams.
+    /// Those of the nodes of all streams.
     ///
     /// # Errors
     /// `OutOfMemory`
-    pub fn new(alloc: Global, both: &Both<'_>) -> Result<Keys, AllocError>
-        ensures ok { IfOk result (λ keys. RanksAre both.now.graph both.now.ranks → AreKeys both.now keys) }
+    pub fn new(alloc: Global, forests: &RankedForests<'_>) -> Result<Keys, AllocError>
+        ensures ok { IfOk result (λ keys. AreKeys forests.now keys) }
     {
         Ok(Keys {
-            table: keys_of(alloc, both, &TABLE)?,
-            metadata: key_of(both, METADATA),
-            name: key_of(both, NAME),
+            table: keys_of(alloc, forests, &TABLE)?,
+            metadata: key_of(forests, METADATA),
+            name: key_of(forests, NAME),
         })
     }
 }

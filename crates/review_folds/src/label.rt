@@ -1,38 +1,36 @@
 //! Which items moved, in words.
 ghost use Rattle.std.specs.Prelude.{◌≡◌, ◌++◌, ◌-◌, Some, option_map, string_bytes, OnOk, IfOk};
-ghost use Rattle.yaml_graph.specs.GraphView.{tree};
-ghost use Rattle.yaml_rank.specs.RanksView.{RanksAre};
+ghost use Rattle.yaml_store_rank.specs.Forests.{tree};
 ghost use Rattle.review_folds.specs.Labels.{words_of, order_label, others_text, called, name_of, item_label, label, AreKeys};
 
 use crate::Group;
 use crate::keys::Keys;
 use crate::left::{count_of, left_node};
 use crate::names::name_of;
-use review_text::both::Both;
 use review_text::text::{node_text, put_all};
 use std::alloc::{AllocError, Global};
 use yaml_diff::Step;
+use yaml_store_rank::RankedForests;
 use yaml_tree::node::NodeId;
 
 /// What an item is called: the words that name it and their value or, where it has no name, its own text.
 fn put_item(
     alloc: Global,
     out: &mut String,
-    both: &Both<'_>,
+    forests: &RankedForests<'_>,
     keys: &Keys,
     item: NodeId,
     room: usize,
 ) -> Result<(), AllocError>
-    requires ranked { RanksAre both.now.graph both.now.ranks }
-    ensures ok { OnOk result (AreKeys both.now keys.now → string_bytes out.new ≡ string_bytes out.old ++ called room (tree both.now.graph item.0) (name_of (Some (tree both.now.graph item.0)))) }
+    ensures ok { OnOk result (AreKeys forests.now keys.now → string_bytes out.new ≡ string_bytes out.old ++ called room (tree forests.now item.0) (name_of (Some (tree forests.now item.0)))) }
 {
-    match name_of(both, item, keys) {
+    match name_of(forests, item, keys) {
         Some((words, value)) => {
-            let text = node_text(alloc, both, value, room)?;
+            let text = node_text(alloc, forests, value, room)?;
             put_all(out, &[words, " ", text.as_str()])?;
         }
         None => {
-            let text = node_text(alloc, both, item, room)?;
+            let text = node_text(alloc, forests, item, room)?;
             out.push_str(text.as_str())?;
         }
     }
@@ -52,11 +50,14 @@ fn words_of(list: &[Step]) -> &'static str
 }
 
 /// What is told of a list of which only the order changed.
-fn order_label(alloc: Global, both: &Both<'_>, list: &[Step]) -> Result<String, AllocError>
-    requires ranked { RanksAre both.now.graph both.now.ranks }
-    ensures ok { IfOk result (λ text. string_bytes text ≡ order_label both.now list.now) }
+fn order_label(
+    alloc: Global,
+    forests: &RankedForests<'_>,
+    list: &[Step],
+) -> Result<String, AllocError>
+    ensures ok { IfOk result (λ text. string_bytes text ≡ order_label forests.now list.now) }
 {
-    let count = count_of(both, list);
+    let count = count_of(forests, list);
     let mut out = String::new(alloc);
     write!(out, "{count}")?;
     put_all(
@@ -88,17 +89,16 @@ fn others_of(group: Group) -> usize
 /// What an item is called, and how many others there are.
 fn item_label(
     alloc: Global,
-    both: &Both<'_>,
+    forests: &RankedForests<'_>,
     keys: &Keys,
     item: NodeId,
     others: usize,
     room: usize,
 ) -> Result<String, AllocError>
-    requires ranked { RanksAre both.now.graph both.now.ranks }
-    ensures ok { IfOk result (λ text. AreKeys both.now keys.now → Some (string_bytes text) ≡ item_label room others (Some (tree both.now.graph item.0))) }
+    ensures ok { IfOk result (λ text. AreKeys forests.now keys.now → Some (string_bytes text) ≡ item_label room others (Some (tree forests.now item.0))) }
 {
     let mut out = String::new(alloc);
-    put_item(alloc, &mut out, both, keys, item, room)?;
+    put_item(alloc, &mut out, forests, keys, item, room)?;
     put_others(&mut out, others)?;
     Ok(out)
 }
@@ -110,23 +110,22 @@ fn item_label(
 /// `OutOfMemory`
 pub fn label_of(
     alloc: Global,
-    both: &Both<'_>,
+    forests: &RankedForests<'_>,
     keys: &Keys,
     group: Group,
     path: &[Step],
     room: usize,
 ) -> Result<Option<String>, AllocError>
-    requires ranked { RanksAre both.now.graph both.now.ranks }
-    ensures ok { IfOk result (λ told. AreKeys both.now keys.now → option_map string_bytes told ≡ label both.now room group path.now) }
+    ensures ok { IfOk result (λ told. AreKeys forests.now keys.now → option_map string_bytes told ≡ label forests.now room group path.now) }
 {
     let Some((_, list)) = path.split_first() else {
         return Ok(None);
     };
     if group.whole {
-        return Ok(Some(order_label(alloc, both, list)?));
+        return Ok(Some(order_label(alloc, forests, list)?));
     }
-    let Some(item) = left_node(both, path) else {
+    let Some(item) = left_node(forests, path) else {
         return Ok(None);
     };
-    Ok(Some(item_label(alloc, both, keys, item, others_of(group), room)?))
+    Ok(Some(item_label(alloc, forests, keys, item, others_of(group), room)?))
 }
