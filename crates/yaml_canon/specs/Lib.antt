@@ -4,7 +4,7 @@ pub mod RefusedRanks
 pub mod Ranks
 pub mod Spelled
 pub mod Both
-pub mod Two
+pub mod Tee
 pub mod Claims
 pub mod FaultPlaces
 pub mod Comparing
@@ -13,3 +13,4 @@ pub mod Runs
 pub mod Targets
 pub mod Rooms
 pub mod Written
+pub mod Streams

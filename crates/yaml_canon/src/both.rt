@@ -2,17 +2,14 @@
 ghost use Rattle.std.specs.Prelude.{◌≡◌, ◌++◌, ℕ, List, [], IfOk, IfErr};
 ghost use Rattle.yaml_graph.specs.GraphView.{forest as root_trees};
 ghost use Rattle.yaml_canon.specs.Both.{HasBoth, HaveRanks};
-ghost use Rattle.yaml_canon.specs.Two.{KeepsBoth};
 ghost use Rattle.yaml_canon.specs.Comparing.{IsComposed};
 ghost use Rattle.yaml_canon.specs.Refused.{RefusesSide};
 
 use crate::forest::{forest_of, kept_source, lent, source_of};
 use crate::ranks::{RankedForest, ranked_roots};
 use crate::sides::with_side;
-use crate::two::Two;
 use std::alloc::Global;
 use yaml_graph::graph::Graph;
-use yaml_sink::sink::Keeper;
 use yaml_store_composer::Composing;
 use yaml_text::Side;
 use yaml_text::fault::Fault;
@@ -102,57 +99,6 @@ pub fn forest_of_both<'l>(
         return Err(none_of_right(alloc, right));
     };
     Ok(BothForests { forest, left: size })
-}
-
-/// The same, with a keeper that starts empty and receives the events of the left side and then those of the right one; and how
-/// many of them belong to the left side. So a caller learns the offsets of events without a second reading.
-pub fn forest_of_both_with<'l, K: Keeper>(
-    alloc: Global,
-    left: &'l [u8],
-    right: &[u8],
-    keeper: K,
-) -> Result<(BothForests<'l>, K, usize), (Side, Fault)>
-    requires { K.holds keeper [] }
-    ensures both { IfOk result (λ made. HasBoth left.now right.now made.0) }
-    ensures why { IfErr result (λ refusal. RefusesSide left.now right.now refusal.0 refusal.1) }
-    ensures kept { IfOk result (λ made. KeepsBoth K.holds left.now right.now made.1 made.2) }
-{
-    let first_text = match source_of(left) {
-        Ok(text) => text,
-        Err(why) => return Err((Side::Left, why)),
-    };
-    let first = match Composing::new(alloc, lent(&first_text)) {
-        Ok(first) => first,
-        Err(why) => return Err((Side::Left, Fault::from(why))),
-    };
-    let empty = Two {
-        first,
-        second: keeper,
-    };
-    let mut begun = match kept_source(alloc, empty, &first_text) {
-        Ok(begun) => begun,
-        Err(why) => return Err((Side::Left, why)),
-    };
-    let size = match begun.first.documents() {
-        Ok(size) => size,
-        Err(why) => return Err((Side::Left, why)),
-    };
-    let events = begun.second.mark();
-    let second_text = match source_of(right) {
-        Ok(text) => text,
-        Err(why) => return Err((Side::Right, why)),
-    };
-    let Two {
-        first: both,
-        second: kept,
-    } = match kept_source(alloc, begun, &second_text) {
-        Ok(both) => both,
-        Err(why) => return Err((Side::Right, why)),
-    };
-    let Ok(forest) = both.finish() else {
-        return Err(none_of_right(alloc, right));
-    };
-    Ok((BothForests { forest, left: size }, kept, events))
 }
 
 /// The ranked nodes of the streams that both sides are, in one store, so that their ranks can be compared.

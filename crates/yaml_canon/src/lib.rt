@@ -13,8 +13,9 @@ pub mod same_streams;
 mod sides;
 pub mod spell;
 pub mod spelled_ranks;
+pub mod streams;
 mod target;
-mod two;
+mod tee;
 pub mod written;
 
 pub use canonical_text::canonical;
@@ -24,5 +25,6 @@ pub use run::run_canonical;
 pub use same_streams::same;
 pub use spell::canonical_len;
 pub use spelled_ranks::SpelledRanks;
+pub use streams::{ranked_streams, ranked_streams_with};
 pub use written::ranked_stream;
 pub use yaml_text::{Side, gather, gathering, side};

@@ -8,7 +8,7 @@ ghost use Rattle.yaml_text.specs.declared.fault.Fault.TheVariants.{OutOfMemory};
 ghost use Rattle.yaml_sink.specs.Held.{Keeps, Puts, Alters};
 ghost use Rattle.yaml_sink.specs.PropertyRules.{props_of};
 ghost use Rattle.yaml_sink.specs.SinkModel.{start_of, end_of};
-ghost use Rattle.yaml_tree_builder.specs.Reached.{UnfoldTo, all_events};
+ghost use Rattle.yaml_tree_builder.specs.Reached.{UnfoldTo, HaveDocuments, all_events};
 ghost use Rattle.yaml_tree_builder.specs.BuilderModel.{IsForest, AreForests, AreStreams};
 ghost use Rattle.yaml_store_composer.specs.KeeperModel.{Composes, MakesRoom, CountsOn, DressesOne};
 ghost use Rattle.yaml_tree.specs.Refused.{RefusesStream};
@@ -256,6 +256,7 @@ impl<'s> Composing<'s> {
     /// How many documents and nodes a whole stream has. The events of a second one may follow.
     pub fn documents(&mut self) -> Result<StreamSize, Fault>
         ensures count { (ds : List Document) → Composes self.old (stream_events ds) → IfOk result (UnfoldTo ds) }
+        ensures streams { (dss : List (List Document)) → Composes self.old (all_events dss) → IfOk result (λ size. HaveDocuments dss size.documents) }
         ensures keeps { IfOk result (λ _. Keeps Composes self.old self.new) }
         ensures refused { (ds : List Document) → Composes self.old (stream_events ds) → IfErr result (RefusesStream ds) }
     {

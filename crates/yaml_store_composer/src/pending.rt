@@ -11,7 +11,7 @@ ghost use Rattle.yaml_text.specs.EventModel.{style_of};
 ghost use Rattle.yaml_sink.specs.Held.{Puts, Alters};
 ghost use Rattle.yaml_sink.specs.PropertyRules.{props_of, with_props, dressed};
 ghost use Rattle.yaml_sink.specs.SinkModel.{start_of, end_of};
-ghost use Rattle.yaml_tree_builder.specs.Reached.{UnfoldTo, all_events};
+ghost use Rattle.yaml_tree_builder.specs.Reached.{UnfoldTo, HaveDocuments, all_events};
 ghost use Rattle.yaml_tree_builder.specs.BuilderModel.{IsForest, AreForests, AreStreams};
 ghost use Rattle.yaml_tree_builder.specs.TagModel.{kind_in};
 ghost use Rattle.yaml_store_composer.specs.PendingModel.{settled, Tells, IsPaid, Settles, GoesOn};
@@ -412,6 +412,7 @@ impl<'s> PendingProperties<'s> {
     /// How many documents and nodes there are, where no collection is open.
     pub(crate) fn documents(&mut self) -> Result<StreamSize, Fault>
         ensures count { (ds : List Document) → Tells self.old (stream_events ds) → IfOk result (UnfoldTo ds) }
+        ensures streams { (dss : List (List Document)) → Tells self.old (all_events dss) → IfOk result (λ size. HaveDocuments dss size.documents) }
         ensures keeps { IfOk result (λ _. GoesOn self.old self.new) }
         ensures refused { (ds : List Document) → Tells self.old (stream_events ds) → IfErr result (RefusesStream ds) }
     {

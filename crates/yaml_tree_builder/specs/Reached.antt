@@ -1,5 +1,5 @@
 -- What events come to where nothing is refused.
-use Rattle.std.specs.Prelude.{◌≡◌, List, [], ◌∷◌, ◌++◌, length, Ok, Some}
+use Rattle.std.specs.Prelude.{◌≡◌, ℕ, List, [], ◌∷◌, ◌++◌, length, Ok, Some}
 use Rattle.yaml_definitions.specs.model.Tree.{Tree}
 use Rattle.yaml_definitions.specs.model.Event.{Event}
 use Rattle.yaml_definitions.specs.model.Serial.{Document, stream_events}
@@ -60,6 +60,12 @@ all_closed _ _ = []
 abbrev pub all_events : List (List Document) → List Event
 all_events [] = []
 all_events (ds ∷ dss) = stream_events ds ++ all_events dss
+
+-- The documents of these streams unfold to trees, so many in all.
+pub record HaveDocuments (dss : List (List Document)) (count : ℕ) : Type 0 where
+  pub forests : List (List Tree)
+  pub unfolded : AllUnfold dss forests
+  pub count_is : count ≡ length (all_trees forests)
 
 -- The documents of these streams unfold to these trees, and their nodes to those, as they close.
 pub record UnfoldAll (dss : List (List Document)) (ts closed : List Tree) : Type 0 where

@@ -10,7 +10,7 @@ ghost use Rattle.yaml_tree.specs.Anchors.{names_of, Placed};
 ghost use Rattle.yaml_tree.specs.ComposerSteps.{State, initial_state, node_begun, whole};
 ghost use Rattle.yaml_store.specs.StoreGrows.{Stands, Keeps, trees_of};
 ghost use Rattle.yaml_store.specs.declared.store.Store.{Store};
-ghost use Rattle.yaml_tree_builder.specs.Reached.{Reaches, UnfoldTo, all_events};
+ghost use Rattle.yaml_tree_builder.specs.Reached.{Reaches, UnfoldTo, HaveDocuments, all_events};
 ghost use Rattle.yaml_tree_builder.specs.Nodes.{AreNodes};
 ghost use Rattle.yaml_tree_builder.specs.FirstsModel.{Comes};
 ghost use Rattle.yaml_tree_builder.specs.BuilderModel.{with_store, Holds, Stepped, IsForest, AreForests, AreStreams, IsNumber, HasTag, start_of, end_of, OpensBare};
@@ -132,6 +132,7 @@ impl<'s> TreeBuilder<'s> {
     /// How many documents and nodes there are.
     pub(crate) fn documents(&self) -> Result<StreamSize, Fault>
         ensures size { (ds : List Document) (s : State) → Reaches (stream_events ds) initial_state s → Holds self.now s → IfOk result (UnfoldTo ds) }
+        ensures streams { (dss : List (List Document)) (s : State) → Reaches (all_events dss) initial_state s → Holds self.now s → IfOk result (λ size. HaveDocuments dss size.documents) }
         ensures refused { (ds : List Document) (s : State) → Reaches (stream_events ds) initial_state s → Holds self.now s → IfErr result (RefusesStream ds) }
     {
         if let Some(document) = first_too_high(&self.store, &self.stack) {

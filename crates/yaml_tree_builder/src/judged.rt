@@ -7,7 +7,7 @@ ghost use Rattle.yaml_definitions.specs.model.Serial.{Document, stream_events};
 ghost use Rattle.yaml_text.specs.EventModel.{style_of};
 ghost use Rattle.yaml_sink.specs.Held.{Puts};
 ghost use Rattle.yaml_sink.specs.PropertyRules.{props_of};
-ghost use Rattle.yaml_tree_builder.specs.Reached.{UnfoldTo, all_events};
+ghost use Rattle.yaml_tree_builder.specs.Reached.{UnfoldTo, HaveDocuments, all_events};
 ghost use Rattle.yaml_tree_builder.specs.Nodes.{AreNodes};
 ghost use Rattle.yaml_tree_builder.specs.BuilderModel.{IsForest, AreForests, AreStreams, start_of, end_of};
 ghost use Rattle.yaml_tree.specs.Refused.{RefusesStream};
@@ -227,6 +227,7 @@ impl<'s> Judged<'s> {
     /// How many documents and nodes there are, where no collection is open.
     pub fn documents(&self) -> Result<StreamSize, Fault>
         ensures count { (ds : List Document) → Judges self.now (stream_events ds) → IfOk result (UnfoldTo ds) }
+        ensures streams { (dss : List (List Document)) → Judges self.now (all_events dss) → IfOk result (λ size. HaveDocuments dss size.documents) }
         ensures refused { (ds : List Document) → Judges self.now (stream_events ds) → IfErr result (RefusesStream ds) }
     {
         if let Some(refusal) = self.refusal {

@@ -7,16 +7,16 @@ use yaml_text::fault::Fault;
 
 /// Two keepers, each of which is told of each event.
 #[derive(Drop)]
-pub(crate) struct Two<A, B> {
+pub(crate) struct Tee<A, B> {
     pub(crate) first: A,
     pub(crate) second: B,
 }
 
-impl<A: Keeper, B: Keeper> Keeper for Two<A, B> {
+impl<A: Keeper, B: Keeper> Keeper for Tee<A, B> {
     ghost use Rattle.yaml_sink.specs.Held.{Counts, Keeps, Puts, Alters};
-    ghost use Rattle.yaml_canon.specs.Two.{HoldTwo};
+    ghost use Rattle.yaml_canon.specs.Tee.{TeeHolds};
 
-    ghost holds = { HoldTwo A.holds B.holds };
+    ghost holds = { TeeHolds A.holds B.holds };
 
     fn mark(&self) -> usize {
         self.first.mark()
