@@ -1,5 +1,4 @@
 mod BorderLaws
-pub mod FourLaws
 pub mod JudgeLaws
 mod LineLaws
 mod PartLaws

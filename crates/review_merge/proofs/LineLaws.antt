@@ -14,7 +14,7 @@ use Rattle.yaml_tree.specs.declared.node.NodeId.{NodeId}
 use Rattle.yaml_path.specs.declared.place.Place.{Place}
 use Rattle.yaml_diff.specs.declared.difference.Step.{Step}
 use Rattle.yaml_conflicts.specs.declared.sides.Conflict.{Conflict}
-use Rattle.review_text.specs.declared.both.Both.{Both}
+use Rattle.yaml_store_rank.specs.Forests.{Forests}
 use Rattle.yaml_diff.specs.Lines.{way_of}
 use Rattle.review_text.specs.PathText.{path_text}
 use Rattle.review_merge.specs.Parts.{Values, values_in, budget, ShowsValues}
@@ -97,12 +97,12 @@ streams_put o a s b u t r e n x1 x2 x3 x4 x5 x6 x7 x8 x9 h1 h2 h3 h4 h5 h6 h7 h8
     (then_more x5 x6 x9 t _ h6
     (then_more x6 x7 x9 r _ h7 (then_more x7 x8 x9 e n h8 h9)))))))
 
-pub styled_put : {T E : Type 0} (both : Both) (style : Style) (number : ℕ) (conflict : Conflict) (left after : ℕ) (r : Result T E) (o n path : List ℕ) (values : Values) → path ≡ path_text style.numbered (way_of both.graph (steps_of conflict))
-    → ShowsValues both.graph (nodes_of style.given conflict.sides) left after values style.print.whole
+pub styled_put : {T E : Type 0} (g : Forests) (style : Style) (number : ℕ) (conflict : Conflict) (left after : ℕ) (r : Result T E) (o n path : List ℕ) (values : Values) → path ≡ path_text style.numbered (way_of g (steps_of conflict))
+    → ShowsValues g (nodes_of style.given conflict.sides) left after values style.print.whole
     → OnOk r ((places : List (Option Place)) × Tells number style.seats.items places × (n ≡ o ++ line_text style.given style.print.color path values places))
-    → OnOk r ((text : List ℕ) × IsStyled both style (number, conflict) left after text × (n ≡ o ++ text))
-styled_put both style number conflict left after r o n path values e shows h =
-    let told = path_text style.numbered (way_of both.graph (steps_of conflict)) in
+    → OnOk r ((text : List ℕ) × IsStyled g style (number, conflict) left after text × (n ≡ o ++ text))
+styled_put g style number conflict left after r o n path values e shows h =
+    let told = path_text style.numbered (way_of g (steps_of conflict)) in
     on_ok r (λ w. (
       line_text style.given style.print.color told values w.0,
       record { values = values; places = w.0; shows = shows; tells = w.1; is = refl },
@@ -164,16 +164,16 @@ abbrev pub HasViews : Bool → List (List Step) → List View → List Seats →
 HasViews false paths views seats = seats ≡ []
 HasViews true paths views seats = Each (λ view one. HasPlaces paths view one.places.items) views seats
 
-views_of : (both : Both) (paths : List (List Step)) (sides : List Side) (seats : List Seats) → Each (HasSeats both paths) sides seats → (views : List View) × Each (Views both) sides views × Each (λ view one. HasPlaces paths view one.places.items) views seats
-views_of both paths [] seats h = ([], refl, h)
-views_of both paths (side ∷ sides) seats h =
-    let r = views_of both paths sides h.1 h.3 in
+views_of : (g : Forests) (paths : List (List Step)) (sides : List Side) (seats : List Seats) → Each (HasSeats g paths) sides seats → (views : List View) × Each (Views g) sides views × Each (λ view one. HasPlaces paths view one.places.items) views seats
+views_of g paths [] seats h = ([], refl, h)
+views_of g paths (side ∷ sides) seats h =
+    let r = views_of g paths sides h.1 h.3 in
     let v = h.2.0 in
     (v ∷ r.0, (v, r.0, h.2.1, r.1, refl), (h.0, h.1, h.2.2, r.2, h.4))
 
-views_asked : (asked : Bool) (both : Both) (paths : List (List Step)) (sides : List Side) (seats : List Seats) → HasAsked asked both paths sides seats → (views : List View) × ViewsAre asked both sides views × HasViews asked paths views seats
-views_asked false both paths sides seats h = ([], refl, h)
-views_asked true both paths sides seats h = views_of both paths sides seats h
+views_asked : (asked : Bool) (g : Forests) (paths : List (List Step)) (sides : List Side) (seats : List Seats) → HasAsked asked g paths sides seats → (views : List View) × ViewsAre asked g sides views × HasViews asked paths views seats
+views_asked false g paths sides seats h = ([], refl, h)
+views_asked true g paths sides seats h = views_of g paths sides seats h
 
 places_shown : (asked : Bool) (paths : List (List Step)) (views : List View) (seats : List Seats) (number : ℕ) (path : List Step) (places : List (Option Place)) → HasViews asked paths views seats → slice_get paths number ≡ Some path → Tells number seats places
     → ShowsPlaces asked views path places
@@ -183,12 +183,12 @@ places_shown true paths views seats number path places h e t =
 
 -- ---- all lines
 
-module _ (both : Both) (style : Style) (views : List View) (list : List Conflict) where
-  pub styled_are : HasViews style.print.places (map steps_of list) views style.seats.items → (text : List ℕ) → AreLines (IsStyled both style) (enumerate_from 0 list) budget text
-      → AreLines (IsLine both style.print style.given style.numbered views) list budget text
-  styled_are h = lines_of (IsStyled both style) (IsLine both style.print style.given style.numbered views) list 0 by budget
+module _ (g : Forests) (style : Style) (views : List View) (list : List Conflict) where
+  pub styled_are : HasViews style.print.places (map steps_of list) views style.seats.items → (text : List ℕ) → AreLines (IsStyled g style) (enumerate_from 0 list) budget text
+      → AreLines (IsLine g style.print style.given style.numbered views) list budget text
+  styled_are h = lines_of (IsStyled g style) (IsLine g style.print style.given style.numbered views) list 0 by budget
     where
-      by : (k : ℕ) (one : Conflict) (left after : ℕ) (text : List ℕ) → slice_get list k ≡ Some one → IsStyled both style (0 + k, one) left after text → IsLine both style.print style.given style.numbered views one left after text
+      by : (k : ℕ) (one : Conflict) (left after : ℕ) (text : List ℕ) → slice_get list k ≡ Some one → IsStyled g style (0 + k, one) left after text → IsLine g style.print style.given style.numbered views one left after text
       by k one left after text e p =
           let q : k ≡ 0 + k = omega arith in
           let there : slice_get (map steps_of list) k ≡ Some (steps_of one) = slice_get-map steps_of list k ∙ ap (option_map steps_of) e in
@@ -200,25 +200,25 @@ module _ (both : Both) (style : Style) (views : List View) (list : List Conflict
             is = p.is;
           }
 
-module _ (both : Both) (print : Print) (given numbered : Bool) (sides : List Side) where
-  pub list_none : (list : List Conflict) (whole : Bool) (text : List ℕ) → length list ≡ 0 → text ≡ [] → IsListText both print given numbered sides list whole text
+module _ (g : Forests) (print : Print) (given numbered : Bool) (sides : List Side) where
+  pub list_none : (list : List Conflict) (whole : Bool) (text : List ℕ) → length list ≡ 0 → text ≡ [] → IsListText g print given numbered sides list whole text
   list_none [] whole text e h = h
   list_none (x ∷ list) whole text e h = absurd (omega (arith, e))
 
-  pub list_some : (list : List Conflict) (whole : Bool) (lines text : List ℕ) (views : List View) → ViewsAre print.places both sides views → (length list ≡ 0 → ⊥) → AreLines (IsLine both print given numbered views) list budget lines → text ≡ lines ++ more_text whole → IsListText both print given numbered sides list whole text
+  pub list_some : (list : List Conflict) (whole : Bool) (lines text : List ℕ) (views : List View) → ViewsAre print.places g sides views → (length list ≡ 0 → ⊥) → AreLines (IsLine g print given numbered views) list budget lines → text ≡ lines ++ more_text whole → IsListText g print given numbered sides list whole text
   list_some [] whole lines text views v n h e = absurd (n refl)
   list_some (x ∷ list) whole lines text views v n h e = (views, lines, v, h, e)
 
-pub list_told : (both : Both) (style : Style) (print : Print) (given numbered : Bool) (seats : List Seats) (sides : List Side) (list : List Conflict) (whole : Bool) (lines text : List ℕ) (paths : List (List Step))
-    → style.print ≡ print → style.given ≡ given → style.numbered ≡ numbered → style.seats.items ≡ seats → paths ≡ map steps_of list → HasAsked print.places both paths sides seats
-    → (length list ≡ 0 → ⊥) → AreLines (IsStyled both style) (enumerate_from 0 list) budget lines → text ≡ lines ++ more_text whole → IsListText both print given numbered sides list whole text
-list_told both style print given numbered seats sides list whole lines text paths ep eg en es ea asked n h e =
-    let a = subst (λ z. HasAsked z.places both paths sides seats) (sym ep) asked in
-    let b = subst (λ z. HasAsked style.print.places both z sides seats) ea a in
-    let d = subst (λ z. HasAsked style.print.places both (map steps_of list) sides z) (sym es) b in
-    let w = views_asked style.print.places both (map steps_of list) sides style.seats.items d in
-    let told = list_some both style.print style.given style.numbered sides list whole lines text w.0 w.1 n (styled_are both style w.0 list w.2 lines h) e in
-    subst (λ z. IsListText both z given numbered sides list whole text) ep (subst (λ z. IsListText both style.print z numbered sides list whole text) eg (subst (λ z. IsListText both style.print style.given z sides list whole text) en told))
+pub list_told : (g : Forests) (style : Style) (print : Print) (given numbered : Bool) (seats : List Seats) (sides : List Side) (list : List Conflict) (whole : Bool) (lines text : List ℕ) (paths : List (List Step))
+    → style.print ≡ print → style.given ≡ given → style.numbered ≡ numbered → style.seats.items ≡ seats → paths ≡ map steps_of list → HasAsked print.places g paths sides seats
+    → (length list ≡ 0 → ⊥) → AreLines (IsStyled g style) (enumerate_from 0 list) budget lines → text ≡ lines ++ more_text whole → IsListText g print given numbered sides list whole text
+list_told g style print given numbered seats sides list whole lines text paths ep eg en es ea asked n h e =
+    let a = subst (λ z. HasAsked z.places g paths sides seats) (sym ep) asked in
+    let b = subst (λ z. HasAsked style.print.places g z sides seats) ea a in
+    let d = subst (λ z. HasAsked style.print.places g (map steps_of list) sides z) (sym es) b in
+    let w = views_asked style.print.places g (map steps_of list) sides style.seats.items d in
+    let told = list_some g style.print style.given style.numbered sides list whole lines text w.0 w.1 n (styled_are g style w.0 list w.2 lines h) e in
+    subst (λ z. IsListText g z given numbered sides list whole text) ep (subst (λ z. IsListText g style.print z numbered sides list whole text) eg (subst (λ z. IsListText g style.print style.given z sides list whole text) en told))
 
 -- ---- the seats of all sides
 

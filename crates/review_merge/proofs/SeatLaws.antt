@@ -21,34 +21,13 @@ use Rattle.std.proofs.lemmas.Option.{slice_get_within}
 use Rattle.yaml_tree.specs.declared.node.NodeId.{NodeId}
 use Rattle.yaml_path.specs.declared.place.Place.{Place}
 use Rattle.yaml_diff.specs.declared.difference.Step.{Step}
-use Rattle.review_text.specs.declared.both.Both.{Both}
-use Rattle.review_places.specs.Layout.{offsets_of, node_numbers, node_told, IsLayout}
-use Rattle.review_places.specs.Seats.{both_of, IsRanked, IsEnd, Leads, IsSeat, HasNoSeat, SameStream}
+use Rattle.yaml_store_rank.specs.Forests.{Forests}
+use Rattle.review_places.specs.Layout.{offsets_of, IsLayout}
+use Rattle.review_places.specs.Seats.{IsSeat, HasNoSeat}
 use Rattle.review_places.specs.Told.{IsTold as IsGiven}
 use Rattle.review_places.specs.declared.finder.Finder.{Finder}
 use Rattle.review_places.specs.declared.finder.Seat.{Seat}
 use Rattle.review_merge.specs.Placed.{unmarked, IsLaid, View, Views, IsPlaceOf, IsTold, AddsOffset, HasOffsets, HasPlaces}
-
--- ---- a finder of the same stream
-
-pub same_start : (finder : Finder) → SameStream finder finder
-same_start finder = record { both = refl; stream = refl; layout = refl }
-
-pub same_then : (a b c : Finder) → SameStream a b → SameStream b c → SameStream a c
-same_then a b c h k = record { both = k.both ∙ h.both; stream = k.stream ∙ h.stream; layout = k.layout ∙ h.layout }
-
-pub same_seat : (old new : Finder) (path : List Step) (seat : Seat) → SameStream old new → IsSeat new path seat → IsSeat old path seat
-same_seat old new path seat e s = record {
-  node = s.node;
-  end = subst (λ z. IsEnd z old.stream old.layout path s.node seat.event seat.is_own) e.both (subst (λ z. IsEnd (both_of new) z old.layout path s.node seat.event seat.is_own) e.stream (subst (λ z. IsEnd (both_of new) new.stream z path s.node seat.event seat.is_own) e.layout s.end));
-  offset = subst (λ z. slice_get (offsets_of z) seat.event ≡ Some seat.offset) e.layout s.offset;
-  number = subst (λ z. seat.node ≡ node_told (slice_get (node_numbers z) seat.event)) e.layout s.number;
-}
-
-pub same_nowhere : (old new : Finder) (path : List Step) → SameStream old new → HasNoSeat new path → HasNoSeat old path
-same_nowhere old new path e h ranked node event own leads =
-    let moved = subst (λ z. Leads (both_of new) new.stream z path node event own) (sym e.layout) (subst (λ z. Leads (both_of new) z old.layout path node event own) (sym e.stream) (subst (λ z. Leads z old.stream old.layout path node event own) (sym e.both) leads)) in
-    subst (λ z. slice_get (offsets_of z) event ≡ None) e.layout (h (subst IsRanked (sym e.both) ranked) node event own moved)
 
 -- ---- offsets
 
@@ -97,10 +76,10 @@ offsets_all finder paths count offsets l h = record {
   none = λ number path at n. h.none number path (let m = slice_get_within paths number path at in omega (arith, l, m)) at n;
 }
 
-pub offsets_added : (start now : Finder) (paths : List (List Step)) (count : ℕ) (offsets more : List (ℕ × ℕ)) (path : List Step) → SameStream start now → slice_get paths count ≡ Some path → AddsOffset now path count offsets more → OffsetsTo start paths count offsets
-    → OffsetsTo start paths (count + 1) more
-offsets_added start now paths count offsets more path same here (inl w) h = offsets_seat start paths count offsets more path w.0 here (same_seat start now path w.0 same w.1) w.2 h
-offsets_added start now paths count offsets more path same here (inr w) h = subst (OffsetsTo start paths (count + 1)) (sym w.1) (offsets_none start paths count offsets path here (same_nowhere start now path same w.0) h)
+pub offsets_added : (finder : Finder) (paths : List (List Step)) (count : ℕ) (offsets more : List (ℕ × ℕ)) (path : List Step) → slice_get paths count ≡ Some path → AddsOffset finder path count offsets more → OffsetsTo finder paths count offsets
+    → OffsetsTo finder paths (count + 1) more
+offsets_added finder paths count offsets more path here (inl w) h = offsets_seat finder paths count offsets more path w.0 here w.1 w.2 h
+offsets_added finder paths count offsets more path here (inr w) h = subst (OffsetsTo finder paths (count + 1)) (sym w.1) (offsets_none finder paths count offsets path here w.0 h)
 
 -- ---- the layout of a stream
 
@@ -127,9 +106,9 @@ from_map {X} {Y} f xs y c = by xs c.0 c.1 c.2
     by (x ∷ xs) zero l e = (x, (0, omega arith, refl), e)
     by (x ∷ xs) (suc k) l e = let w = by xs k (omega (arith, l)) e in (w.0, (suc w.1.0, let m = w.1.1 in omega (arith, m), w.1.2), w.2)
 
-pub seats_are : (both : Both) (paths : List (List Step)) (roots : List NodeId) (bytes : List ℕ) (finder : Finder) (offsets : List (ℕ × ℕ)) (places : List (ℕ × Place)) → Views both (roots, bytes) (finder, bytes) → HasOffsets finder paths offsets
-    → All (IsGiven (unmarked bytes) offsets) places → IsPermutation (map (λ given. given.1) offsets) (map (λ told. told.0) places) → (view : View) × Views both (roots, bytes) view × HasPlaces paths view places
-seats_are both paths roots bytes finder offsets places views h given numbers = ((finder, bytes), views, by)
+pub seats_are : (g : Forests) (paths : List (List Step)) (roots : List NodeId) (bytes : List ℕ) (finder : Finder) (offsets : List (ℕ × ℕ)) (places : List (ℕ × Place)) → Views g (roots, bytes) (finder, bytes) → HasOffsets finder paths offsets
+    → All (IsGiven (unmarked bytes) offsets) places → IsPermutation (map (λ given. given.1) offsets) (map (λ told. told.0) places) → (view : View) × Views g (roots, bytes) view × HasPlaces paths view places
+seats_are g paths roots bytes finder offsets places views h given numbers = ((finder, bytes), views, by)
   where
     by : (number : ℕ) (path : List Step) (place : Option Place) → slice_get paths number ≡ Some path → IsTold places number place → IsPlaceOf path (finder, bytes) place
     by number path None at told = h.none number path at (λ offset c.

@@ -5,7 +5,7 @@ use Rattle.std.specs.Borrow.{Bor}
 use Rattle.std.specs.Option.{is_some, option_map}
 use Rattle.yaml_conflicts.specs.declared.streams.Outcome.{Outcome}
 use Rattle.yaml_conflicts.specs.declared.streams.Roots.{Roots}
-use Rattle.review_text.specs.declared.both.Both.{Both}
+use Rattle.yaml_store_rank.specs.Forests.{Forests}
 use Rattle.review_merge.specs.Lines.{sides_of, sides_in, IsOutcomeText}
 use Rattle.review_merge.specs.Merges.{IsAskedText, HasSources}
 use Rattle.review_merge.specs.declared.lines.Sources.{Sources}
@@ -25,10 +25,10 @@ given_is None true x e = absurd cc
 given_is (Some b) true x e = refl
 given_is (Some b) false x e = absurd cc
 
-pub sources_told : (bytes : Bytes) (given : Bool) (sources : Sources) (both : Both) (print : Print) (roots : Roots) (outcome : Outcome) (text : List ℕ) → HasSources bytes given sources
-    → IsAskedText print.lines (IsOutcomeText both print (is_some sources.result) roots (sides_in roots sources) outcome text) text
-    → IsAskedText print.lines (IsOutcomeText both print given roots (sides_of roots bytes.base.items bytes.ours.items bytes.theirs.items (cond given (Some bytes.result.items) None)) outcome text) text
-sources_told bytes given sources both print roots outcome text h t =
+pub sources_told : (bytes : Bytes) (given : Bool) (sources : Sources) (g : Forests) (print : Print) (roots : Roots) (outcome : Outcome) (text : List ℕ) → HasSources bytes given sources
+    → IsAskedText print.lines (IsOutcomeText g print (is_some sources.result) roots (sides_in roots sources) outcome text) text
+    → IsAskedText print.lines (IsOutcomeText g print given roots (sides_of roots bytes.base.items bytes.ours.items bytes.theirs.items (cond given (Some bytes.result.items) None)) outcome text) text
+sources_told bytes given sources g print roots outcome text h t =
     let sides : sides_in roots sources ≡ sides_of roots bytes.base.items bytes.ours.items bytes.theirs.items (cond given (Some bytes.result.items) None) = λ i. sides_of roots (h.base i) (h.ours i) (h.theirs i) (h.result i) in
-    subst (λ z. IsAskedText print.lines (IsOutcomeText both print given roots z outcome text) text) sides
-    (subst (λ z. IsAskedText print.lines (IsOutcomeText both print z roots (sides_in roots sources) outcome text) text) (given_is sources.result given bytes.result.items h.result) t)
+    subst (λ z. IsAskedText print.lines (IsOutcomeText g print given roots z outcome text) text) sides
+    (subst (λ z. IsAskedText print.lines (IsOutcomeText g print z roots (sides_in roots sources) outcome text) text) (given_is sources.result given bytes.result.items h.result) t)

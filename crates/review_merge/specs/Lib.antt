@@ -1,4 +1,3 @@
-pub mod Four
 pub mod Judged
 pub mod Lines
 pub mod Merges

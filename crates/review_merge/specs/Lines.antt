@@ -18,7 +18,7 @@ use Rattle.yaml_conflicts.specs.declared.streams.Outcome.{Outcome}
 use Rattle.yaml_conflicts.specs.declared.streams.Outcome.TheVariants.{Documents, Streams}
 use Rattle.review_text.specs.Hidden.{visible}
 use Rattle.review_text.specs.PathText.{path_text}
-use Rattle.review_text.specs.declared.both.Both.{Both}
+use Rattle.yaml_store_rank.specs.Forests.{Forests}
 use Rattle.review_merge.specs.Parts.{Values, ShowsValues, budget}
 use Rattle.review_merge.specs.Placed.{Each, Side, View, ViewsAre, IsPlaceOf, Tells}
 use Rattle.review_merge.specs.declared.lines.Style.{Style}
@@ -108,12 +108,12 @@ ShowsPlaces false views path places = places ≡ []
 ShowsPlaces true views path places = Each (IsPlaceOf path) views places
 
 -- The line of a conflict. So many bytes of whole texts may be looked at before and after it.
-pub record IsLine (both : Both) (print : Print) (given numbered : Bool) (views : List View) (conflict : Conflict) (left after : ℕ) (text : List ℕ) : Type 0 where
+pub record IsLine (g : Forests) (print : Print) (given numbered : Bool) (views : List View) (conflict : Conflict) (left after : ℕ) (text : List ℕ) : Type 0 where
   pub values : Values
   pub places : List (Option Place)
-  pub shows : ShowsValues both.graph (nodes_of given conflict.sides) left after values print.whole
+  pub shows : ShowsValues g (nodes_of given conflict.sides) left after values print.whole
   pub stand : ShowsPlaces print.places views (steps_of conflict) places
-  pub is : text ≡ line_text given print.color (path_text numbered (way_of both.graph (steps_of conflict))) values places
+  pub is : text ≡ line_text given print.color (path_text numbered (way_of g (steps_of conflict))) values places
 
 -- lines, each of which leaves so many bytes to those behind it
 module _ {X : Type 0} (IsText : X → ℕ → ℕ → List ℕ → Type 0) where
@@ -122,23 +122,23 @@ module _ {X : Type 0} (IsText : X → ℕ → ℕ → List ℕ → Type 0) where
   AreLines (x ∷ xs) left text = (after : ℕ) × (one : List ℕ) × (rest : List ℕ) × IsText x left after one × AreLines xs after rest × (text ≡ one ++ rest)
 
 -- The same line as it is written in a style.
-pub record IsStyled (both : Both) (style : Style) (numbered : ℕ × Conflict) (left after : ℕ) (text : List ℕ) : Type 0 where
+pub record IsStyled (g : Forests) (style : Style) (numbered : ℕ × Conflict) (left after : ℕ) (text : List ℕ) : Type 0 where
   pub values : Values
   pub places : List (Option Place)
-  pub shows : ShowsValues both.graph (nodes_of style.given numbered.1.sides) left after values style.print.whole
+  pub shows : ShowsValues g (nodes_of style.given numbered.1.sides) left after values style.print.whole
   pub tells : Tells numbered.0 style.seats.items places
-  pub is : text ≡ line_text style.given style.print.color (path_text style.numbered (way_of both.graph (steps_of numbered.1))) values places
+  pub is : text ≡ line_text style.given style.print.color (path_text style.numbered (way_of g (steps_of numbered.1))) values places
 
 -- what stands behind lines that are not all
 abbrev pub more_text : Bool → List ℕ
 more_text whole = cond whole [] (codes "...\n")
 
 -- nothing where there is nothing to tell, and else a line for each conflict
-module _ (both : Both) (print : Print) (given numbered : Bool) (sides : List Side) where
+module _ (g : Forests) (print : Print) (given numbered : Bool) (sides : List Side) where
   abbrev pub IsListText : List Conflict → Bool → List ℕ → Type 0
   IsListText [] whole text = text ≡ []
   IsListText (conflict ∷ conflicts) whole text =
-      (views : List View) × (lines : List ℕ) × ViewsAre print.places both sides views × AreLines (IsLine both print given numbered views) (conflict ∷ conflicts) budget lines × (text ≡ lines ++ more_text whole)
+      (views : List View) × (lines : List ℕ) × ViewsAre print.places g sides views × AreLines (IsLine g print given numbered views) (conflict ∷ conflicts) budget lines × (text ≡ lines ++ more_text whole)
 
 -- paths have the number of the document, unless each stream has one
 abbrev pub is_numbered : Roots → Bool
@@ -157,6 +157,6 @@ abbrev pub sides_in : Roots → Sources → List Side
 sides_in roots sources = sides_of roots sources.base.now sources.ours.now sources.theirs.now (option_map (λ bytes. bytes.now) sources.result)
 
 -- What is told of an outcome: a line for each path, or how many documents the streams have.
-abbrev pub IsOutcomeText : Both → Print → Bool → Roots → List Side → Outcome → List ℕ → Type 0
-IsOutcomeText both print given roots sides Streams text = text ≡ streams_text given print.color roots
-IsOutcomeText both print given roots sides (Documents found) text = IsListText both print given (is_numbered roots) sides found.list.items found.whole text
+abbrev pub IsOutcomeText : Forests → Print → Bool → Roots → List Side → Outcome → List ℕ → Type 0
+IsOutcomeText g print given roots sides Streams text = text ≡ streams_text given print.color roots
+IsOutcomeText g print given roots sides (Documents found) text = IsListText g print given (is_numbered roots) sides found.list.items found.whole text

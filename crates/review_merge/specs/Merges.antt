@@ -1,5 +1,5 @@
 -- What `merge3` promises.
-use Rattle.std.specs.Prelude.{◌≡◌, ℕ, zero, suc, Bool, true, false, cond, List, [], Option, Some, None}
+use Rattle.std.specs.Prelude.{◌≡◌, ℕ, zero, suc, Bool, true, false, cond, List, [], ◌∷◌, Option, Some, None}
 use Rattle.std.specs.Option.{is_some, option_map}
 use Rattle.yaml_definitions.specs.model.Tree.{Tree, Trees}
 use Rattle.yaml_definitions.specs.model.Same.{keyed_trees}
@@ -7,16 +7,16 @@ use Rattle.yaml_definitions.specs.model.Means.{Means}
 use Rattle.yaml_text.specs.declared.counted.Counted.{Counted}
 use Rattle.yaml_text.specs.Writers.{Printed}
 use Rattle.yaml_tree.specs.TreeLists.{trees}
+use Rattle.yaml_store_rank.specs.Forests.{Forests, IsRanked}
+use Rattle.yaml_canon.specs.Written.{ShowsStreams}
 use Rattle.yaml_conflicts.specs.MergedStreams.{IsStreamMerge}
 use Rattle.review_files.specs.Named.{ReadsNamed}
 use Rattle.review_files.specs.Statuses.{fault_status}
 use Rattle.yaml_conflicts.specs.Streams.{FindsStreams}
 use Rattle.yaml_conflicts.specs.declared.streams.Roots.{Roots}
 use Rattle.yaml_conflicts.specs.declared.streams.Outcome.{Outcome}
-use Rattle.review_merge.specs.Four.{FourAre}
 use Rattle.review_merge.specs.Judged.{verdict, RootsAre}
 use Rattle.review_merge.specs.Lines.{sides_of, IsOutcomeText}
-use Rattle.review_merge.specs.declared.four.Four.{Four}
 use Rattle.review_merge.specs.declared.print.Print.{Print}
 use Rattle.review_merge.specs.declared.lines.Sources.{Sources}
 use Rattle.review_merge.specs.declared.merge.Names.{Names}
@@ -54,16 +54,17 @@ abbrev pub IsAskedText : ℕ → Type 0 → List ℕ → Type 0
 IsAskedText zero is text = text ≡ []
 IsAskedText (suc lines) is text = is
 
--- The text is that of what is found in the four streams, and the answer says whether something is.
+-- The text is that of what is found in the streams of these bytes, and the answer says whether something is.
 pub record IsMergeText (given : Bool) (print : Print) (base ours theirs result : List ℕ) (answer : Option Bool) (text : List ℕ) : Type 0 where
-  pub four : Four
+  pub forests : Forests
   pub roots : Roots
   pub outcome : Outcome
-  pub are : FourAre base ours theirs result four
-  pub roots_are : RootsAre four given roots
-  pub finds : FindsStreams four.both.graph given roots outcome
+  pub show : ShowsStreams (base ∷ ours ∷ theirs ∷ result ∷ []) forests
+  pub ranked : IsRanked forests
+  pub roots_are : RootsAre forests given roots
+  pub finds : FindsStreams forests given roots outcome
   pub judged : answer ≡ verdict outcome
-  pub is : IsAskedText print.lines (IsOutcomeText four.both print given roots (sides_of roots base ours theirs (cond given (Some result) None)) outcome text) text
+  pub is : IsAskedText print.lines (IsOutcomeText forests print given roots (sides_of roots base ours theirs (cond given (Some result) None)) outcome text) text
 
 -- ---- files
 

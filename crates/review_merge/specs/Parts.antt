@@ -3,7 +3,7 @@ use Rattle.std.specs.Prelude.{◌≡◌, ◌⊎◌, ◌<◌, ◌-◌, ◌&&◌, 
 use Rattle.std.specs.Option.{option_map}
 use Rattle.std.specs.declared.alloc.Global.{Global}
 use Rattle.yaml_tree.specs.declared.node.NodeId.{NodeId}
-use Rattle.yaml_graph.specs.declared.graph.Graph.{Graph}
+use Rattle.yaml_store_rank.specs.Forests.{Forests}
 use Rattle.yaml_diff.specs.Lines.{tree_of}
 use Rattle.review_text.specs.Shown.{last_border, shown}
 use Rattle.review_text.specs.NodeText.{text_of}
@@ -16,10 +16,10 @@ abbrev pub values_in : List (Option (String Global)) → Values
 values_in texts = map (option_map string_bytes) texts
 
 -- the texts of nodes, of which so many bytes are shown
-abbrev pub node_value : Graph → ℕ → Option NodeId → Option (List ℕ)
+abbrev pub node_value : Forests → ℕ → Option NodeId → Option (List ℕ)
 node_value g room node = option_map (λ it. shown room (text_of (tree_of g it))) node
 
-abbrev pub node_texts : Graph → ℕ → List (Option NodeId) → Values
+abbrev pub node_texts : Forests → ℕ → List (Option NodeId) → Values
 node_texts g room nodes = map (node_value g room) nodes
 
 -- how many bytes of whole texts may be looked at for all lines together
@@ -93,7 +93,7 @@ parts_behind wholes before (value ∷ values) = option_map (part_behind wholes b
 
 -- ---- what a line has
 
-module _ (g : Graph) (nodes : List (Option NodeId)) (left after : ℕ) (values : Values) where
+module _ (g : Forests) (nodes : List (Option NodeId)) (left after : ℕ) (values : Values) where
   -- The first 60 bytes of each text, where no more whole texts may be looked at.
   pub record ShowsFronts : Type 0 where
     pub none_left : left ≡ 0

@@ -11,12 +11,12 @@ use Rattle.yaml_tree.specs.declared.node.NodeId.{NodeId}
 use Rattle.yaml_path.specs.LineModel.{IsPlace}
 use Rattle.yaml_path.specs.declared.place.Place.{Place}
 use Rattle.yaml_diff.specs.declared.difference.Step.{Step}
-use Rattle.review_text.specs.declared.both.Both.{Both}
+use Rattle.yaml_store_rank.specs.Forests.{Forests}
 use Rattle.review_places.specs.Layout.{offsets_of, IsLayout}
-use Rattle.review_places.specs.Seats.{layout_of, both_of, IsSeat, HasNoSeat}
+use Rattle.review_places.specs.Seats.{layout_of, forests_of, IsSeat, HasNoSeat}
 use Rattle.review_places.specs.Trace.{TraceHolds, shapes_in, offsets_in}
 use Rattle.review_places.specs.declared.finder.Finder.{Finder}
-use Rattle.review_places.specs.declared.finder.Hand.TheVariants.{Left}
+use Rattle.review_places.specs.declared.finder.Side.TheVariants.{Left}
 use Rattle.review_places.specs.declared.finder.Seat.{Seat}
 use Rattle.review_places.specs.declared.layout.Layout.{Layout}
 use Rattle.review_places.specs.declared.trace.Trace.{Trace}
@@ -52,9 +52,9 @@ abbrev pub View : Type 0
 View = Finder × List ℕ
 
 -- It finds the nodes of the documents with these roots, of which these are the bytes.
-pub record Views (both : Both) (side : Side) (view : View) : Type 0 where
-  pub graph : both_of view.0 ≡ both
-  pub hand : view.0.stream.hand ≡ Left
+pub record Views (g : Forests) (side : Side) (view : View) : Type 0 where
+  pub forests : forests_of view.0 ≡ g
+  pub side : view.0.stream.side ≡ Left
   pub roots : view.0.stream.roots.now ≡ side.0
   pub bytes : view.1 ≡ side.1
   pub laid : IsLaid side.1 (layout_of view.0)
@@ -84,8 +84,8 @@ abbrev pub HasPlaces : List (List Step) → View → List (ℕ × Place) → Typ
 HasPlaces paths view places =
     (number : ℕ) (path : List Step) (place : Option Place) → slice_get paths number ≡ Some path → IsTold places number place → IsPlaceOf path view place
 
-abbrev pub HasSeats : Both → List (List Step) → Side → Seats → Type 0
-HasSeats both paths side seats = (view : View) × Views both side view × HasPlaces paths view seats.places.items
+abbrev pub HasSeats : Forests → List (List Step) → Side → Seats → Type 0
+HasSeats g paths side seats = (view : View) × Views g side view × HasPlaces paths view seats.places.items
 
 -- the offset of the node to which a path leads is added with the path's number, or the path leads nowhere
 abbrev pub AddsOffset : Finder → List Step → ℕ → List (ℕ × ℕ) → List (ℕ × ℕ) → Type 0
@@ -102,11 +102,11 @@ abbrev pub Tells : ℕ → List Seats → List (Option Place) → Type 0
 Tells number = Each (λ seats place. IsTold seats.places.items number place)
 
 -- the seats of all sides, where places are asked for
-abbrev pub HasAsked : Bool → Both → List (List Step) → List Side → List Seats → Type 0
-HasAsked false both paths sides seats = seats ≡ []
-HasAsked true both paths sides seats = Each (HasSeats both paths) sides seats
+abbrev pub HasAsked : Bool → Forests → List (List Step) → List Side → List Seats → Type 0
+HasAsked false g paths sides seats = seats ≡ []
+HasAsked true g paths sides seats = Each (HasSeats g paths) sides seats
 
 -- a view of each side for all lines, where places are asked for
-abbrev pub ViewsAre : Bool → Both → List Side → List View → Type 0
-ViewsAre false both sides views = views ≡ []
-ViewsAre true both sides views = Each (Views both) sides views
+abbrev pub ViewsAre : Bool → Forests → List Side → List View → Type 0
+ViewsAre false g sides views = views ≡ []
+ViewsAre true g sides views = Each (Views g) sides views

@@ -1,15 +1,13 @@
 //! What is found of four streams.
-ghost use Rattle.std.specs.Prelude.{◌≡◌, ℕ, cond, List, IfOk};
+ghost use Rattle.std.specs.Prelude.{◌≡◌, cond, IfOk};
 ghost use Rattle.yaml_conflicts.specs.Streams.{FindsStreams};
-ghost use Rattle.review_merge.specs.Four.{FourAre};
 ghost use Rattle.review_merge.specs.Merges.{Says};
-ghost use Rattle.review_merge.specs.Judged.{verdict, RootsAre};
+ghost use Rattle.review_merge.specs.Judged.{verdict, merge_stream, stream_trees, RootsAre};
 
-use crate::four::Four;
 use std::alloc::Global;
 use yaml_conflicts::{Outcome, Room, Roots, stream_conflicts};
+use yaml_store_rank::RankedForests;
 use yaml_text::fault::Fault;
-use yaml_tree::node::NodeId;
 
 /// Whether nothing is found, which is known if something is found, or all places were looked at.
 pub(crate) fn verdict_of(outcome: &Outcome) -> Option<bool>
@@ -27,44 +25,37 @@ pub(crate) fn verdict_of(outcome: &Outcome) -> Option<bool>
     }
 }
 
-/// What stands in the place of the result: the base, if there is none.
-fn merged<'f>(given: bool, other: &'f [NodeId], base: &'f [NodeId]) -> &'f [NodeId]
-    ensures { result.now ≡ cond given other.now base.now }
+/// The stream that stands in the place of the result: the base, if there is none.
+fn merge_stream(given: bool) -> usize
+    ensures { result ≡ merge_stream given }
 {
-    if given { other } else { base }
+    if given { 3 } else { 0 }
 }
 
-/// The roots of the four streams.
-pub(crate) fn roots_of<'f>(four: &'f Four<'_>, given: bool) -> Roots<'f>
-    requires { (base ours theirs other : List ℕ) × FourAre base ours theirs other four.now }
-    ensures { RootsAre four.now given result }
+/// The roots of the base, of ours, of theirs and of the result.
+pub(crate) fn roots_of<'f>(forests: &'f RankedForests<'_>, given: bool) -> Roots<'f>
+    ensures { RootsAre forests.now given result }
 {
-    let roots = four.both.graph.roots();
-    let (base, after_base) = roots.split_at(four.both.documents);
-    let (ours, after_ours) = after_base.split_at(four.ours);
-    let (theirs, other) = after_ours.split_at(four.theirs);
     Roots {
-        base,
-        ours,
-        theirs,
-        merge: merged(given, other, base),
+        base: forests.documents(0),
+        ours: forests.documents(1),
+        theirs: forests.documents(2),
+        merge: forests.documents(merge_stream(given)),
     }
 }
 
 /// Where the streams conflict, or where the result is not the merge.
 pub(crate) fn judge(
     alloc: Global,
-    four: &Four<'_>,
+    forests: &RankedForests<'_>,
     roots: &Roots<'_>,
     given: bool,
     room: Room,
 ) -> Result<Outcome, Fault>
-    requires four { (base ours theirs other : List ℕ) × FourAre base ours theirs other four.now }
-    requires roots { RootsAre four.now given roots.now }
-    ensures finds { IfOk result (FindsStreams four.now.both.graph given roots.now) }
-    ensures says { (base ours theirs other : List ℕ) (are : FourAre base ours theirs other four.now) → IfOk result (λ outcome. Says given are.bases are.ours are.theirs are.others (verdict outcome)) }
+    requires { RootsAre forests.now given roots.now }
+    ensures finds { IfOk result (FindsStreams forests.now given roots.now) }
+    ensures says { IfOk result (λ outcome. Says given (stream_trees forests.now 0) (stream_trees forests.now 1) (stream_trees forests.now 2) (stream_trees forests.now 3) (verdict outcome)) }
 {
-    let graph = &four.both.graph;
-    let ranks = &four.both.ranks;
-    Ok(stream_conflicts(alloc, graph, ranks, roots, given, room)?)
+    forests.laws();
+    Ok(stream_conflicts(alloc, forests, roots, given, room)?)
 }

@@ -1,7 +1,6 @@
 //! The command `merge3`: whether two changes of a stream conflict, and whether a third one is their merge.
 #![tactic(auto)]
 
-mod four;
 mod judge;
 mod lines;
 pub mod merge;

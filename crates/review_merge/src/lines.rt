@@ -2,7 +2,6 @@
 ghost use Rattle.std.specs.Prelude.{◌≡◌, ◌++◌, ℕ, List, Option, cond, [], map, length, unwrap_or, string_bytes, OnOk, IfOk};
 ghost use Rattle.std.specs.Option.{is_some, option_map};
 ghost use Rattle.std.specs.List.{slice_get, enumerate_from};
-ghost use Rattle.yaml_rank.specs.RanksView.{RanksAre};
 ghost use Rattle.yaml_diff.specs.Lines.{way_of};
 ghost use Rattle.yaml_path.specs.declared.place.Place.{Place};
 ghost use Rattle.review_text.specs.PathText.{path_text};
@@ -11,18 +10,18 @@ ghost use Rattle.review_merge.specs.Parts.{values_in, ShowsValues, budget};
 ghost use Rattle.review_merge.specs.Placed.{Each, Tells, HasSeats, HasAsked};
 ghost use Rattle.review_merge.specs.Lines.{sign, color_text, side_name, value_text, value_column, values_text, place_text, places_text, column, line_text, count_text, result_count_text, streams_text, shown_step, steps_of, nodes_of, AreLines, is_numbered, result_side, sides_in, IsListText, IsOutcomeText, more_text, IsStyled};
 
-use crate::four::Four;
 use crate::print::Print;
 use crate::seats::seats_of;
 use crate::texts::{Budget, texts_of};
 use crate::told::Seats;
 use review_text::path::path_text;
-use review_text::{Both, put_visible};
+use review_text::put_visible;
 use std::alloc::{AllocError, Global};
 use yaml_conflicts::{Conflict, Outcome, Roots, Step};
 use yaml_diff::Step as Shown;
 use yaml_path::Place;
 use yaml_path::places::Places;
+use yaml_store_rank::RankedForests;
 use yaml_text::fault::Fault;
 use yaml_tree::node::NodeId;
 
@@ -159,22 +158,21 @@ struct Style {
 /// The texts of what each side has at the path of a conflict.
 fn values_of(
     alloc: Global,
-    both: &Both<'_>,
+    forests: &RankedForests<'_>,
     one: &Conflict,
     style: &Style,
     budget: &mut Budget,
 ) -> Result<Vec<Option<String>>, AllocError>
-    requires ranked { RanksAre both.now.graph both.now.ranks }
-    ensures ok { IfOk result (λ texts. ShowsValues both.now.graph (nodes_of style.now.given one.now.sides) budget.old.bytes budget.new.bytes (values_in texts.items) style.now.print.whole) }
+    ensures ok { IfOk result (λ texts. ShowsValues forests.now (nodes_of style.now.given one.now.sides) budget.old.bytes budget.new.bytes (values_in texts.items) style.now.print.whole) }
 {
     let sides = one.sides;
     let whole = style.print.whole;
     if style.given {
         let nodes = [sides.base, sides.ours, sides.theirs, sides.merge];
-        return texts_of(alloc, both, &nodes, whole, budget);
+        return texts_of(alloc, forests, &nodes, whole, budget);
     }
     let nodes = [sides.base, sides.ours, sides.theirs];
-    texts_of(alloc, both, &nodes, whole, budget)
+    texts_of(alloc, forests, &nodes, whole, budget)
 }
 
 /// A line: the path of a conflict, what each side has there, and where.
@@ -263,18 +261,17 @@ fn path_at<'p>(paths: &'p [Vec<Shown>], number: usize) -> &'p [Shown]
 fn put_conflict(
     alloc: Global,
     out: &mut String,
-    both: &Both<'_>,
+    forests: &RankedForests<'_>,
     one: (usize, &Conflict),
     steps: &[Shown],
     style: &Style,
     budget: &mut Budget,
 ) -> Result<(), AllocError>
-    requires ranked { RanksAre both.now.graph both.now.ranks }
     requires steps { steps.now ≡ steps_of one.1.now }
-    ensures ok { OnOk result ((text : List ℕ) × IsStyled both.now style.now (one.entry.0, one.entry.1.now) budget.old.bytes budget.new.bytes text × (string_bytes out.new ≡ string_bytes out.old ++ text)) }
+    ensures ok { OnOk result ((text : List ℕ) × IsStyled forests.now style.now (one.entry.0, one.entry.1.now) budget.old.bytes budget.new.bytes text × (string_bytes out.new ≡ string_bytes out.old ++ text)) }
 {
-    let path = path_text(alloc, both, steps, style.numbered)?;
-    let values = values_of(alloc, both, one.1, style, budget)?;
+    let path = path_text(alloc, forests, steps, style.numbered)?;
+    let values = values_of(alloc, forests, one.1, style, budget)?;
     put_line(out, &path, &values, style, one.0)
 }
 
@@ -292,19 +289,26 @@ fn put_more(out: &mut String, whole: bool) -> Result<(), AllocError>
 fn put_lines(
     alloc: Global,
     out: &mut String,
-    both: &Both<'_>,
+    forests: &RankedForests<'_>,
     list: &[Conflict],
     paths: &[Vec<Shown>],
     style: &Style,
 ) -> Result<(), AllocError>
-    requires ranked { RanksAre both.now.graph both.now.ranks }
     requires paths { map (λ path. path.items) paths.now ≡ map steps_of list.now }
-    ensures ok { OnOk result ((text : List ℕ) × AreLines (IsStyled both.now style.now) (enumerate_from 0 list.now) budget text × (string_bytes out.new ≡ string_bytes out.old ++ text)) }
+    ensures ok { OnOk result ((text : List ℕ) × AreLines (IsStyled forests.now style.now) (enumerate_from 0 list.now) budget text × (string_bytes out.new ≡ string_bytes out.old ++ text)) }
 {
     let mut budget = Budget::new();
     'list: for (number, one) in list.iter().enumerate() {
         let steps = path_at(paths, number);
-        put_conflict(alloc, out, both, (number, one), steps, style, &mut budget)?;
+        put_conflict(
+            alloc,
+            out,
+            forests,
+            (number, one),
+            steps,
+            style,
+            &mut budget,
+        )?;
     }
     Ok(())
 }
@@ -329,17 +333,17 @@ pub(crate) struct Sources<'b> {
 /// Adds where the nodes of the result are, if there is one.
 fn add_result(
     alloc: Global,
-    both: &Both<'_>,
+    forests: &RankedForests<'_>,
     roots: &[NodeId],
     bytes: Option<&[u8]>,
     paths: &[Vec<Shown>],
     seats: &mut Vec<Seats>,
 ) -> Result<(), Fault>
-    ensures { OnOk result ((more : List Seats) × Each (HasSeats both.now (map (λ path. path.items) paths.now)) (result_side roots.now (option_map (λ it. it.now) bytes.entry)) more × (seats.new.items ≡ seats.old.items ++ more)) }
+    ensures { OnOk result ((more : List Seats) × Each (HasSeats forests.now (map (λ path. path.items) paths.now)) (result_side roots.now (option_map (λ it. it.now) bytes.entry)) more × (seats.new.items ≡ seats.old.items ++ more)) }
 {
     match bytes {
         Some(bytes) => {
-            let one = seats_of(alloc, both, roots, bytes, paths)?;
+            let one = seats_of(alloc, forests, roots, bytes, paths)?;
             seats.push(one)?;
             Ok(())
         }
@@ -350,37 +354,44 @@ fn add_result(
 /// Where the nodes of each side are, by the paths that lead to them.
 fn all_seats(
     alloc: Global,
-    both: &Both<'_>,
+    forests: &RankedForests<'_>,
     roots: &Roots<'_>,
     sources: Sources<'_>,
     paths: &[Vec<Shown>],
 ) -> Result<Vec<Seats>, Fault>
-    ensures { IfOk result (λ seats. Each (HasSeats both.now (map (λ path. path.items) paths.now)) (sides_in roots.now sources.entry) seats.items) }
+    ensures { IfOk result (λ seats. Each (HasSeats forests.now (map (λ path. path.items) paths.now)) (sides_in roots.now sources.entry) seats.items) }
 {
     let mut seats = Vec::new(alloc);
-    let base = seats_of(alloc, both, roots.base, sources.base, paths)?;
+    let base = seats_of(alloc, forests, roots.base, sources.base, paths)?;
     seats.push(base)?;
-    let ours = seats_of(alloc, both, roots.ours, sources.ours, paths)?;
+    let ours = seats_of(alloc, forests, roots.ours, sources.ours, paths)?;
     seats.push(ours)?;
-    let theirs = seats_of(alloc, both, roots.theirs, sources.theirs, paths)?;
+    let theirs = seats_of(alloc, forests, roots.theirs, sources.theirs, paths)?;
     seats.push(theirs)?;
-    add_result(alloc, both, roots.merge, sources.result, paths, &mut seats)?;
+    add_result(
+        alloc,
+        forests,
+        roots.merge,
+        sources.result,
+        paths,
+        &mut seats,
+    )?;
     Ok(seats)
 }
 
 /// The same, if places are asked for.
 fn seats_if(
     alloc: Global,
-    both: &Both<'_>,
+    forests: &RankedForests<'_>,
     roots: &Roots<'_>,
     sources: Sources<'_>,
     paths: &[Vec<Shown>],
     places: bool,
 ) -> Result<Vec<Seats>, Fault>
-    ensures { IfOk result (λ seats. HasAsked places both.now (map (λ path. path.items) paths.now) (sides_in roots.now sources.entry) seats.items) }
+    ensures { IfOk result (λ seats. HasAsked places forests.now (map (λ path. path.items) paths.now) (sides_in roots.now sources.entry) seats.items) }
 {
     if places {
-        return all_seats(alloc, both, roots, sources, paths);
+        return all_seats(alloc, forests, roots, sources, paths);
     }
     Ok(Vec::new(alloc))
 }
@@ -403,25 +414,24 @@ fn style_of(given: bool, numbered: bool, print: Print, seats: Vec<Seats>) -> Sty
 /// The lines of the places at which something was found, and `...` if they are not all.
 fn list_text(
     alloc: Global,
-    both: &Both<'_>,
+    forests: &RankedForests<'_>,
     roots: &Roots<'_>,
     list: &[Conflict],
     whole: bool,
     sources: Sources<'_>,
     print: Print,
 ) -> Result<String, Fault>
-    requires ranked { RanksAre both.now.graph both.now.ranks }
-    ensures { IfOk result (λ out. IsListText both.now print (is_some sources.entry.result) (is_numbered roots.now) (sides_in roots.now sources.entry) list.now whole (string_bytes out)) }
+    ensures { IfOk result (λ out. IsListText forests.now print (is_some sources.entry.result) (is_numbered roots.now) (sides_in roots.now sources.entry) list.now whole (string_bytes out)) }
 {
     let mut out = String::new(alloc);
     if list.len() == 0 {
         return Ok(out);
     }
     let paths = paths_of(alloc, list)?;
-    let seats = seats_if(alloc, both, roots, sources, &paths, print.places)?;
+    let seats = seats_if(alloc, forests, roots, sources, &paths, print.places)?;
     let given = sources.result.is_some();
     let style = style_of(given, is_numbered(roots), print, seats);
-    put_lines(alloc, &mut out, both, list, &paths, &style)?;
+    put_lines(alloc, &mut out, forests, list, &paths, &style)?;
     put_more(&mut out, whole)?;
     Ok(out)
 }
@@ -429,14 +439,13 @@ fn list_text(
 /// The lines of what was found.
 pub(crate) fn text_of(
     alloc: Global,
-    four: &Four<'_>,
+    forests: &RankedForests<'_>,
     roots: &Roots<'_>,
     outcome: &Outcome,
     sources: Sources<'_>,
     print: Print,
 ) -> Result<String, Fault>
-    requires ranked { RanksAre four.now.both.graph four.now.both.ranks }
-    ensures { IfOk result (λ out. IsOutcomeText four.now.both print (is_some sources.entry.result) roots.now (sides_in roots.now sources.entry) outcome.now (string_bytes out)) }
+    ensures { IfOk result (λ out. IsOutcomeText forests.now print (is_some sources.entry.result) roots.now (sides_in roots.now sources.entry) outcome.now (string_bytes out)) }
 {
     match outcome {
         Outcome::Streams => {
@@ -446,7 +455,7 @@ pub(crate) fn text_of(
         }
         Outcome::Documents(found) => {
             let list = &found.list;
-            list_text(alloc, &four.both, roots, list, found.whole, sources, print)
+            list_text(alloc, forests, roots, list, found.whole, sources, print)
         }
     }
 }

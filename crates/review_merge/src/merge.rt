@@ -1,17 +1,15 @@
 //! The command `merge3`.
-ghost use Rattle.std.specs.Prelude.{◌≡◌, ◌<◌, ◌≤◌, ◌-◌, ◌^◌, ◌++◌, ◌↔◌, ℕ, List, [], Some, None, max, cond, codes, bytes_eq, string_bytes, IsTrue, IfOk, IfErr};
+ghost use Rattle.std.specs.Prelude.{◌≡◌, ◌<◌, ◌≤◌, ◌-◌, ◌^◌, ◌++◌, ◌↔◌, ℕ, List, [], ◌∷◌, Some, None, max, cond, codes, bytes_eq, string_bytes, IsTrue, IfOk, IfErr};
 ghost use Rattle.std.specs.Option.{is_some, option_map, unwrap_or};
 ghost use Rattle.yaml_text.specs.CountedModel.{faults_of};
-ghost use Rattle.yaml_canon.specs.Both.{HasBoth};
+ghost use Rattle.yaml_canon.specs.Written.{ShowsStreams};
 ghost use Rattle.review_files.specs.Named.{ReadsNamed};
 ghost use Rattle.review_text.specs.declared.options.Form.TheVariants.{Line};
 ghost use Rattle.review_files.specs.Told.{TellsFaults};
-ghost use Rattle.yaml_rank.specs.RanksView.{RanksAre};
 ghost use Rattle.review_merge.specs.Lines.{sides_in, IsOutcomeText};
 ghost use Rattle.review_merge.specs.Merges.{no_merge_status, ReadsResult, HaveBytes, TellsMerge, IsAskedText, IsMergeText, HasSources, MergeTells};
 ghost use Rattle.review_merge.specs.Refusals.{FilesNotRead, MergeRefuses, NotRead, OneNotRead, TellsEach, TellsRejected, TellsTooMany, TellsWhy, all_names, input_count, or_none, result_name};
 
-use crate::four::{Four, graph_of};
 use crate::judge::{judge, roots_of, verdict_of};
 use crate::lines::{Sources, text_of};
 use crate::print::Print;
@@ -21,10 +19,11 @@ use review_files::unread::{Unread, greater};
 use review_text::options::Form;
 use std::alloc::Global;
 use std::io::{Read, Write};
-use yaml_canon::both::{BothForests, forest_of_both};
+use yaml_canon::ranked_streams;
 use yaml_command::shelf::Shelf;
 use yaml_command::streams::write_out;
 use yaml_conflicts::{Outcome, Room, Roots};
+use yaml_store_rank::RankedForests;
 use yaml_text::counted::Counted;
 use yaml_text::fault::Fault;
 
@@ -266,17 +265,18 @@ struct Told {
     text: String,
 }
 
-/// Two streams in one store.
-fn forests_of<'l>(
-    alloc: Global,
-    left: &'l Vec<u8>,
-    right: &Vec<u8>,
-) -> Result<BothForests<'l>, Fault>
-    ensures { IfOk result (HasBoth left.now.items right.now.items) }
+/// The documents of the base, of ours, of theirs and of the result. Of an error it is told elsewhere which files are rejected.
+fn forests_of(alloc: Global, bytes: &Bytes) -> Result<RankedForests<'_>, Fault>
+    ensures { IfOk result (ShowsStreams (bytes.now.base.items ∷ bytes.now.ours.items ∷ bytes.now.theirs.items ∷ bytes.now.result.items ∷ [])) }
 {
-    match forest_of_both(alloc, left, right) {
-        Ok(both) => Ok(both),
-        Err((_, fault)) => Err(fault),
+    let others = [
+        bytes.ours.as_slice(),
+        bytes.theirs.as_slice(),
+        bytes.result.as_slice(),
+    ];
+    match ranked_streams(alloc, &bytes.base, &others) {
+        Ok(forests) => Ok(forests),
+        Err(_) => Err(Fault::OutOfMemory),
     }
 }
 
@@ -302,19 +302,18 @@ fn sources_of(bytes: &Bytes, given: bool) -> Sources<'_>
 /// The lines of an outcome, if some are asked for.
 fn lines_of(
     alloc: Global,
-    four: &Four<'_>,
+    forests: &RankedForests<'_>,
     roots: &Roots<'_>,
     outcome: &Outcome,
     sources: Sources<'_>,
     print: Print,
 ) -> Result<String, Fault>
-    requires ranked { RanksAre four.now.both.graph four.now.both.ranks }
-    ensures { IfOk result (λ out. IsAskedText print.lines (IsOutcomeText four.now.both print (is_some sources.entry.result) roots.now (sides_in roots.now sources.entry) outcome.now (string_bytes out)) (string_bytes out)) }
+    ensures { IfOk result (λ out. IsAskedText print.lines (IsOutcomeText forests.now print (is_some sources.entry.result) roots.now (sides_in roots.now sources.entry) outcome.now (string_bytes out)) (string_bytes out)) }
 {
     if print.lines == 0 {
         return Ok(String::new(alloc));
     }
-    text_of(alloc, four, roots, outcome, sources, print)
+    text_of(alloc, forests, roots, outcome, sources, print)
 }
 
 /// What is found of the files' bytes, and its lines.
@@ -322,14 +321,13 @@ fn told_of(alloc: Global, bytes: &Bytes, given: bool, print: Print) -> Result<To
     ensures tells { IfOk result (λ told. TellsMerge given bytes.now.base.items bytes.now.ours.items bytes.now.theirs.items bytes.now.result.items told.answer) }
     ensures shows { IfOk result (λ told. IsMergeText given print bytes.now.base.items bytes.now.ours.items bytes.now.theirs.items bytes.now.result.items told.answer (string_bytes told.text)) }
 {
-    let first = forests_of(alloc, &bytes.base, &bytes.ours)?;
-    let second = forests_of(alloc, &bytes.theirs, &bytes.result)?;
-    let four = graph_of(alloc, &first, &second)?;
-    let roots = roots_of(&four, given);
-    let outcome = judge(alloc, &four, &roots, given, room_of(print.lines))?;
+    let forests = forests_of(alloc, bytes)?;
+    forests.laws();
+    let roots = roots_of(&forests, given);
+    let outcome = judge(alloc, &forests, &roots, given, room_of(print.lines))?;
     let answer = verdict_of(&outcome);
     let sources = sources_of(bytes, given);
-    let text = lines_of(alloc, &four, &roots, &outcome, sources, print)?;
+    let text = lines_of(alloc, &forests, &roots, &outcome, sources, print)?;
     Ok(Told { answer, text })
 }
 

@@ -1,16 +1,15 @@
 //! Where the nodes of conflicts are.
 ghost use Rattle.std.specs.Prelude.{◌≡◌, map, IfOk, OnOk};
-ghost use Rattle.review_places.specs.Seats.{SameStream};
 ghost use Rattle.review_merge.specs.Placed.{IsLaid, AddsOffset, HasOffsets, HasSeats};
 
 use crate::told::Seats;
-use review_places::finder::{Finder, Hand, Stream};
+use review_places::finder::{Finder, Side, Stream};
 use review_places::layout::{Layout, lay_out};
 use review_places::places::{places, unmarked};
 use review_places::trace::trace_of;
-use review_text::Both;
-use std::alloc::Global;
+use std::alloc::{AllocError, Global};
 use yaml_diff::Step;
+use yaml_store_rank::RankedForests;
 use yaml_text::chars::Chars;
 use yaml_text::fault::Fault;
 use yaml_tree::node::NodeId;
@@ -26,16 +25,14 @@ fn layout_of(alloc: Global, bytes: &[u8]) -> Result<Layout, Fault>
 
 /// Adds the offset of the node to which a path leads, with the path's number, if there is one.
 fn add_offset(
-    alloc: Global,
-    finder: &mut Finder<'_>,
+    finder: &Finder<'_>,
     path: &[Step],
     number: usize,
     offsets: &mut Vec<(usize, usize)>,
-) -> Result<(), Fault>
-    ensures same { OnOk result (SameStream finder.old finder.new) }
-    ensures ok { OnOk result (AddsOffset finder.old path.now number offsets.old.items offsets.new.items) }
+) -> Result<(), AllocError>
+    ensures ok { OnOk result (AddsOffset finder.now path.now number offsets.old.items offsets.new.items) }
 {
-    match finder.seat(alloc, path)? {
+    match finder.seat(path) {
         Some(seat) => {
             offsets.push((seat.offset, number))?;
             Ok(())
@@ -47,14 +44,14 @@ fn add_offset(
 /// The offsets of the nodes to which paths lead, each with the number of its path.
 fn offsets_of(
     alloc: Global,
-    finder: &mut Finder<'_>,
+    finder: &Finder<'_>,
     paths: &[Vec<Step>],
-) -> Result<Vec<(usize, usize)>, Fault>
-    ensures { IfOk result (λ offsets. HasOffsets finder.old (map (λ path. path.items) paths.now) offsets.items) }
+) -> Result<Vec<(usize, usize)>, AllocError>
+    ensures { IfOk result (λ offsets. HasOffsets finder.now (map (λ path. path.items) paths.now) offsets.items) }
 {
     let mut offsets = Vec::new(alloc);
     'paths: for (number, path) in paths.iter().enumerate() {
-        add_offset(alloc, finder, path, number, &mut offsets)?;
+        add_offset(finder, path, number, &mut offsets)?;
     }
     Ok(offsets)
 }
@@ -62,17 +59,17 @@ fn offsets_of(
 /// The places of the nodes of one side, which is read once more for them: the documents of these roots, and the paths of the conflicts.
 pub(crate) fn seats_of(
     alloc: Global,
-    both: &Both<'_>,
+    forests: &RankedForests<'_>,
     roots: &[NodeId],
     bytes: &[u8],
     paths: &[Vec<Step>],
 ) -> Result<Seats, Fault>
-    ensures { IfOk result (HasSeats both.now (map (λ path. path.items) paths.now) (roots.now, bytes.now)) }
+    ensures { IfOk result (HasSeats forests.now (map (λ path. path.items) paths.now) (roots.now, bytes.now)) }
 {
     let layout = layout_of(alloc, bytes)?;
-    let hand = Hand::Left;
-    let mut finder = Finder::new(alloc, both, Stream { hand, roots }, layout);
-    let offsets = offsets_of(alloc, &mut finder, paths)?;
+    let side = Side::Left;
+    let finder = Finder::new(forests, Stream { side, roots }, layout);
+    let offsets = offsets_of(alloc, &finder, paths)?;
     Ok(Seats {
         places: places(alloc, unmarked(bytes), offsets)?,
     })

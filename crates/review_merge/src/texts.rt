@@ -2,13 +2,12 @@
 ghost use Rattle.std.specs.Prelude.{◌≡◌, ◌-◌, ◌<◌, ◌++◌, [], cond, max, map, length, nat_lt, unwrap_or, codes, string_bytes, OnOk, IfOk};
 ghost use Rattle.std.specs.Option.{option_map};
 ghost use Rattle.std.specs.Str.{IsCharBoundary};
-ghost use Rattle.yaml_rank.specs.RanksView.{RanksAre};
 ghost use Rattle.review_text.specs.Shown.{shown};
 ghost use Rattle.review_merge.specs.Parts.{values_in, node_value, node_texts, budget, bytes_in, common, common_with, last_difference, base_text, own_place, lead, part_start, part_of, looks_like, place_behind, part_behind, parts_behind, ShowsValues, ShowsParts};
 
-use review_text::Both;
 use review_text::text::{CUT, WHOLE, front, node_text, put_all};
 use std::alloc::{AllocError, Global};
+use yaml_store_rank::RankedForests;
 use yaml_tree::node::NodeId;
 
 /// How many bytes are shown before the place by which a text differs.
@@ -41,15 +40,14 @@ impl Budget {
 /// The text of a node, as far as there is room; none where there is no node.
 fn text_in(
     alloc: Global,
-    both: &Both<'_>,
+    forests: &RankedForests<'_>,
     node: Option<NodeId>,
     room: usize,
 ) -> Result<Option<String>, AllocError>
-    requires ranked { RanksAre both.now.graph both.now.ranks }
-    ensures ok { IfOk result (λ text. option_map string_bytes text ≡ node_value both.now.graph room node) }
+    ensures ok { IfOk result (λ text. option_map string_bytes text ≡ node_value forests.now room node) }
 {
     match node {
-        Some(id) => Ok(Some(node_text(alloc, both, id, room)?)),
+        Some(id) => Ok(Some(node_text(alloc, forests, id, room)?)),
         None => Ok(None),
     }
 }
@@ -57,16 +55,15 @@ fn text_in(
 /// The text of each node, as far as there is room; none where there is no node.
 fn texts_in(
     alloc: Global,
-    both: &Both<'_>,
+    forests: &RankedForests<'_>,
     nodes: &[Option<NodeId>],
     room: usize,
 ) -> Result<Vec<Option<String>>, AllocError>
-    requires ranked { RanksAre both.now.graph both.now.ranks }
-    ensures ok { IfOk result (λ texts. values_in texts.items ≡ node_texts both.now.graph room nodes.now) }
+    ensures ok { IfOk result (λ texts. values_in texts.items ≡ node_texts forests.now room nodes.now) }
 {
     let mut texts = Vec::new(alloc);
     'nodes: for node in nodes {
-        texts.push(text_in(alloc, both, *node, room)?)?;
+        texts.push(text_in(alloc, forests, *node, room)?)?;
     }
     Ok(texts)
 }
@@ -277,15 +274,14 @@ fn left_of(bytes: usize, texts: &[Option<String>]) -> usize
 /// The parts of the texts of nodes by which they differ.
 fn node_parts(
     alloc: Global,
-    both: &Both<'_>,
+    forests: &RankedForests<'_>,
     nodes: &[Option<NodeId>],
     budget: &mut Budget,
 ) -> Result<Vec<Option<String>>, AllocError>
-    requires ranked { RanksAre both.now.graph both.now.ranks }
     requires some_left { 0 < budget.old.bytes }
-    ensures ok { IfOk result (λ texts. ShowsParts both.now.graph nodes.now budget.old.bytes budget.new.bytes (values_in texts.items)) }
+    ensures ok { IfOk result (λ texts. ShowsParts forests.now nodes.now budget.old.bytes budget.new.bytes (values_in texts.items)) }
 {
-    let wholes = texts_in(alloc, both, nodes, WHOLE)?;
+    let wholes = texts_in(alloc, forests, nodes, WHOLE)?;
     budget.bytes = left_of(budget.bytes, &wholes);
     parts_of(alloc, &wholes)
 }
@@ -293,19 +289,18 @@ fn node_parts(
 /// The texts of nodes as they are shown: whole, or up to 60 bytes of each, by which they differ.
 pub(crate) fn texts_of(
     alloc: Global,
-    both: &Both<'_>,
+    forests: &RankedForests<'_>,
     nodes: &[Option<NodeId>],
     whole: bool,
     budget: &mut Budget,
 ) -> Result<Vec<Option<String>>, AllocError>
-    requires ranked { RanksAre both.now.graph both.now.ranks }
-    ensures ok { IfOk result (λ texts. ShowsValues both.now.graph nodes.now budget.old.bytes budget.new.bytes (values_in texts.items) whole) }
+    ensures ok { IfOk result (λ texts. ShowsValues forests.now nodes.now budget.old.bytes budget.new.bytes (values_in texts.items) whole) }
 {
     if whole {
-        return texts_in(alloc, both, nodes, WHOLE);
+        return texts_in(alloc, forests, nodes, WHOLE);
     }
     if budget.bytes == 0 {
-        return texts_in(alloc, both, nodes, CUT);
+        return texts_in(alloc, forests, nodes, CUT);
     }
-    node_parts(alloc, both, nodes, budget)
+    node_parts(alloc, forests, nodes, budget)
 }

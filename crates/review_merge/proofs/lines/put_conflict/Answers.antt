@@ -9,10 +9,10 @@ use Rattle.review_merge.proofs.lines.put_conflict.Goals as goal
 pub returns : goal.returns
 returns c = record {
   ok = (
-      let both = c.args.both.now in
+      let g = c.args.forests.now in
       let style = c.args.style.now in
       let one = c.args.one.1.now in
-      styled_put both style c.args.one.0 one c.args.budget.now.bytes c.values_of.new.budget.bytes c.put_line.result _ _ _ _
-      (c.deref.ensures ∙ c.in_ok-path.ensures.ok ∙ ap (λ z. path_text style.numbered (way_of both.graph z)) c.requires.steps)
-      (subst (λ z. ShowsValues both.graph (nodes_of style.given one.sides) c.args.budget.now.bytes c.values_of.new.budget.bytes (values_in z) style.print.whole) (sym c.deref-2.ensures.value) c.in_ok-values.ensures.ok) c.put_line.ensures.ok);
+      styled_put g style c.args.one.0 one c.args.budget.now.bytes c.values_of.new.budget.bytes c.put_line.result _ _ _ _
+      (c.deref.ensures ∙ c.in_ok-path.ensures.ok ∙ ap (λ z. path_text style.numbered (way_of g z)) c.requires.steps)
+      (subst (λ z. ShowsValues g (nodes_of style.given one.sides) c.args.budget.now.bytes c.values_of.new.budget.bytes (values_in z) style.print.whole) (sym c.deref-2.ensures.value) c.in_ok-values.ensures.ok) c.put_line.ensures.ok);
 }

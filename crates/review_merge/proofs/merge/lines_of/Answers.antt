@@ -10,4 +10,4 @@ returns-then-print-eq0 c = asked_none c.args.print.lines _ _ c.if-print-eq0.true
 
 pub returns : goal.returns
 returns c =
-    if_ok c.text_of.result (λ out h. asked_some c.args.print.lines (IsOutcomeText c.args.four.now.both c.args.print (is_some c.args.sources.result) c.args.roots.now (sides_in c.args.roots.now c.args.sources) c.args.outcome.now (string_bytes out)) (string_bytes out) c.if-print-eq0.false h) c.text_of.ensures
+    if_ok c.text_of.result (λ out h. asked_some c.args.print.lines (IsOutcomeText c.args.forests.now c.args.print (is_some c.args.sources.result) c.args.roots.now (sides_in c.args.roots.now c.args.sources) c.args.outcome.now (string_bytes out)) (string_bytes out) c.if-print-eq0.false h) c.text_of.ensures
