@@ -6,12 +6,11 @@ use Rattle.std.specs.List.{slice_get}
 use Rattle.std.proofs.lemmas.List.{append_assoc}
 use Rattle.yaml_tree.specs.declared.node.NodeId.{NodeId}
 use Rattle.yaml_tree.proofs.Lists.{get-more}
-use Rattle.yaml_rank.specs.declared.ranks.Ranks.{Ranks}
 use Rattle.yaml_path.specs.Ways.{left_place, right_place, put_before, places_by, numbers, turns}
 use Rattle.yaml_path.specs.declared.places.Places.{Places}
 use Rattle.yaml_path.specs.declared.places.Places.TheVariants.{Both, Left, Right}
 use Rattle.std.proofs.lemmas.Option.{slice_get_within, get_or_from_slice_get, slice_get-get_or}
-use Rattle.yaml_rank.specs.RanksView.{rank_of}
+use Rattle.yaml_store_rank.specs.Forests.{rank}
 use Rattle.yaml_diff.specs.Found.{Aligns, SameRanks}
 use Rattle.yaml_diff.specs.Aligning.{IsFront, IsBack, AlignsFrom}
 use Rattle.yaml_diff.proofs.ListParts.{get-behind}
@@ -145,7 +144,7 @@ in-back n m back e d two all bl br ee dd ea i j k l p q =
     ap (λ v. slice_get v (length two + (back - suc i))) ea ∙ get-behind two (turns e d (n - e) (m - d)) (back - suc i) (Both j k) w
 
 -- the three parts of a list
-pub aligned : (r : Ranks) (lefts rights : List NodeId) (front back e d : ℕ) (one two all : List Places) → IsFront r lefts rights front → IsBack r lefts rights front back → e ≡ length lefts - back → d ≡ length rights - back
+pub aligned : (g : Forests) (lefts rights : List NodeId) (front back e d : ℕ) (one two all : List Places) → IsFront r lefts rights front → IsBack r lefts rights front back → e ≡ length lefts - back → d ≡ length rights - back
     → one ≡ [] ++ turns 0 0 (front - 0) (front - 0) → AlignsFrom one front front e d two → all ≡ two ++ turns e d (length lefts - e) (length rights - d) → Aligns r lefts rights all []
 aligned r lefts rights front back e d one two all f b ee dd eo at ea = record {
   left = takes-each left_place all (length lefts) lefts-rise;
@@ -190,15 +189,15 @@ below-next zero (suc n) l = inl (omega arith)
 below-next (suc k) zero l = absurd (omega (arith, l))
 below-next (suc k) (suc n) l = elim (below-next k n (omega (arith, l))) [ inl a ↦ inl (omega (arith, a)) | inr e ↦ inr (ap suc e) ]
 
-module _ (r : Ranks) (lefts rights : List NodeId) where
-  pub same-here : (j k : ℕ) → j < length lefts → k < length rights → rank_of r (get_or lefts j (record { 0 = 0 })).0 ≡ rank_of r (get_or rights k (record { 0 = 0 })).0 → SameRanks r lefts rights j k
+module _ (g : Forests) (lefts rights : List NodeId) where
+  pub same-here : (j k : ℕ) → j < length lefts → k < length rights → rank r (get_or lefts j (record { 0 = 0 })).0 ≡ rank r (get_or rights k (record { 0 = 0 })).0 → SameRanks r lefts rights j k
   same-here j k l m e = (get_or lefts j (record { 0 = 0 }), get_or rights k (record { 0 = 0 }), slice_get-get_or lefts j (record { 0 = 0 }) l, slice_get-get_or rights k (record { 0 = 0 }) m, e)
 
-  pub here-same : (j k : ℕ) → SameRanks r lefts rights j k → rank_of r (get_or lefts j (record { 0 = 0 })).0 ≡ rank_of r (get_or rights k (record { 0 = 0 })).0
+  pub here-same : (j k : ℕ) → SameRanks r lefts rights j k → rank r (get_or lefts j (record { 0 = 0 })).0 ≡ rank r (get_or rights k (record { 0 = 0 })).0
   here-same j k s =
       let x : get_or lefts j (record { 0 = 0 }) ≡ s.0 = get_or_from_slice_get lefts j s.0 (record { 0 = 0 }) s.2 in
       let y : get_or rights k (record { 0 = 0 }) ≡ s.1 = get_or_from_slice_get rights k s.1 (record { 0 = 0 }) s.3 in
-      ap (λ z. rank_of r z.0) x ∙ s.4 ∙ ap (λ z. rank_of r z.0) (sym y)
+      ap (λ z. rank r z.0) x ∙ s.4 ∙ ap (λ z. rank r z.0) (sym y)
 
   pub left-within : (j k : ℕ) → SameRanks r lefts rights j k → j < length lefts
   left-within j k s = slice_get_within lefts j s.0 s.2

@@ -4,7 +4,6 @@ use Rattle.std.specs.Prelude.{Option, Some, None, Result, Ok, Err, IfOk, IfSome}
 use Rattle.std.specs.declared.alloc.AllocError.{AllocError}
 use Rattle.yaml_diff.specs.declared.align.Aligned.{Aligned}
 use Rattle.yaml_tree.specs.declared.node.NodeId.{NodeId}
-use Rattle.yaml_rank.specs.declared.ranks.Ranks.{Ranks}
 use Rattle.yaml_path.specs.Ways.{turns}
 use Rattle.yaml_path.specs.declared.places.Places.{Places}
 use Rattle.yaml_path.specs.declared.places.Places.TheVariants.{Both}
@@ -25,7 +24,7 @@ pair_step old new l r n m a b e =
     ap (λ z. places_in z ++ rest) e ∙ ap (λ z. z ++ rest) (map-append place_of old ((Both l r, false) ∷ [])) ∙ step_both (places_in old) l r n m a b
 
 -- steps of three parts that are right: equal fronts, what was put together, and equal backs
-pub crossed : (r : Ranks) (lefts rights : List NodeId) (front back e d : ℕ) (one two all middle : List (Places × Bool)) (list moved : List Places) → IsFront r lefts rights front → IsBack r lefts rights front back → e ≡ length lefts - back → d ≡ length rights - back
+pub crossed : (g : Forests) (lefts rights : List NodeId) (front back e d : ℕ) (one two all middle : List (Places × Bool)) (list moved : List Places) → IsFront r lefts rights front → IsBack r lefts rights front back → e ≡ length lefts - back → d ≡ length rights - back
     → places_in one ≡ turns 0 0 (front - 0) (front - 0) → two ≡ one ++ middle → places_in all ≡ places_in two ++ turns e d (length lefts - e) (length rights - d) → Checked all list moved (length lefts) (length rights) → Aligns r lefts rights list moved
 crossed r lefts rights front back e d one two all middle list moved f b ee dd eo et ea c = subst (λ z. Aligns r lefts rights z moved) (sym c.all) (record {
   left = left-each all moved (length lefts) (length rights) c.are c.is_right;
@@ -44,7 +43,7 @@ crossed r lefts rights front back e d one two all middle list moved f b ee dd eo
     parts : places_in two ≡ places_in one ++ places_in middle
     parts = ap places_in et ∙ map-append place_of one middle
 
-pub crossed-answer : (r : Ranks) (lefts rights : List NodeId) (front back e d : ℕ) (one two all middle : List (Places × Bool)) (answer : Result (Option Aligned) AllocError) → IsFront r lefts rights front → IsBack r lefts rights front back → e ≡ length lefts - back → d ≡ length rights - back
+pub crossed-answer : (g : Forests) (lefts rights : List NodeId) (front back e d : ℕ) (one two all middle : List (Places × Bool)) (answer : Result (Option Aligned) AllocError) → IsFront r lefts rights front → IsBack r lefts rights front back → e ≡ length lefts - back → d ≡ length rights - back
     → places_in one ≡ turns 0 0 (front - 0) (front - 0) → two ≡ one ++ middle → places_in all ≡ places_in two ++ turns e d (length lefts - e) (length rights - d) → IfOk answer (λ it. IfSome it (λ a. Checked all a.list.items a.moved.items (length lefts) (length rights))) → IfOk answer (λ it. IfSome it (λ a. Aligns r lefts rights a.list.items a.moved.items))
 crossed-answer r lefts rights front back e d one two all middle (Ok (Some a)) f b ee dd eo et ea c = crossed r lefts rights front back e d one two all middle a.list.items a.moved.items f b ee dd eo et ea c
 crossed-answer r lefts rights front back e d one two all middle (Ok None) f b ee dd eo et ea c = tt

@@ -6,11 +6,8 @@ use Rattle.std.specs.List.{slice_get}
 use Rattle.yaml_definitions.specs.model.Tree.{Tree, Trees, scalar, sequence, mapping, end, item}
 use Rattle.yaml_definitions.specs.model.Same.{same, same_trees}
 use Rattle.yaml_definitions.proofs.Members.{and_both}
-use Rattle.yaml_graph.specs.GraphView.{tree}
+use Rattle.yaml_store_rank.specs.Forests.{Forests, tree, IsRanked}
 use Rattle.yaml_tree.specs.declared.node.NodeId.{NodeId}
-use Rattle.yaml_graph.specs.declared.graph.Graph.{Graph}
-use Rattle.yaml_rank.specs.RanksView.{RanksAre}
-use Rattle.yaml_rank.specs.declared.ranks.Ranks.{Ranks}
 use Rattle.yaml_path.specs.Path.{head, head_of, part_of, scalar_head}
 use Rattle.yaml_path.specs.Path as plain
 use Rattle.yaml_path.specs.Ways.{Each, Step, at_places, at_key, Way, Pairing, Takes, Differs, EndsPaired, SameItems, left_part, right_part, placed, left_place, right_place, count, count_in, turns, below}
@@ -24,15 +21,15 @@ use Rattle.yaml_diff.proofs.WayLaws.{turn, none-part}
 
 -- ---- items
 
-pub item-here : (g : Graph) (tag : List ℕ) (items : List NodeId) (o : Option ℕ) → placed (sequence_of g tag items) o ≡ trees_of g (item_of items o)
+pub item-here : (g : Forests) (tag : List ℕ) (items : List NodeId) (o : Option ℕ) → placed (sequence_of g tag items) o ≡ trees_of g (item_of items o)
 item-here g tag items None = refl
 item-here g tag items (Some k) = item-there (tree_of g) items k
 
-pub item-count : (g : Graph) (tag : List ℕ) (items : List NodeId) → count (sequence_of g tag items) ≡ length items
+pub item-count : (g : Forests) (tag : List ℕ) (items : List NodeId) → count (sequence_of g tag items) ≡ length items
 item-count g tag [] = refl
 item-count g tag (i ∷ items) = ap suc (item-count g tag items)
 
-pub aligned-takes : (g : Graph) (r : Ranks) (tag : List ℕ) (lefts rights : List NodeId) (ps moved : List Places) → Aligns r lefts rights ps moved → Takes ps (sequence_of g tag lefts) (sequence_of g tag rights)
+pub aligned-takes : (g : Forests) (tag : List ℕ) (lefts rights : List NodeId) (ps moved : List Places) → Aligns r lefts rights ps moved → Takes ps (sequence_of g tag lefts) (sequence_of g tag rights)
 aligned-takes g r tag lefts rights ps moved a = record {
   lefts = subst (Each left_place ps) (sym (item-count g tag lefts)) a.left;
   rights = subst (Each right_place ps) (sym (item-count g tag rights)) a.right;
@@ -42,7 +39,7 @@ map-some : (f : NodeId → Tree) (o : Option NodeId) (x : Tree) → option_map f
 map-some f None x e = absurd (cc)
 map-some f (Some i) x e = (i, refl, cc)
 
-module _ (g : Graph) (r : Ranks) (are : RanksAre g r) (tag : List ℕ) (lefts rights : List NodeId) (wl : AllWithin g lefts) (wr : AllWithin g rights) where
+module _ (g : Forests) (are : IsRanked g) (tag : List ℕ) (lefts rights : List NodeId) (wl : AllWithin g lefts) (wr : AllWithin g rights) where
   same-items : (j k : ℕ) → SameRanks r lefts rights j k → SameItems (sequence_of g tag lefts) (sequence_of g tag rights) j k
   same-items j k s =
       (tree_of g s.0, tree_of g s.1, item-here g tag lefts (Some j) ∙ ap (trees_of g) s.2, item-here g tag rights (Some k) ∙ ap (trees_of g) s.3, (are.ranked s.0.0 s.1.0 (wl j s.0 s.2) (wr k s.1 s.3)).0.0 s.4)

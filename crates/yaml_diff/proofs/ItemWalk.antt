@@ -9,9 +9,7 @@ use Rattle.yaml_definitions.proofs.Members.{and_both}
 use Rattle.std.proofs.lemmas.Option.{slice_get_within}
 use Rattle.yaml_definitions.specs.model.Tree.{Tree}
 use Rattle.yaml_tree.specs.declared.node.NodeId.{NodeId}
-use Rattle.yaml_graph.specs.declared.graph.Graph.{Graph}
-use Rattle.yaml_rank.specs.RanksView.{RanksAre}
-use Rattle.yaml_rank.specs.declared.ranks.Ranks.{Ranks}
+use Rattle.yaml_store_rank.specs.Forests.{Forests, IsRanked}
 use Rattle.yaml_path.specs.Ways.{Step, at_places, at_key, Pairing, Allows, EndsPaired, AlikeStep, StepBefore, left_part, right_part, placed, left_place, right_place}
 use Rattle.yaml_path.specs.declared.places.Places.{Places}
 use Rattle.yaml_diff.specs.declared.difference.Step.TheVariants.{Item}
@@ -32,10 +30,10 @@ below-next (suc k) zero l = absurd (omega arith)
 below-next (suc k) (suc n) l = elim (below-next k n (omega arith)) [ inl a ↦ inl (omega arith) | inr e ↦ inr (ap suc e) ]
 
 -- the differences of two sequences, as far as so many places of a list go
-abbrev pub SomeItems : Graph → List NodeId → List NodeId → List Places → List Places → ℕ → ℕ → List Line → List MoveLine → Bool → Type 0
+abbrev pub SomeItems : Forests → List NodeId → List NodeId → List Places → List Places → ℕ → ℕ → List Line → List MoveLine → Bool → Type 0
 SomeItems g lefts rights ps moved at room lines moves w = (tag : List ℕ) → (P M : Pairing) × (P [] ≡ ps) × (M [] ≡ moved) × ListsSome g P M (sequence_of g tag lefts) (sequence_of g tag rights) room (PlacesBelow at ps) lines moves w
 
-pub items-first : (g : Graph) (r : Ranks) (lefts rights : List NodeId) (ps moved : List Places) (room : ℕ) (lines : List Line) (moves : List MoveLine) (w : Bool) → Aligns r lefts rights ps moved → lines ≡ [] → moves ≡ [] → w ≡ true → SomeItems g lefts rights ps moved 0 room lines moves w
+pub items-first : (g : Forests) (lefts rights : List NodeId) (ps moved : List Places) (room : ℕ) (lines : List Line) (moves : List MoveLine) (w : Bool) → Aligns r lefts rights ps moved → lines ≡ [] → moves ≡ [] → w ≡ true → SomeItems g lefts rights ps moved 0 room lines moves w
 items-first g r lefts rights ps moved room lines moves w a e m f tag =
     let t = sequence_of g tag lefts in
     let u = sequence_of g tag rights in
@@ -45,7 +43,7 @@ items-first g r lefts rights ps moved room lines moves w a e m f tag =
     none (at_places p) c = absurd (omega (arith, c.1))
     none (at_key x) c = c
 
-pub items-next : (g : Graph) (r : Ranks) → RanksAre g r → (lefts rights : List NodeId) (ps moved : List Places) (at room : ℕ) (p : Places) (lines more all : List Line) (moves more_moves all_moves : List MoveLine) (w v b : Bool) → AllWithin g lefts → AllWithin g rights → Aligns r lefts rights ps moved → slice_get ps at ≡ Some p
+pub items-next : (g : Forests) → IsRanked g → (lefts rights : List NodeId) (ps moved : List Places) (at room : ℕ) (p : Places) (lines more all : List Line) (moves more_moves all_moves : List MoveLine) (w v b : Bool) → AllWithin g lefts → AllWithin g rights → Aligns r lefts rights ps moved → slice_get ps at ≡ Some p
     → SomeItems g lefts rights ps moved at room lines moves w → ((Q N : Pairing) × Lists g Q N (trees_of g (item_of lefts (left_place p))) (trees_of g (item_of rights (right_place p))) (room - (length lines + length moves)) more more_moves v)
     → all ≡ lines ++ map (under (Item p)) more → all_moves ≡ moves ++ map (moved_under (Item p)) more_moves → b ≡ (w && v) → SomeItems g lefts rights ps moved (at + 1) room all all_moves b
 items-next g r are lefts rights ps moved at room p lines more all moves more_moves all_moves w v b wl wr a e o m ea ma eb tag =
@@ -99,7 +97,7 @@ take-full (suc n) [] l = absurd (omega (arith, l))
 take-full (suc n) (x ∷ xs) l = ap suc (take-full n xs (omega (arith, l)))
 
 -- what is left of the room is taken by the pairs of the two sequences themselves that have moved
-pub items-done : (g : Graph) (r : Ranks) → RanksAre g r → (lefts rights : List NodeId) (ps moved : List Places) (at room : ℕ) (f new : Found) → AllWithin g lefts → AllWithin g rights → Aligns r lefts rights ps moved → length ps ≤ at → SomeItems g lefts rights ps moved at room (lines_of f) (moves_of f) f.whole
+pub items-done : (g : Forests) → IsRanked g → (lefts rights : List NodeId) (ps moved : List Places) (at room : ℕ) (f new : Found) → AllWithin g lefts → AllWithin g rights → Aligns r lefts rights ps moved → length ps ≤ at → SomeItems g lefts rights ps moved at room (lines_of f) (moves_of f) f.whole
     → lines_of new ≡ lines_of f → moves_of new ≡ moves_of f ++ map here (take (room - count_of f) moved) → new.whole ≡ (f.whole && nat_le (length moved) (room - count_of f)) → FindsItems g lefts rights room new
 items-done g r are lefts rights ps moved at room f new wl wr a l o e m n tag = (P, M, subst (λ z. Lists g P M t u room z (moves_of new) new.whole) (sym e) (subst (λ z. Lists g P M t u room (lines_of f) z new.whole) (sym m) whole))
   where

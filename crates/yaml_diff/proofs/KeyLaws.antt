@@ -8,12 +8,9 @@ use Rattle.yaml_definitions.specs.model.Same.{same}
 use Rattle.yaml_definitions.proofs.Equivalence.{same_sym}
 use Rattle.yaml_tree.specs.TreeLists.{pairs}
 use Rattle.yaml_graph.specs.GraphModel.{Entries}
-use Rattle.yaml_graph.specs.GraphView.{nodes_of, tree}
+use Rattle.yaml_store_rank.specs.Forests.{Forests, count, tree, IsRanked}
 use Rattle.yaml_tree.specs.declared.node.NodeId.{NodeId}
-use Rattle.yaml_graph.specs.declared.graph.Graph.{Graph}
 use Rattle.yaml_tree.proofs.Lists.{get-more}
-use Rattle.yaml_rank.specs.RanksView.{RanksAre}
-use Rattle.yaml_rank.specs.declared.ranks.Ranks.{Ranks}
 use Rattle.yaml_path.specs.Path.{part}
 use Rattle.yaml_path.specs.Path as plain
 use Rattle.yaml_path.specs.Ways.{Step, at_places, at_key, EndsPaired, StepBefore, count, join, key_place, pairs_in}
@@ -27,7 +24,7 @@ none-some : {X : Type 0} {x : X} → None ≡ Some x → ⊥
 none-some e = absurd (cc)
 
 -- mappings have no items, and so no ends
-pub no-ends : (g : Graph) (i j : ℕ) (lefts rights : Entries) → HasEntries g i lefts → HasEntries g j rights → (ps : List Places) → EndsPaired ps (Some (tree g i)) (Some (tree g j))
+pub no-ends : (g : Forests) (i j : ℕ) (lefts rights : Entries) → HasEntries g i lefts → HasEntries g j rights → (ps : List Places) → EndsPaired ps (Some (tree g i)) (Some (tree g j))
 no-ends g i j lefts rights hl hr ps = record {
   front = 0;
   fronts = λ k l. absurd (omega arith);
@@ -37,16 +34,16 @@ no-ends g i j lefts rights hl hr ps = record {
   back_end = λ k m e f a b s. let c : count (Some (tree g i)) ≡ 0 = ap (λ z. count (Some z)) (entries-tree g i lefts hl) in absurd (omega (arith, e, c));
 }
 
-joined : (g : Graph) (xs ys : Entries) → join (pairs (map (pair_of g) xs)) (pairs (map (pair_of g) ys)) ≡ pairs (map (pair_of g) (xs ++ ys))
+joined : (g : Forests) (xs ys : Entries) → join (pairs (map (pair_of g) xs)) (pairs (map (pair_of g) ys)) ≡ pairs (map (pair_of g) (xs ++ ys))
 joined g [] ys = refl
 joined g (x ∷ xs) ys = ap (λ z. entry (tree g x.0.0) (tree g x.1.0) z) (joined g xs ys)
 
-all-pairs : (g : Graph) (i j : ℕ) (lefts rights : Entries) → HasEntries g i lefts → HasEntries g j rights → join (pairs_in (Some (tree g i))) (pairs_in (Some (tree g j))) ≡ pairs (map (pair_of g) (lefts ++ rights))
+all-pairs : (g : Forests) (i j : ℕ) (lefts rights : Entries) → HasEntries g i lefts → HasEntries g j rights → join (pairs_in (Some (tree g i))) (pairs_in (Some (tree g j))) ≡ pairs (map (pair_of g) (lefts ++ rights))
 all-pairs g i j lefts rights hl hr =
     ap (λ z. join (pairs_in (Some z)) (pairs_in (Some (tree g j)))) (entries-tree g i lefts hl) ∙ ap (λ z. join (pairs (map (pair_of g) lefts)) (pairs_in (Some z))) (entries-tree g j rights hr) ∙ joined g lefts rights
 
 -- a key stands no later than an entry of it
-key-most : (g : Graph) (xs : Entries) (k : ℕ) (p : NodeId × NodeId) (x : Tree) → slice_get xs k ≡ Some p → same x (tree g p.0.0) ≡ true → key_place (pairs (map (pair_of g) xs)) x ≤ k
+key-most : (g : Forests) (xs : Entries) (k : ℕ) (p : NodeId × NodeId) (x : Tree) → slice_get xs k ≡ Some p → same x (tree g p.0.0) ≡ true → key_place (pairs (map (pair_of g) xs)) x ≤ k
 key-most g [] k p x e s = absurd (cc)
 key-most g (q ∷ xs) k p x e s = by (same x (tree g q.0.0)) refl k e (λ j f. key-most g xs j p x f s)
   where
@@ -56,7 +53,7 @@ key-most g (q ∷ xs) k p x e s = by (same x (tree g q.0.0)) refl k e (λ j f. k
     by false h (suc k) e f = let m = f k e in omega (arith, m)
 
 -- and no sooner than behind entries of other keys
-key-least : (g : Graph) (xs : Entries) (k : ℕ) (x : Tree) → k ≤ length xs → ((j : ℕ) (p : NodeId × NodeId) → j < k → slice_get xs j ≡ Some p → same x (tree g p.0.0) ≡ true → ⊥) → k ≤ key_place (pairs (map (pair_of g) xs)) x
+key-least : (g : Forests) (xs : Entries) (k : ℕ) (x : Tree) → k ≤ length xs → ((j : ℕ) (p : NodeId × NodeId) → j < k → slice_get xs j ≡ Some p → same x (tree g p.0.0) ≡ true → ⊥) → k ≤ key_place (pairs (map (pair_of g) xs)) x
 key-least g xs zero x l f = omega arith
 key-least g [] (suc k) x l f = absurd (omega (arith, l))
 key-least g (q ∷ xs) (suc k) x l f = by (same x (tree g q.0.0)) refl (key-least g xs k x (omega (arith, l)) (λ j p a e s. f (suc j) p (omega (arith, a)) e s))
@@ -65,8 +62,8 @@ key-least g (q ∷ xs) (suc k) x l f = by (same x (tree g q.0.0)) refl (key-leas
     by true h m = absurd (f 0 q (omega arith) refl h)
     by false h m = omega (arith, m)
 
-module _ (g : Graph) (r : Ranks) (are : RanksAre g r) (i j at : ℕ) (lefts rights : Entries) (p : NodeId × NodeId) (hl : HasEntries g i lefts) (hr : HasEntries g j rights) where
-  within : i < length (nodes_of g)
+module _ (g : Forests) (are : IsRanked g) (i j at : ℕ) (lefts rights : Entries) (p : NodeId × NodeId) (hl : HasEntries g i lefts) (hr : HasEntries g j rights) where
+  within : i < count g
   within = slice_get_within (nodes_of g) i hl.node hl.is
 
   -- the keys of earlier entries stand before that of an entry of the left

@@ -3,7 +3,7 @@ use Rattle.std.proofs.Common.{◌≡◌, ℕ, zero, suc, ◌+◌, ◌⊎◌, Lis
 use Rattle.std.specs.Prelude.{Some}
 use Rattle.std.specs.List.{slice_get}
 use Rattle.std.proofs.lemmas.List.{reverse-append}
-use Rattle.yaml_graph.specs.declared.graph.Graph.{Graph}
+use Rattle.yaml_store_rank.specs.Forests.{Forests}
 use Rattle.yaml_path.specs.Ways.{Step, Way, AlikeStep, AlikeWay}
 use Rattle.yaml_diff.specs.declared.difference.Step as code
 use Rattle.yaml_diff.specs.Lines.{step_of, Line, way_of, under, Begins}
@@ -46,7 +46,7 @@ some-is e = cc
 
 -- ---- one step more
 
-pub way-under : (g : Graph) (s : code.Step) (d : Line) → way_of g (under s d).0 ≡ step_of g s ∷ way_of g d.0
+pub way-under : (g : Forests) (s : code.Step) (d : Line) → way_of g (under s d).0 ≡ step_of g s ∷ way_of g d.0
 way-under g s d = ap reverse (map-end (step_of g) d.0 s) ∙ reverse-end (map (step_of g) d.0) (step_of g s)
 
 pub way-back : (p q : Way) → AlikeWay p q → AlikeWay q p
@@ -56,7 +56,7 @@ way-back [] (r ∷ q) a = absurd a
 way-back (s ∷ p) [] a = absurd a
 
 -- an old line and one behind a new step have other first steps
-pub cross : (g : Graph) (old : Step → Type 0) (s : code.Step) (d e : Line) → Begins old (way_of g d.0) → ((r : Step) → old r → AlikeStep r (step_of g s) → ⊥) → AlikeWay (way_of g d.0) (way_of g (under s e).0) → ⊥
+pub cross : (g : Forests) (old : Step → Type 0) (s : code.Step) (d e : Line) → Begins old (way_of g d.0) → ((r : Step) → old r → AlikeStep r (step_of g s) → ⊥) → AlikeWay (way_of g d.0) (way_of g (under s e).0) → ⊥
 cross g old s d e b f a =
     let h : AlikeWay (b.0 ∷ b.1) (step_of g s ∷ way_of g e.0) = subst (λ z. AlikeWay z (step_of g s ∷ way_of g e.0)) b.2 (subst (AlikeWay (way_of g d.0)) (way-under g s e) a) in
     f b.0 b.3 h.0

@@ -7,7 +7,7 @@ use Rattle.std.proofs.lemmas.Option.{slice_get_within}
 use Rattle.yaml_definitions.specs.model.Tree.{Tree}
 use Rattle.yaml_definitions.proofs.Members.{and_both}
 use Rattle.yaml_tree.specs.declared.node.NodeId.{NodeId}
-use Rattle.yaml_graph.specs.declared.graph.Graph.{Graph}
+use Rattle.yaml_store_rank.specs.Forests.{Forests}
 use Rattle.yaml_tree.proofs.Lists.{get-more}
 use Rattle.yaml_path.specs.Path.{head_of}
 use Rattle.yaml_path.specs.Ways.{Step, Way, Pairing, PairsAll, SettlesAll, InOrderAll, below, Allows, Differs, EndsPaired, EndsAlong, AlikeStep, alike_step, AlikeWay, StepBefore, WayBefore, left_part, right_part, left_end, right_end}
@@ -22,7 +22,7 @@ use Rattle.yaml_diff.proofs.ListParts.{get-nth, get-side, get-map, map-get, some
 use Rattle.yaml_diff.proofs.WayLaws.{not-so, step-self, step-back, left-alike, right-alike, none-part, turn, turn-pairs, calm, put, put-same, put-other, put-pairs}
 use Rattle.yaml_diff.proofs.MoveLists.{add-some-moves, some-no-moves, calm-moves, no-line}
 
-module _ (g : Graph) (t u : Option Tree) where
+module _ (g : Forests) (t u : Option Tree) where
   -- a line behind a step
   told-under : (P Q : Pairing) (s : code.Step) (d : Line) → head_of t ≡ head_of u → Allows (P []) (step_of g s) → EndsPaired (P []) t u → IsTold g Q (left_part t (step_of g s)) (right_part u (step_of g s)) d → IsTold g (put P (step_of g s) Q) t u (under s d)
   told-under P Q s d h a n i =
@@ -54,7 +54,7 @@ module _ (g : Graph) (t u : Option Tree) where
       let y : WayBefore (put P s Q) t u (r ∷ q) (v ∷ w) = elim x [ inl c ↦ inl c | inr c ↦ inr (c.0, subst (λ z. WayBefore z (left_part t r) (right_part u r) q w) (sym (put-other P s Q r n)) c.1) ] in
       subst (λ z. WayBefore (put P s Q) t u z o) (sym e) (subst (WayBefore (put P s Q) t u (r ∷ q)) (sym f) y)
 
-apart-more : (g : Graph) (old : Step → Type 0) (s : code.Step) (lines more : List Line) → Apart g lines → Apart g more → ((k : ℕ) (d : Line) → slice_get lines k ≡ Some d → Begins old (way_of g d.0))
+apart-more : (g : Forests) (old : Step → Type 0) (s : code.Step) (lines more : List Line) → Apart g lines → Apart g more → ((k : ℕ) (d : Line) → slice_get lines k ≡ Some d → Begins old (way_of g d.0))
     → ((r : Step) → old r → AlikeStep r (step_of g s) → ⊥) → Apart g (lines ++ map (under s) more)
 apart-more g old s lines more o m b f j k d e p q a = elim (get-side lines (map (under s) more) j d p) [
   | inl x ↦ elim (get-side lines (map (under s) more) k e q) [
@@ -73,7 +73,7 @@ apart-more g old s lines more o m b f j k d e p q a = elim (get-side lines (map 
 ]
 
 -- lines behind a new step stand in order behind the old ones
-ordered-more : (g : Graph) (P Q : Pairing) (t u : Option Tree) (old : Step → Type 0) (s : code.Step) (lines more : List Line) → Ordered g P t u lines → Ordered g Q (left_part t (step_of g s)) (right_part u (step_of g s)) more
+ordered-more : (g : Forests) (P Q : Pairing) (t u : Option Tree) (old : Step → Type 0) (s : code.Step) (lines more : List Line) → Ordered g P t u lines → Ordered g Q (left_part t (step_of g s)) (right_part u (step_of g s)) more
     → ((k : ℕ) (d : Line) → slice_get lines k ≡ Some d → Begins old (way_of g d.0)) → ((r : Step) → old r → AlikeStep r (step_of g s) → ⊥) → ((r : Step) → old r → StepBefore (P []) t u r (step_of g s))
     → Ordered g (put P (step_of g s) Q) t u (lines ++ map (under s) more)
 ordered-more g P Q t u old s lines more o m b f n j k d e l p q = elim (get-side lines (map (under s) more) j d p) [
@@ -104,7 +104,7 @@ ordered-more g P Q t u old s lines more o m b f n j k d e l p q = elim (get-side
 ]
 
 -- the differences and moves behind a step are added
-pub add-some : (g : Graph) (P Q M N : Pairing) (t u : Option Tree) (room : ℕ) (old new : Step → Type 0) (lines more all : List Line) (moves more_moves all_moves : List MoveLine) (w v b : Bool) (s : code.Step) → head_of t ≡ head_of u → Allows (P []) (step_of g s) → EndsPaired (P []) t u
+pub add-some : (g : Forests) (P Q M N : Pairing) (t u : Option Tree) (room : ℕ) (old new : Step → Type 0) (lines more all : List Line) (moves more_moves all_moves : List MoveLine) (w v b : Bool) (s : code.Step) → head_of t ≡ head_of u → Allows (P []) (step_of g s) → EndsPaired (P []) t u
     → ListsSome g P M t u room old lines moves w → Lists g Q N (left_part t (step_of g s)) (right_part u (step_of g s)) (room - (length lines + length moves)) more more_moves v → all ≡ lines ++ map (under s) more → all_moves ≡ moves ++ map (moved_under s) more_moves → b ≡ (w && v)
     → ((r : Step) → new r → old r ⊎ AlikeStep (step_of g s) r) → ((r : Step) → old r → new r) → new (step_of g s) → ((r : Step) → old r → AlikeStep r (step_of g s) → ⊥)
     → ((r : Step) → old r → StepBefore (P []) t u r (step_of g s)) → ListsSome g (put P (step_of g s) Q) (put M (step_of g s) N) t u room new all all_moves b
@@ -157,7 +157,7 @@ add-some g P Q M N t u room old new lines more all moves more_moves all_moves w 
 -- ---- the ends
 
 -- all steps are covered, and these moves of the two themselves are added
-pub lists-done : (g : Graph) (P M : Pairing) (t u : Option Tree) (room : ℕ) (covers : Step → Type 0) (lines : List Line) (moves all : List MoveLine) (w b : Bool) → head_of t ≡ head_of u → ListsSome g P M t u room covers lines moves w
+pub lists-done : (g : Forests) (P M : Pairing) (t u : Option Tree) (room : ℕ) (covers : Step → Type 0) (lines : List Line) (moves all : List MoveLine) (w b : Bool) → head_of t ≡ head_of u → ListsSome g P M t u room covers lines moves w
     → ((s : Step) → Allows (P []) s → covers s ⊎ ((left_part t s ≡ None) × (right_part u s ≡ None))) → length lines + length all ≤ room → (b ≡ true → w ≡ true) → (b ≡ false → length lines + length all ≡ room) → ListsMoves g P M t u all b → Lists g P M t u room lines all b
 lists-done g P M t u room covers lines moves all w b h l c few on cut a = record {
   pairs = l.pairs;
@@ -177,7 +177,7 @@ lists-done g P M t u room covers lines moves all w b h l c few on cut a = record
       | inr i ↦ absurd (none-part (below P s) q (left_part t s) (right_part u s) i.0 i.1 d.2)
     ]
 
-pub some-none : (g : Graph) (P M : Pairing) (t u : Option Tree) (room : ℕ) (covers : Step → Type 0) (lines : List Line) (moves : List MoveLine) (w : Bool) → PairsAll P t u → SettlesAll P M → InOrderAll P M → lines ≡ [] → moves ≡ [] → w ≡ true → ((s : Step) → covers s → ⊥) → ListsSome g P M t u room covers lines moves w
+pub some-none : (g : Forests) (P M : Pairing) (t u : Option Tree) (room : ℕ) (covers : Step → Type 0) (lines : List Line) (moves : List MoveLine) (w : Bool) → PairsAll P t u → SettlesAll P M → InOrderAll P M → lines ≡ [] → moves ≡ [] → w ≡ true → ((s : Step) → covers s → ⊥) → ListsSome g P M t u room covers lines moves w
 some-none g P M t u room covers lines moves w a m o e n f c = subst (λ z. ListsSome g P M t u room covers z moves w) (sym e) (subst (λ z. ListsSome g P M t u room covers [] z w) (sym n) (subst (λ z. ListsSome g P M t u room covers [] [] z) (sym f) (record {
   pairs = a;
   each = λ k d e. absurd (no-line k d e);
@@ -191,7 +191,7 @@ some-none g P M t u room covers lines moves w a m o e n f c = subst (λ z. Lists
 })))
 
 -- no differences
-pub lists-none : (g : Graph) (t u : Option Tree) (room : ℕ) (lines : List Line) (moves : List MoveLine) (w : Bool) → lines ≡ [] → moves ≡ [] → w ≡ true → ((q : Way) → Differs (turn t u) q t u → ⊥) → Lists g (turn t u) calm t u room lines moves w
+pub lists-none : (g : Forests) (t u : Option Tree) (room : ℕ) (lines : List Line) (moves : List MoveLine) (w : Bool) → lines ≡ [] → moves ≡ [] → w ≡ true → ((q : Way) → Differs (turn t u) q t u → ⊥) → Lists g (turn t u) calm t u room lines moves w
 lists-none g t u room lines moves w e m f n = subst (λ z. Lists g (turn t u) calm t u room z moves w) (sym e) (subst (λ z. Lists g (turn t u) calm t u room [] z w) (sym m) (subst (λ z. Lists g (turn t u) calm t u room [] [] z) (sym f) (record {
   pairs = turn-pairs t u;
   each = λ k d e. absurd (no-line k d e);
@@ -204,7 +204,7 @@ lists-none g t u room lines moves w e m f n = subst (λ z. Lists g (turn t u) ca
 })))
 
 -- no room
-pub lists-cut : (g : Graph) (t u : Option Tree) (room : ℕ) (lines : List Line) (moves : List MoveLine) (w : Bool) → lines ≡ [] → moves ≡ [] → w ≡ false → room ≡ 0 → Lists g (turn t u) calm t u room lines moves w
+pub lists-cut : (g : Forests) (t u : Option Tree) (room : ℕ) (lines : List Line) (moves : List MoveLine) (w : Bool) → lines ≡ [] → moves ≡ [] → w ≡ false → room ≡ 0 → Lists g (turn t u) calm t u room lines moves w
 lists-cut g t u room lines moves w e m f z = subst (λ y. Lists g (turn t u) calm t u room y moves w) (sym e) (subst (λ y. Lists g (turn t u) calm t u room [] y w) (sym m) (subst (λ y. Lists g (turn t u) calm t u room [] [] y) (sym f) (record {
   pairs = turn-pairs t u;
   each = λ k d e. absurd (no-line k d e);
@@ -217,7 +217,7 @@ lists-cut g t u room lines moves w e m f z = subst (λ y. Lists g (turn t u) cal
 })))
 
 -- one difference, at the roots
-pub lists-one : (g : Graph) (t u : Option Tree) (l r : Option NodeId) (room : ℕ) (lines : List Line) (moves : List MoveLine) (w : Bool) → lines ≡ ([], (l, r)) ∷ [] → moves ≡ [] → w ≡ true → 0 < room → head_of t ≢ head_of u → t ≡ trees_of g l → u ≡ trees_of g r → Lists g (turn t u) calm t u room lines moves w
+pub lists-one : (g : Forests) (t u : Option Tree) (l r : Option NodeId) (room : ℕ) (lines : List Line) (moves : List MoveLine) (w : Bool) → lines ≡ ([], (l, r)) ∷ [] → moves ≡ [] → w ≡ true → 0 < room → head_of t ≢ head_of u → t ≡ trees_of g l → u ≡ trees_of g r → Lists g (turn t u) calm t u room lines moves w
 lists-one g t u l r room lines moves w e v f m n a b = subst (λ z. Lists g (turn t u) calm t u room z moves w) (sym e) (subst (λ z. Lists g (turn t u) calm t u room (([], (l, r)) ∷ []) z w) (sym v) (subst (λ z. Lists g (turn t u) calm t u room (([], (l, r)) ∷ []) [] z) (sym f) (record {
   pairs = turn-pairs t u;
   each = λ k d h. by k d h;
@@ -249,6 +249,6 @@ lists-one g t u l r room lines moves w e v f m n a b = subst (λ z. Lists g (tur
     at [] d = (0, ([], (l, r)), refl, tt)
     at (s ∷ q) d = absurd (n d.0)
 
-pub one-ok : (g : Graph) (t u : Option Tree) (l r : Option NodeId) (room : ℕ) (answer : Result Found AllocError) → IfOk answer (λ f. lines_of f ≡ ([], (l, r)) ∷ []) → IfOk answer (λ f. moves_of f ≡ []) → IfOk answer (λ f. f.whole ≡ true) → 0 < room → head_of t ≢ head_of u → t ≡ trees_of g l → u ≡ trees_of g r → IfOk answer (Finds g t u room)
+pub one-ok : (g : Forests) (t u : Option Tree) (l r : Option NodeId) (room : ℕ) (answer : Result Found AllocError) → IfOk answer (λ f. lines_of f ≡ ([], (l, r)) ∷ []) → IfOk answer (λ f. moves_of f ≡ []) → IfOk answer (λ f. f.whole ≡ true) → 0 < room → head_of t ≢ head_of u → t ≡ trees_of g l → u ≡ trees_of g r → IfOk answer (Finds g t u room)
 one-ok g t u l r room (Ok f) a v b m n p q = (turn t u, calm, lists-one g t u l r room (lines_of f) (moves_of f) f.whole a v b m n p q)
 one-ok g t u l r room (Err e) a v b m n p q = tt

@@ -4,7 +4,7 @@ use Rattle.std.specs.Prelude.{Option, Some, None}
 use Rattle.std.specs.List.{slice_get}
 use Rattle.yaml_definitions.specs.model.Tree.{Tree}
 use Rattle.yaml_definitions.proofs.Members.{and_both}
-use Rattle.yaml_graph.specs.declared.graph.Graph.{Graph}
+use Rattle.yaml_store_rank.specs.Forests.{Forests}
 use Rattle.yaml_tree.proofs.Lists.{get-more}
 use Rattle.yaml_path.specs.Path.{head_of}
 use Rattle.yaml_path.specs.Ways.{Step, Way, Pairing, PairsAll, Settles, SettlesAll, InOrderAll, Takes, Reaches, Allows, EndsPaired, EndsAlong, AlikeStep, alike_step, AlikeWay, at_places, count, left_part, right_part, left_end, right_end}
@@ -23,12 +23,12 @@ no-line k x e = absurd (cc)
 abbrev line : MoveLine → Line
 line m = (m.0, (None, None))
 
-move-way : (g : Graph) (s : code.Step) (m : MoveLine) → way_of g (moved_under s m).0 ≡ step_of g s ∷ way_of g m.0
+move-way : (g : Forests) (s : code.Step) (m : MoveLine) → way_of g (moved_under s m).0 ≡ step_of g s ∷ way_of g m.0
 move-way g s m = way-under g s (line m)
 
 -- ---- one step more
 
-module _ (g : Graph) (t u : Option Tree) where
+module _ (g : Forests) (t u : Option Tree) where
   -- a move behind a step
   moved-under : (P Q M N : Pairing) (s : code.Step) (m : MoveLine) → head_of t ≡ head_of u → Allows (P []) (step_of g s) → EndsPaired (P []) t u → IsMoved g Q N (left_part t (step_of g s)) (right_part u (step_of g s)) m
       → IsMoved g (put P (step_of g s) Q) (put M (step_of g s) N) t u (moved_under s m)
@@ -65,7 +65,7 @@ module _ (g : Graph) (t u : Option Tree) where
         ends = subst (λ w. EndsAlong (put P s Q) (w ++ end) t u) (sym e) zz;
       }
 
-moves-apart-more : (g : Graph) (old : Step → Type 0) (s : code.Step) (moves more : List MoveLine) → MovesApart g moves → MovesApart g more → ((k : ℕ) (m : MoveLine) → slice_get moves k ≡ Some m → Begins old (way_of g m.0))
+moves-apart-more : (g : Forests) (old : Step → Type 0) (s : code.Step) (moves more : List MoveLine) → MovesApart g moves → MovesApart g more → ((k : ℕ) (m : MoveLine) → slice_get moves k ≡ Some m → Begins old (way_of g m.0))
     → ((r : Step) → old r → AlikeStep r (step_of g s) → ⊥) → MovesApart g (moves ++ map (moved_under s) more)
 moves-apart-more g old s moves more o m b f j k d e p q a h = elim (get-side moves (map (moved_under s) more) j d p) [
   | inl x ↦ elim (get-side moves (map (moved_under s) more) k e q) [
@@ -85,7 +85,7 @@ moves-apart-more g old s moves more o m b f j k d e p q a h = elim (get-side mov
 ]
 
 -- the moves behind a step are added
-pub add-some-moves : (g : Graph) (P Q M N : Pairing) (t u : Option Tree) (old new : Step → Type 0) (moves more : List MoveLine) (w v : Bool) (s : code.Step) → head_of t ≡ head_of u → Allows (P []) (step_of g s) → EndsPaired (P []) t u
+pub add-some-moves : (g : Forests) (P Q M N : Pairing) (t u : Option Tree) (old new : Step → Type 0) (moves more : List MoveLine) (w v : Bool) (s : code.Step) → head_of t ≡ head_of u → Allows (P []) (step_of g s) → EndsPaired (P []) t u
     → ListsSomeMoves g P M t u old moves w → ListsMoves g Q N (left_part t (step_of g s)) (right_part u (step_of g s)) more v
     → ((r : Step) → new r → old r ⊎ AlikeStep (step_of g s) r) → ((r : Step) → old r → new r) → new (step_of g s) → ((r : Step) → old r → AlikeStep r (step_of g s) → ⊥)
     → ListsSomeMoves g (put P (step_of g s) Q) (put M (step_of g s) N) t u new (moves ++ map (moved_under s) more) (w && v)
@@ -120,7 +120,7 @@ add-some-moves g P Q M N t u old new moves more w v s h allow ends o m c up here
 
 -- ---- no moves
 
-pub some-no-moves : (g : Graph) (P M : Pairing) (t u : Option Tree) (covers : Step → Type 0) → SettlesAll P M → InOrderAll P M → ((s : Step) → covers s → ⊥) → ListsSomeMoves g P M t u covers [] true
+pub some-no-moves : (g : Forests) (P M : Pairing) (t u : Option Tree) (covers : Step → Type 0) → SettlesAll P M → InOrderAll P M → ((s : Step) → covers s → ⊥) → ListsSomeMoves g P M t u covers [] true
 some-no-moves g P M t u covers s o c = record {
   settles = s;
   in_order = o;
@@ -130,7 +130,7 @@ some-no-moves g P M t u covers s o c = record {
   covered = λ k d e. absurd (no-line k d e);
 }
 
-pub calm-moves : (g : Graph) (t u : Option Tree) (w : Bool) → ListsMoves g (turn t u) calm t u [] w
+pub calm-moves : (g : Forests) (t u : Option Tree) (w : Bool) → ListsMoves g (turn t u) calm t u [] w
 calm-moves g t u w = record {
   settles = turn-settles t u;
   in_order = turn-order t u;
@@ -154,13 +154,13 @@ take-get (suc n) (y ∷ xs) zero x l e = e
 take-get (suc n) (y ∷ xs) (suc k) x l e = take-get n xs k x (omega (arith, l)) e
 
 -- no step covers the trees themselves
-here-begins : (g : Graph) (covers : Step → Type 0) (p : Places) → Begins covers (way_of g (here p).0) → ⊥
+here-begins : (g : Forests) (covers : Step → Type 0) (p : Places) → Begins covers (way_of g (here p).0) → ⊥
 here-begins g covers p b = let e : [] ≡ b.0 ∷ b.1 = b.2 in absurd (cc)
 
-no-way : (g : Graph) (m : MoveLine) (covers : Step → Type 0) → Begins covers (way_of g m.0) → AlikeWay (way_of g m.0) [] → ⊥
+no-way : (g : Forests) (m : MoveLine) (covers : Step → Type 0) → Begins covers (way_of g m.0) → AlikeWay (way_of g m.0) [] → ⊥
 no-way g m covers b a = let e : AlikeWay (b.0 ∷ b.1) [] = subst (λ z. AlikeWay z []) b.2 a in e
 
-way-no : (g : Graph) (m : MoveLine) (covers : Step → Type 0) → Begins covers (way_of g m.0) → AlikeWay [] (way_of g m.0) → ⊥
+way-no : (g : Forests) (m : MoveLine) (covers : Step → Type 0) → Begins covers (way_of g m.0) → AlikeWay [] (way_of g m.0) → ⊥
 way-no g m covers b a = let e : AlikeWay [] (b.0 ∷ b.1) = subst (AlikeWay []) b.2 a in e
 
 -- where there are no items, none has moved
@@ -179,7 +179,7 @@ none-below : (P M : Pairing) (t u : Option Tree) (s : Step) (q : Way) (p : Place
 none-below P M t u s q p a m e x = none-moved (P (s ∷ q)) (M (s ∷ q)) (left_end t (s ∷ q)) (right_end u (s ∷ q)) p (a (s ∷ q)) (m (s ∷ q)) (ap (λ z. count (left_end z q)) e ∙ ap count (none-end q)) x
 
 -- the moves of all steps, where none of the trees themselves has moved
-pub done-moves : (g : Graph) (P M : Pairing) (t u : Option Tree) (covers : Step → Type 0) (moves : List MoveLine) (w : Bool) → PairsAll P t u → ((p : Places) → Allows (M []) (at_places p) → ⊥) → ListsSomeMoves g P M t u covers moves w
+pub done-moves : (g : Forests) (P M : Pairing) (t u : Option Tree) (covers : Step → Type 0) (moves : List MoveLine) (w : Bool) → PairsAll P t u → ((p : Places) → Allows (M []) (at_places p) → ⊥) → ListsSomeMoves g P M t u covers moves w
     → ((s : Step) → Allows (P []) s → covers s ⊎ ((left_part t s ≡ None) × (right_part u s ≡ None))) → ListsMoves g P M t u moves w
 done-moves g P M t u covers moves w pairs none o c = record {
   settles = o.settles;
@@ -194,7 +194,7 @@ done-moves g P M t u covers moves w pairs none o c = record {
     by e (s ∷ q) p r a = elim (c s r.1) [ inl x ↦ o.whole e s q p x r a | inr x ↦ absurd (none-below P M t u s q p pairs o.settles x.0 a) ]
 
 -- the first so many pairs of the trees themselves are added to the moves of all steps
-pub add-own-moves : (g : Graph) (P M : Pairing) (t u : Option Tree) (covers : Step → Type 0) (moves : List MoveLine) (moved : List Places) (n : ℕ) (w b : Bool) → PairsAll P t u → head_of t ≡ head_of u → EndsPaired (P []) t u → M [] ≡ moved
+pub add-own-moves : (g : Forests) (P M : Pairing) (t u : Option Tree) (covers : Step → Type 0) (moves : List MoveLine) (moved : List Places) (n : ℕ) (w b : Bool) → PairsAll P t u → head_of t ≡ head_of u → EndsPaired (P []) t u → M [] ≡ moved
     → ((j k : ℕ) (p : Places) → slice_get moved j ≡ Some p → slice_get moved k ≡ Some p → j ≡ k) → ListsSomeMoves g P M t u covers moves w
     → ((s : Step) → Allows (P []) s → covers s ⊎ ((left_part t s ≡ None) × (right_part u s ≡ None))) → (b ≡ true → (w ≡ true) × (length moved ≤ n)) → ListsMoves g P M t u (moves ++ map here (take n moved)) b
 add-own-moves g P M t u covers moves moved n w b pairs h ends i once o c f = record {

@@ -8,7 +8,7 @@ use Rattle.yaml_definitions.specs.model.Tree.{Tree, scalar, sequence, mapping, e
 use Rattle.yaml_definitions.specs.model.Same.{same, same_trees, Same, Keyed, Alike}
 use Rattle.yaml_definitions.proofs.Members.{and_both, both_and}
 use Rattle.yaml_tree.specs.TreeLists.{trees}
-use Rattle.yaml_graph.specs.declared.graph.Graph.{Graph}
+use Rattle.yaml_store_rank.specs.Forests.{Forests}
 use Rattle.yaml_path.specs.Path.{part_of, head, head_of, item_in}
 use Rattle.yaml_path.specs.Path as plain
 use Rattle.yaml_path.specs.Ways.{Step, at_places, at_key, Way, Pairing, PairsAll, SettlesAll, Each, Rises, Reaches, below, turns, Allows, AllowsWay, Takes, Differs, EndsPaired, EndsAlong, SameItems, AlikeWay, left_part, right_part, left_end, right_end, left_place, right_place, count}
@@ -55,7 +55,7 @@ else-alike P t u (s ∷ w) a = elim (heads-either t u) [
   ]
 ]
 
-pub whole-patch : (g : Graph) (P M : Pairing) (t u : Option Tree) (room : ℕ) (lines : List Line) (moves : List MoveLine) → Lists g P M t u room lines moves true → (w : Way) → AllowsWay P w →
+pub whole-patch : (g : Forests) (P M : Pairing) (t u : Option Tree) (room : ℕ) (lines : List Line) (moves : List MoveLine) → Lists g P M t u room lines moves true → (w : Way) → AllowsWay P w →
     (head_of (left_end t w) ≡ head_of (right_end u w)) ⊎ ((k : ℕ) × (d : Line) × (r : Way) × (slice_get lines k ≡ Some d) × (left_end t w ≡ left_end (trees_of g d.1.0) r) × (right_end u w ≡ right_end (trees_of g d.1.1) r))
 whole-patch g P M t u room lines moves l w a = elim (else-alike P t u w a) [
   | inl e ↦ inl e
@@ -288,7 +288,7 @@ match-moves (at_places q ∷ w) P M p t u m a s n r x =
     let e = subst (λ z. Allows (M (at_places z ∷ w)) (at_places p)) i.1 x in
     match-moves w (below P (at_places (Both i.0 i.0))) (below M (at_places (Both i.0 i.0))) p (part_of t (plain.at_item i.0)) (part_of u (plain.at_item i.0)) (match-part t u (plain.at_item i.0) m) b (λ v. s (at_places (Both i.0 i.0) ∷ v)) c d e
 
-pub empty-same : (g : Graph) (P M : Pairing) (t u : Tree) (room : ℕ) (lines : List Line) (moves : List MoveLine) → Keyed t → Keyed u → Lists g P M (Some t) (Some u) room lines moves true → ((lines ≡ []) × (moves ≡ [])) ↔ Same t u
+pub empty-same : (g : Forests) (P M : Pairing) (t u : Tree) (room : ℕ) (lines : List Line) (moves : List MoveLine) → Keyed t → Keyed u → Lists g P M (Some t) (Some u) room lines moves true → ((lines ≡ []) × (moves ≡ [])) ↔ Same t u
 empty-same g P M t u room lines moves m n l = (
   λ e. nowhere-same (turn (Some t) (Some u)) t u m n (turn-in-turn (Some t) (Some u)) (λ q d. convert q P (Some t) (Some u) l.pairs
       (λ w r i j c k x y b. (l.moved.settles w).rise i j c k (record { pair = x; still = λ z. none-moved e.1 w (Both i j) r z }) (record { pair = y; still = λ z. none-moved e.1 w (Both c k) r z }) b)

@@ -12,14 +12,11 @@ use Rattle.yaml_definitions.specs.model.Same.{same}
 use Rattle.yaml_definitions.proofs.Equivalence.{same_refl, same_sym, same_trans}
 use Rattle.std.specs.declared.alloc.AllocError.{AllocError}
 use Rattle.yaml_graph.specs.GraphModel.{Entries, entries_of, items_of, node_tree, kind_tree}
-use Rattle.yaml_graph.specs.GraphView.{nodes_of, graph_trees, tree}
+use Rattle.yaml_store_rank.specs.Forests.{Forests, count, tree, rank, IsRanked, item_trees}
 use Rattle.yaml_tree.specs.declared.node.NodeId.{NodeId}
 use Rattle.yaml_graph.specs.declared.node.Node.{Node}
 use Rattle.yaml_graph.specs.declared.node.NodeKind.{NodeKind}
 use Rattle.yaml_graph.specs.declared.node.NodeKind.TheVariants as kinds
-use Rattle.yaml_graph.specs.declared.graph.Graph.{Graph}
-use Rattle.yaml_rank.specs.RanksView.{RanksAre, rank_of}
-use Rattle.yaml_rank.specs.declared.ranks.Ranks.{Ranks}
 use Rattle.yaml_path.specs.Path.{head, part, part_of, head_of}
 use Rattle.yaml_path.specs.Path as plain
 use Rattle.yaml_path.specs.Ways.{Step, at_places, at_key, Pairing, Allows, AlikeStep, count, left_part, right_part, placed, left_place, right_place}
@@ -30,7 +27,7 @@ use Rattle.yaml_diff.specs.Lines.{Line, line_of, trees_of, sequence_of, under}
 use Rattle.yaml_diff.specs.Moves.{MoveLine, move_line_of, here, moved_under}
 use Rattle.yaml_diff.specs.Listing.{Lists, ListsSome, LeftEntries, EntriesBelow, LeftCovers, RightCovers}
 use Rattle.yaml_diff.specs.Found.{lines_of, moves_of, Finds, FindsItems, HasItems, HasEntries, IsValueOf, AllWithin, Within, item_of, size, top, greater}
-use Rattle.yaml_diff.specs.Aligning.{AllRanked}
+use Rattle.yaml_diff.specs.Aligning.{AllWithin}
 use Rattle.yaml_diff.proofs.WayLaws.{none-part, part-like, turn, turn-pairs, turn-settles, turn-order, calm, put}
 use Rattle.yaml_diff.proofs.Lists.{add-some, lists-done, lists-none, lists-cut, some-none}
 use Rattle.yaml_diff.proofs.MoveLists.{done-moves, none-moved}
@@ -49,13 +46,13 @@ option-cases (Some v) = inr (v, refl)
 pub one-head : (t u : Tree) → head_of (Some t) ≡ head_of (Some u) → head t ≡ head u
 one-head t u h = cc
 
-pub none-places : (g : Graph) (l r : Option NodeId) (room : ℕ) (f : Found) → l ≡ None → r ≡ None → lines_of f ≡ [] → moves_of f ≡ [] → f.whole ≡ true → Finds g (trees_of g l) (trees_of g r) room f
+pub none-places : (g : Forests) (l r : Option NodeId) (room : ℕ) (f : Found) → l ≡ None → r ≡ None → lines_of f ≡ [] → moves_of f ≡ [] → f.whole ≡ true → Finds g (trees_of g l) (trees_of g r) room f
 none-places g l r room f a b x m y = (turn _ _, calm, lists-none g (trees_of g l) (trees_of g r) room (lines_of f) (moves_of f) f.whole x m y (λ q d. none-part (turn _ _) q (trees_of g l) (trees_of g r) (ap (trees_of g) a) (ap (trees_of g) b) d))
 
-pub cut-found : (g : Graph) (t u : Option Tree) (room : ℕ) (f : Found) → lines_of f ≡ [] → moves_of f ≡ [] → f.whole ≡ false → room ≡ 0 → Finds g t u room f
+pub cut-found : (g : Forests) (t u : Option Tree) (room : ℕ) (f : Found) → lines_of f ≡ [] → moves_of f ≡ [] → f.whole ≡ false → room ≡ 0 → Finds g t u room f
 cut-found g t u room f a m b z = (turn t u, calm, lists-cut g t u room (lines_of f) (moves_of f) f.whole a m b z)
 
-pub of-places : (g : Graph) (l m r s : Option NodeId) (room : ℕ) (f : Found) → l ≡ m → r ≡ s → Finds g (trees_of g l) (trees_of g r) room f → Finds g (trees_of g m) (trees_of g s) room f
+pub of-places : (g : Forests) (l m r s : Option NodeId) (room : ℕ) (f : Found) → l ≡ m → r ≡ s → Finds g (trees_of g l) (trees_of g r) room f → Finds g (trees_of g m) (trees_of g s) room f
 of-places g l m r s room f a b h = subst (λ z. Finds g (trees_of g z) (trees_of g s) room f) a (subst (λ z. Finds g (trees_of g l) (trees_of g z) room f) b h)
 
 -- no move is added to none
@@ -80,18 +77,18 @@ pub moves-length : (f : Found) → length (moves_of f) ≡ length f.moves.items
 moves-length f = length-map f.moves.items move_line_of
 
 -- what was found where a value is missing
-pub none-key : (r : Ranks) (xs : Entries) (rank key : ℕ) (result : Option NodeId) → rank ≡ key → is_some result ≡ false → IsValueOf r xs rank result → IsValueOf r xs key None
+pub none-key : (g : Forests) (xs : Entries) (rank key : ℕ) (result : Option NodeId) → rank ≡ key → is_some result ≡ false → IsValueOf r xs rank result → IsValueOf r xs key None
 none-key r xs rank key None e s w = subst (λ z. IsValueOf r xs z None) e w
 none-key r xs rank key (Some v) e s w = absurd (cc)
 
-pub ranked-key : (r : Ranks) (xs : Entries) (rank key : ℕ) (result : Option NodeId) → rank ≡ key → IsValueOf r xs rank result → IsValueOf r xs key result
+pub ranked-key : (g : Forests) (xs : Entries) (rank key : ℕ) (result : Option NodeId) → rank ≡ key → IsValueOf r xs rank result → IsValueOf r xs key result
 ranked-key r xs rank key result e w = subst (λ z. IsValueOf r xs z result) e w
 
-pub some-key : (r : Ranks) (xs : Entries) (rank key : ℕ) (result : Option NodeId) → rank ≡ key → is_some result ≡ true → IsValueOf r xs rank result → (v : NodeId) × IsValueOf r xs key (Some v)
+pub some-key : (g : Forests) (xs : Entries) (rank key : ℕ) (result : Option NodeId) → rank ≡ key → is_some result ≡ true → IsValueOf r xs rank result → (v : NodeId) × IsValueOf r xs key (Some v)
 some-key r xs rank key (Some v) e s w = (v, subst (λ z. IsValueOf r xs z (Some v)) e w)
 some-key r xs rank key None e s w = absurd (cc)
 
-pub weaker : (g : Graph) (P M : Pairing) (t u : Option Tree) (room : ℕ) (old new : Step → Type 0) (lines : List Line) (moves : List MoveLine) (w : Bool) → ((s : Step) → new s → old s) → ((s : Step) → old s → new s) → ListsSome g P M t u room old lines moves w → ListsSome g P M t u room new lines moves w
+pub weaker : (g : Forests) (P M : Pairing) (t u : Option Tree) (room : ℕ) (old new : Step → Type 0) (lines : List Line) (moves : List MoveLine) (w : Bool) → ((s : Step) → new s → old s) → ((s : Step) → old s → new s) → ListsSome g P M t u room old lines moves w → ListsSome g P M t u room new lines moves w
 weaker g P M t u room old new lines moves w f up l = record {
   pairs = l.pairs;
   each = l.each;
@@ -114,7 +111,7 @@ weaker g P M t u room old new lines moves w f up l = record {
 -- ---- kinds
 
 -- two nodes of one head are sequences together, and mappings together
-pub both-sequences : (g : Graph) (i j : ℕ) (n m : Node) (xs : Vec NodeId Global) → slice_get (nodes_of g) i ≡ Some n → slice_get (nodes_of g) j ≡ Some m → head (tree g i) ≡ head (tree g j) → n.kind ≡ kinds.Sequence xs → (ys : Vec NodeId Global) × (m.kind ≡ kinds.Sequence ys)
+pub both-sequences : (g : Forests) (i j : ℕ) (n m : Node) (xs : Vec NodeId Global) → slice_get (nodes_of g) i ≡ Some n → slice_get (nodes_of g) j ≡ Some m → head (tree g i) ≡ head (tree g j) → n.kind ≡ kinds.Sequence xs → (ys : Vec NodeId Global) × (m.kind ≡ kinds.Sequence ys)
 both-sequences g i j n m xs a b h k = by m.kind refl (sym (ap (λ z. head (kind_tree (graph_trees g) (cow_str_bytes n.tag) z)) k) ∙ sym (head-there g i n a) ∙ h ∙ head-there g j m b)
   where
     by : (z : NodeKind) → m.kind ≡ z → head (kind_tree (graph_trees g) (cow_str_bytes n.tag) (kinds.Sequence xs)) ≡ head (node_tree (graph_trees g) m) → (ys : Vec NodeId Global) × (m.kind ≡ kinds.Sequence ys)
@@ -122,7 +119,7 @@ both-sequences g i j n m xs a b h k = by m.kind refl (sym (ap (λ z. head (kind_
     by (kinds.Scalar ys) e q = let z = q ∙ ap (λ y. head (kind_tree (graph_trees g) (cow_str_bytes m.tag) y)) e in absurd (cc)
     by (kinds.Mapping ys) e q = let z = q ∙ ap (λ y. head (kind_tree (graph_trees g) (cow_str_bytes m.tag) y)) e in absurd (cc)
 
-pub both-mappings : (g : Graph) (i j : ℕ) (n m : Node) (xs : Vec (NodeId × NodeId) Global) → slice_get (nodes_of g) i ≡ Some n → slice_get (nodes_of g) j ≡ Some m → head (tree g i) ≡ head (tree g j) → n.kind ≡ kinds.Mapping xs → (ys : Vec (NodeId × NodeId) Global) × (m.kind ≡ kinds.Mapping ys)
+pub both-mappings : (g : Forests) (i j : ℕ) (n m : Node) (xs : Vec (NodeId × NodeId) Global) → slice_get (nodes_of g) i ≡ Some n → slice_get (nodes_of g) j ≡ Some m → head (tree g i) ≡ head (tree g j) → n.kind ≡ kinds.Mapping xs → (ys : Vec (NodeId × NodeId) Global) × (m.kind ≡ kinds.Mapping ys)
 both-mappings g i j n m xs a b h k = by m.kind refl (sym (ap (λ z. head (kind_tree (graph_trees g) (cow_str_bytes n.tag) z)) k) ∙ sym (head-there g i n a) ∙ h ∙ head-there g j m b)
   where
     by : (z : NodeKind) → m.kind ≡ z → head (kind_tree (graph_trees g) (cow_str_bytes n.tag) (kinds.Mapping xs)) ≡ head (node_tree (graph_trees g) m) → (ys : Vec (NodeId × NodeId) Global) × (m.kind ≡ kinds.Mapping ys)
@@ -162,13 +159,13 @@ size-top items o None e = omega arith
 size-top items None (Some i) e = absurd (cc)
 size-top items (Some k) (Some i) e = top-most items k i (sym e)
 
-pub item-within : (g : Graph) (items : List NodeId) (o : Option ℕ) (result : Option NodeId) → AllWithin g items → result ≡ item_of items o → Within g result
+pub item-within : (g : Forests) (items : List NodeId) (o : Option ℕ) (result : Option NodeId) → AllWithin g items → result ≡ item_of items o → Within g result
 item-within g items o None w e = tt
 item-within g items None (Some i) w e = absurd (cc)
 item-within g items (Some k) (Some i) w e = w k i (sym e)
 
 -- the items of a node stand below it
-pub items-below : (g : Graph) (i : ℕ) (items : List NodeId) → HasItems g i items → (k : ℕ) (x : NodeId) → slice_get items k ≡ Some x → x.0 < i
+pub items-below : (g : Forests) (i : ℕ) (items : List NodeId) → HasItems g i items → (k : ℕ) (x : NodeId) → slice_get items k ≡ Some x → x.0 < i
 items-below g i items h k x e =
     let b = (g.grounded i h.node h.is).0 in
     at-place (λ p. p.0 < i) h.list.items k x (subst (λ z. slice_get z k ≡ Some x) h.listed e) (subst (λ z. Rattle.std.specs.List.All (λ p. p.0 < i) (items_of z)) h.kind b)
@@ -178,17 +175,17 @@ items-below g i items h k x e =
     at-place P (y ∷ xs) zero x e a = let q : y ≡ x = cc in subst P q (a 0 y (omega arith))
     at-place P (y ∷ xs) (suc k) x e a = at-place P xs k x e (λ j d l. a (suc j) d (omega arith))
 
-pub all-within : (g : Graph) (i : ℕ) (items : List NodeId) → HasItems g i items → AllWithin g items
+pub all-within : (g : Forests) (i : ℕ) (items : List NodeId) → HasItems g i items → AllWithin g items
 all-within g i items h k x e = let a = items-below g i items h k x e in let b = slice_get_within (nodes_of g) i h.node h.is in omega (arith, a, b)
 
-pub top-below : (g : Graph) (i : ℕ) (items : List NodeId) → HasItems g i items → top items ≤ i
+pub top-below : (g : Forests) (i : ℕ) (items : List NodeId) → HasItems g i items → top items ≤ i
 top-below g i items h = top-least items i (items-below g i items h)
 
-pub all-ranked : (g : Graph) (r : Ranks) → RanksAre g r → (items : List NodeId) → AllWithin g items → AllRanked r items
+pub all-ranked : (g : Forests) → IsRanked g → (items : List NodeId) → AllWithin g items → AllWithin r items
 all-ranked g r are items w k i e = let a = w k i e in let b = are.long in omega (arith, a, b)
 
 -- what was found of their items is found of two nodes
-pub items-found : (g : Graph) (i j room : ℕ) (lefts rights : List NodeId) (f : Found) → HasItems g i lefts → HasItems g j rights → head (tree g i) ≡ head (tree g j) → FindsItems g lefts rights room f → Finds g (Some (tree g i)) (Some (tree g j)) room f
+pub items-found : (g : Forests) (i j room : ℕ) (lefts rights : List NodeId) (f : Found) → HasItems g i lefts → HasItems g j rights → head (tree g i) ≡ head (tree g j) → FindsItems g lefts rights room f → Finds g (Some (tree g i)) (Some (tree g j)) room f
 items-found g i j room lefts rights f hl hr h m =
     let x = items-tree g i lefts hl in
     let y = items-tree g j rights hr in
@@ -198,7 +195,7 @@ items-found g i j room lefts rights f hl hr h m =
     tag-is : {a b : List ℕ} → plain.sequence_head a ≡ plain.sequence_head b → a ≡ b
     tag-is e = cc
 
-pub ok-items : (g : Graph) (i j room : ℕ) (lefts rights : List NodeId) (answer : Result Found AllocError) → HasItems g i lefts → HasItems g j rights → head (tree g i) ≡ head (tree g j) → IfOk answer (FindsItems g lefts rights room) → IfOk answer (Finds g (Some (tree g i)) (Some (tree g j)) room)
+pub ok-items : (g : Forests) (i j room : ℕ) (lefts rights : List NodeId) (answer : Result Found AllocError) → HasItems g i lefts → HasItems g j rights → head (tree g i) ≡ head (tree g j) → IfOk answer (FindsItems g lefts rights room) → IfOk answer (Finds g (Some (tree g i)) (Some (tree g j)) room)
 ok-items g i j room lefts rights (Ok f) hl hr h m = items-found g i j room lefts rights f hl hr h m
 ok-items g i j room lefts rights (Err e) hl hr h m = tt
 
@@ -213,22 +210,22 @@ split (suc k) (suc n) l = elim (split k n (omega arith)) [ inl a ↦ inl (omega 
 some-is : {X : Type 0} {x y : X} → Some x ≡ Some y → x ≡ y
 some-is e = cc
 
-pub within-there : (g : Graph) (i : ℕ) (entries : Entries) → HasEntries g i entries → i < length (nodes_of g)
+pub within-there : (g : Forests) (i : ℕ) (entries : Entries) → HasEntries g i entries → i < count g
 within-there g i entries h = slice_get_within (nodes_of g) i h.node h.is
 
-pub within-items : (g : Graph) (i : ℕ) (items : List NodeId) → HasItems g i items → i < length (nodes_of g)
+pub within-items : (g : Forests) (i : ℕ) (items : List NodeId) → HasItems g i items → i < count g
 within-items g i items h = slice_get_within (nodes_of g) i h.node h.is
 
 -- what `value_of` says of a mapping
-pub valued : (g : Graph) (r : Ranks) (i rank : ℕ) (entries : Entries) (result : Option NodeId) → HasEntries g i entries → ((n : Node) → slice_get (nodes_of g) i ≡ Some n → IsValueOf r (entries_of n.kind) rank result) → IsValueOf r entries rank result
+pub valued : (g : Forests) (i rank : ℕ) (entries : Entries) (result : Option NodeId) → HasEntries g i entries → ((n : Node) → slice_get (nodes_of g) i ≡ Some n → IsValueOf r (entries_of n.kind) rank result) → IsValueOf r entries rank result
 valued g r i rank entries result h f = subst (λ z. IsValueOf r z rank result) (ap entries_of h.kind ∙ sym h.listed) (f h.node h.is)
 
-pub size-within : (g : Graph) (o : Option NodeId) (j : ℕ) → size o ≤ j → j < length (nodes_of g) → Within g o
+pub size-within : (g : Forests) (o : Option NodeId) (j : ℕ) → size o ≤ j → j < count g → Within g o
 size-within g None j a b = tt
 size-within g (Some i) j a b = omega arith
 
-module _ (g : Graph) (r : Ranks) (are : RanksAre g r) where
-  pub equal-found : (i j room : ℕ) (f : Found) → i < length (nodes_of g) → j < length (nodes_of g) → rank_of r i ≡ rank_of r j → lines_of f ≡ [] → moves_of f ≡ [] → f.whole ≡ true → Finds g (Some (tree g i)) (Some (tree g j)) room f
+module _ (g : Forests) (are : IsRanked g) where
+  pub equal-found : (i j room : ℕ) (f : Found) → i < count g → j < count g → rank r i ≡ rank r j → lines_of f ≡ [] → moves_of f ≡ [] → f.whole ≡ true → Finds g (Some (tree g i)) (Some (tree g j)) room f
   equal-found i j room f a b h x m y =
       let t = Some (tree g i) in
       let u = Some (tree g j) in
@@ -240,7 +237,7 @@ module _ (g : Graph) (r : Ranks) (are : RanksAre g r) where
       let u = Some (tree g j) in
       (turn t u, calm, lists-none g t u room (lines_of f) (moves_of f) f.whole x m y (bare-nowhere (tree g i) (tree g j) (cow_str_bytes n.tag) (cow_str_bytes content) (turn t u) (head-there g i n e ∙ ap (λ z. head (kind_tree (graph_trees g) (cow_str_bytes n.tag) z)) k) h))
 
-  pub value-size : (j rank : ℕ) (entries : Entries) (result : Option NodeId) → HasEntries g j entries → j < length (nodes_of g) → IsValueOf r entries rank result → size result ≤ j
+  pub value-size : (j rank : ℕ) (entries : Entries) (result : Option NodeId) → HasEntries g j entries → j < count g → IsValueOf r entries rank result → size result ≤ j
   value-size j rank entries None h l w = omega arith
   value-size j rank entries (Some v) h l w = let b = entry-within g r are j entries h l w.0 w.1 w.2 in let q : w.1.1.0 ≡ v.0 = ap (λ z. z.0) w.4 in omega (arith, b.1, q)
 
@@ -271,7 +268,7 @@ module _ (g : Graph) (r : Ranks) (are : RanksAre g r) where
       none (at_key x) c = absurd (omega (arith, c.2))
 
   pub entries-next : (i j at room : ℕ) (lefts rights : Entries) (p : NodeId × NodeId) (other : Option NodeId) (lines more all : List Line) (moves more_moves all_moves : List MoveLine) (w v b : Bool) → HasEntries g i lefts → HasEntries g j rights → head (tree g i) ≡ head (tree g j)
-      → slice_get lefts at ≡ Some p → IsValueOf r rights (rank_of r p.0.0) other → ((P M : Pairing) × ListsSome g P M (Some (tree g i)) (Some (tree g j)) room (EntriesBelow g at lefts) lines moves w)
+      → slice_get lefts at ≡ Some p → IsValueOf r rights (rank r p.0.0) other → ((P M : Pairing) × ListsSome g P M (Some (tree g i)) (Some (tree g j)) room (EntriesBelow g at lefts) lines moves w)
       → ((Q N : Pairing) × Lists g Q N (Some (tree g p.1.0)) (trees_of g other) (room - (length lines + length moves)) more more_moves v) → all ≡ lines ++ map (under (Value p.0)) more → all_moves ≡ moves ++ map (moved_under (Value p.0)) more_moves → b ≡ (w && v)
       → (P M : Pairing) × ListsSome g P M (Some (tree g i)) (Some (tree g j)) room (EntriesBelow g (at + 1) lefts) all all_moves b
   entries-next i j at room lefts rights p other lines more all moves more_moves all_moves w v b hl hr h e k o m ea ma eb =
@@ -307,7 +304,7 @@ module _ (g : Graph) (r : Ranks) (are : RanksAre g r) where
           (f.0, f.1, omega arith, f.2, same_sym x (tree g f.1.0.0) f.3)
 
   -- a tree with the head of a mapping is one
-  pub mapping-like : (i j : ℕ) (rights : Entries) → i < length (nodes_of g) → HasEntries g j rights → head (tree g i) ≡ head (tree g j) → (lefts : Entries) × HasEntries g i lefts
+  pub mapping-like : (i j : ℕ) (rights : Entries) → i < count g → HasEntries g j rights → head (tree g i) ≡ head (tree g j) → (lefts : Entries) × HasEntries g i lefts
   mapping-like i j rights l h e =
       let n = node-there g r are i l in
       by n.0.kind refl (sym (head-there g i n.0 n.1) ∙ e ∙ head-there g j h.node h.is ∙ ap (λ z. head (kind_tree (graph_trees g) (cow_str_bytes h.node.tag) z)) h.kind)
@@ -344,7 +341,7 @@ module _ (g : Graph) (r : Ranks) (are : RanksAre g r) where
   rights-fresh i j at rights p h e n s (inr c) a = keys-fresh j at rights p h e s c a
 
   pub rights-next : (i j at room : ℕ) (lefts rights : Entries) (p : NodeId × NodeId) (lines more all : List Line) (moves more_moves all_moves : List MoveLine) (w v b : Bool) → HasEntries g i lefts → HasEntries g j rights → head (tree g i) ≡ head (tree g j)
-      → slice_get rights at ≡ Some p → IsValueOf r lefts (rank_of r p.0.0) None → ((P M : Pairing) × ListsSome g P M (Some (tree g i)) (Some (tree g j)) room (RightCovers g i at rights) lines moves w)
+      → slice_get rights at ≡ Some p → IsValueOf r lefts (rank r p.0.0) None → ((P M : Pairing) × ListsSome g P M (Some (tree g i)) (Some (tree g j)) room (RightCovers g i at rights) lines moves w)
       → ((Q N : Pairing) × Lists g Q N None (Some (tree g p.1.0)) (room - (length lines + length moves)) more more_moves v) → all ≡ lines ++ map (under (Value p.0)) more → all_moves ≡ moves ++ map (moved_under (Value p.0)) more_moves → b ≡ (w && v)
       → (P M : Pairing) × ListsSome g P M (Some (tree g i)) (Some (tree g j)) room (RightCovers g i (at + 1) rights) all all_moves b
   rights-next i j at room lefts rights p lines more all moves more_moves all_moves w v b hl hr h e k o m ea ma eb =
@@ -365,7 +362,7 @@ module _ (g : Graph) (r : Ranks) (are : RanksAre g r) where
       (put P s Q, put M s N, add-some g P Q M N t u room (RightCovers g i at rights) (RightCovers g i (at + 1) rights) lines more all moves more_moves all_moves w v b (Value p.0) (ap Some h) tt (no-ends g i j lefts rights hl hr (P [])) o.2 x ea ma eb (rights-split i at rights p e) (rights-up i at rights) (inr (at, p, omega arith, e, same_refl (tree g p.0.0))) (rights-fresh i j at rights p hr e left) (right-key-before g r are i j at lefts rights p hl hr e left (P [])))
 
   -- nothing is added for a key that the left side has
-  pub rights-skip : (i j at room : ℕ) (lefts rights : Entries) (p : NodeId × NodeId) (value : NodeId) (lines : List Line) (moves : List MoveLine) (w : Bool) → HasEntries g i lefts → HasEntries g j rights → slice_get rights at ≡ Some p → IsValueOf r lefts (rank_of r p.0.0) (Some value)
+  pub rights-skip : (i j at room : ℕ) (lefts rights : Entries) (p : NodeId × NodeId) (value : NodeId) (lines : List Line) (moves : List MoveLine) (w : Bool) → HasEntries g i lefts → HasEntries g j rights → slice_get rights at ≡ Some p → IsValueOf r lefts (rank r p.0.0) (Some value)
       → ((P M : Pairing) × ListsSome g P M (Some (tree g i)) (Some (tree g j)) room (RightCovers g i at rights) lines moves w) → (P M : Pairing) × ListsSome g P M (Some (tree g i)) (Some (tree g j)) room (RightCovers g i (at + 1) rights) lines moves w
   rights-skip i j at room lefts rights p value lines moves w hl hr e k o =
       let li = within-there g i lefts hl in

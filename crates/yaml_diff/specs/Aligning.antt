@@ -2,28 +2,24 @@
 use Rattle.std.specs.Prelude.{◌≡◌, ℕ, suc, ◌+◌, ◌-◌, ◌<◌, ◌≤◌, List, ◌++◌, length, Some}
 use Rattle.std.specs.List.{slice_get}
 use Rattle.yaml_tree.specs.declared.node.NodeId.{NodeId}
-use Rattle.yaml_rank.specs.RanksView.{numbers_of}
-use Rattle.yaml_rank.specs.declared.ranks.Ranks.{Ranks}
+use Rattle.yaml_store_rank.specs.Forests.{Forests}
 use Rattle.yaml_path.specs.Ways.{left_place, right_place, places_by, numbers}
 use Rattle.yaml_path.specs.declared.places.Places.{Places}
 use Rattle.yaml_diff.specs.Found.{SameRanks}
 
-abbrev pub AllRanked : Ranks → List NodeId → Type 0
-AllRanked r items = (k : ℕ) (i : NodeId) → slice_get items k ≡ Some i → i.0 < length (numbers_of r)
-
 -- so many items have the same ranks from the front on, and no more
-pub record IsFront (r : Ranks) (lefts rights : List NodeId) (front : ℕ) : Type 0 where
+pub record IsFront (g : Forests) (lefts rights : List NodeId) (front : ℕ) : Type 0 where
   pub left : front ≤ length lefts
   pub right : front ≤ length rights
-  pub same : (i : ℕ) → i < front → SameRanks r lefts rights i i
-  pub ends : SameRanks r lefts rights front front → ⊥
+  pub same : (i : ℕ) → i < front → SameRanks g lefts rights i i
+  pub ends : SameRanks g lefts rights front front → ⊥
 
 -- so many items behind the front have the same ranks from the back on, and no more
-pub record IsBack (r : Ranks) (lefts rights : List NodeId) (front back : ℕ) : Type 0 where
+pub record IsBack (g : Forests) (lefts rights : List NodeId) (front back : ℕ) : Type 0 where
   pub left : front + back ≤ length lefts
   pub right : front + back ≤ length rights
-  pub same : (i j k : ℕ) → i < back → i + suc j ≡ length lefts → i + suc k ≡ length rights → SameRanks r lefts rights j k
-  pub ends : (j k : ℕ) → back + suc j ≡ length lefts → back + suc k ≡ length rights → front ≤ j → front ≤ k → SameRanks r lefts rights j k → ⊥
+  pub same : (i j k : ℕ) → i < back → i + suc j ≡ length lefts → i + suc k ≡ length rights → SameRanks g lefts rights j k
+  pub ends : (j k : ℕ) → back + suc j ≡ length lefts → back + suc k ≡ length rights → front ≤ j → front ≤ k → SameRanks g lefts rights j k → ⊥
 
 -- the list goes on by places from these to those, each once and in the order of both sides
 pub record AlignsFrom (old : List Places) (j k n m : ℕ) (new : List Places) : Type 0 where
@@ -33,5 +29,5 @@ pub record AlignsFrom (old : List Places) (j k n m : ℕ) (new : List Places) : 
   pub right : places_by right_place more ≡ numbers k (m - k)
 
 -- places of items that have the same rank
-abbrev pub AllSameRanks : Ranks → List NodeId → List NodeId → List (ℕ × ℕ) → Type 0
-AllSameRanks r lefts rights anchors = (n : ℕ) (p : ℕ × ℕ) → slice_get anchors n ≡ Some p → SameRanks r lefts rights p.0 p.1
+abbrev pub AllSameRanks : Forests → List NodeId → List NodeId → List (ℕ × ℕ) → Type 0
+AllSameRanks g lefts rights anchors = (n : ℕ) (p : ℕ × ℕ) → slice_get anchors n ≡ Some p → SameRanks g lefts rights p.0 p.1

@@ -1,12 +1,10 @@
--- The differences and moves of two trees of a graph, listed together.
+-- The differences and moves of two trees of ranked forests, listed together.
 use Rattle.std.specs.Prelude.{◌≡◌, ◌⊎◌, ℕ, ◌+◌, ◌<◌, ◌≤◌, Bool, true, false, List, ◌∷◌, length, Option, Some}
 use Rattle.std.specs.List.{slice_get}
 use Rattle.yaml_definitions.specs.model.Tree.{Tree}
 use Rattle.yaml_definitions.specs.model.Same.{Same}
-use Rattle.yaml_graph.specs.GraphModel.{Entries}
-use Rattle.yaml_graph.specs.GraphView.{tree}
+use Rattle.yaml_store_rank.specs.Forests.{Forests, tree}
 use Rattle.yaml_tree.specs.declared.node.NodeId.{NodeId}
-use Rattle.yaml_graph.specs.declared.graph.Graph.{Graph}
 use Rattle.yaml_path.specs.Path.{part}
 use Rattle.yaml_path.specs.Path as plain
 use Rattle.yaml_path.specs.Ways.{Way, Pairing, PairsAll, Differs, at_places, at_key}
@@ -15,8 +13,12 @@ use Rattle.yaml_path.specs.declared.places.Places.{Places}
 use Rattle.yaml_diff.specs.Lines.{Line, IsTold, Listed, Apart, Ordered, Begins, tree_of, way_of}
 use Rattle.yaml_diff.specs.Moves.{MoveLine, ListsMoves, ListsSomeMoves}
 
+-- the entries of a mapping, by the numbers of keys and values
+abbrev pub Entries : Type 0
+Entries = List (NodeId × NodeId)
+
 -- Under a one-to-one pairing, of which some pairs have moved, at most so many differences in their order and moves, and all of them if they are told to be whole.
-pub record Lists (g : Graph) (P M : Pairing) (t u : Option Tree) (room : ℕ) (lines : List Line) (moves : List MoveLine) (is_whole : Bool) : Type 0 where
+pub record Lists (g : Forests) (P M : Pairing) (t u : Option Tree) (room : ℕ) (lines : List Line) (moves : List MoveLine) (is_whole : Bool) : Type 0 where
   pub pairs : PairsAll P t u
   pub each : (k : ℕ) (d : Line) → slice_get lines k ≡ Some d → IsTold g P t u d
   pub few : length lines + length moves ≤ room
@@ -27,7 +29,7 @@ pub record Lists (g : Graph) (P M : Pairing) (t u : Option Tree) (room : ℕ) (l
   pub moved : ListsMoves g P M t u moves is_whole
 
 -- the same, as far as such first steps go
-pub record ListsSome (g : Graph) (P M : Pairing) (t u : Option Tree) (room : ℕ) (covers : ways.Step → Type 0) (lines : List Line) (moves : List MoveLine) (is_whole : Bool) : Type 0 where
+pub record ListsSome (g : Forests) (P M : Pairing) (t u : Option Tree) (room : ℕ) (covers : ways.Step → Type 0) (lines : List Line) (moves : List MoveLine) (is_whole : Bool) : Type 0 where
   pub pairs : PairsAll P t u
   pub each : (k : ℕ) (d : Line) → slice_get lines k ≡ Some d → IsTold g P t u d
   pub few : length lines + length moves ≤ room
@@ -39,12 +41,12 @@ pub record ListsSome (g : Graph) (P M : Pairing) (t u : Option Tree) (room : ℕ
   pub moved : ListsSomeMoves g P M t u covers moves is_whole
 
 -- the value of a left key, or its want on the right
-abbrev pub LeftCovers : Graph → ℕ → ways.Step → Type 0
+abbrev pub LeftCovers : Forests → ℕ → ways.Step → Type 0
 LeftCovers g left (at_places p) = ⊥
 LeftCovers g left (at_key x) = (v : Tree) × (part (tree g left) (plain.at_key x) ≡ Some v)
 
 -- the differences of two trees but for parts that only the right one has
-abbrev pub LeftEntries : Graph → ℕ → ℕ → ℕ → List Line → List MoveLine → Bool → Type 0
+abbrev pub LeftEntries : Forests → ℕ → ℕ → ℕ → List Line → List MoveLine → Bool → Type 0
 LeftEntries g left right room lines moves is_whole = (P M : Pairing) × ListsSome g P M (Some (tree g left)) (Some (tree g right)) room (LeftCovers g left) lines moves is_whole
 
 -- the first so many steps of a pairing
@@ -53,10 +55,10 @@ PlacesBelow n ps (at_places p) = (k : ℕ) × (k < n) × (slice_get ps k ≡ Som
 PlacesBelow n ps (at_key x) = ⊥
 
 -- the keys of the entries before a place
-abbrev pub EntriesBelow : Graph → ℕ → Entries → ways.Step → Type 0
+abbrev pub EntriesBelow : Forests → ℕ → Entries → ways.Step → Type 0
 EntriesBelow g n entries (at_places p) = ⊥
 EntriesBelow g n entries (at_key x) = (k : ℕ) × (p : NodeId × NodeId) × (k < n) × (slice_get entries k ≡ Some p) × Same (tree_of g p.0) x
 
 -- the parts that the left tree has, and those of the keys of the entries before a place
-abbrev pub RightCovers : Graph → ℕ → ℕ → Entries → ways.Step → Type 0
+abbrev pub RightCovers : Forests → ℕ → ℕ → Entries → ways.Step → Type 0
 RightCovers g left n entries s = LeftCovers g left s ⊎ EntriesBelow g n entries s

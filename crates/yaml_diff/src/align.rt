@@ -1,18 +1,16 @@
 //! Which items of two sequences are taken for each other.
 ghost use Rattle.std.specs.Prelude.{◌≡◌, ◌≤◌, ◌-◌, ◌++◌, [], true, IfOk, IfSome, OnOk};
 ghost use Rattle.yaml_path.specs.Ways.{turns};
-ghost use Rattle.yaml_rank.specs.RanksView.{numbers_of, RanksAre};
-ghost use Rattle.yaml_diff.specs.Found.{Aligns};
-ghost use Rattle.yaml_diff.specs.Aligning.{AllRanked, IsFront, IsBack, AlignsFrom};
+ghost use Rattle.yaml_diff.specs.Found.{AllWithin, Aligns};
+ghost use Rattle.yaml_diff.specs.Aligning.{IsFront, IsBack, AlignsFrom};
 ghost use Rattle.yaml_diff.specs.Looks.{places_in, moved_in, IsRight, Checked};
 
 use crate::anchors::anchors;
 use crate::look::{Step, are_right, moved_of, places_of};
 use std::alloc::{AllocError, Global};
-use yaml_graph::graph::Graph;
-use yaml_pair::{Asked, middle};
+use yaml_pair::{Asked, pair_items};
 use yaml_path::places::Places;
-use yaml_rank::ranks::Ranks;
+use yaml_store_rank::RankedForests;
 use yaml_tree::node::NodeId;
 
 /// How the items of two sequences are taken for each other: steps with a place of both or of one, and the pairs among them that moved.
@@ -23,15 +21,15 @@ pub(crate) struct Aligned {
 }
 
 /// How many items are the same from the front on.
-fn equal_front(ranks: &Ranks, lefts: &[NodeId], rights: &[NodeId]) -> usize
-    requires left { AllRanked ranks.now lefts.now }
-    requires right { AllRanked ranks.now rights.now }
-    ensures { IsFront ranks.now lefts.now rights.now result }
+fn equal_front(forests: &RankedForests<'_>, lefts: &[NodeId], rights: &[NodeId]) -> usize
+    requires left { AllWithin forests.now lefts.now }
+    requires right { AllWithin forests.now rights.now }
+    ensures { IsFront forests.now lefts.now rights.now result }
 {
     let mut front = 0;
     while front < lefts.len()
         && front < rights.len()
-        && ranks.of(lefts[front]) == ranks.of(rights[front])
+        && forests.rank(lefts[front]) == forests.rank(rights[front])
     {
         front += 1;
     }
@@ -39,17 +37,17 @@ fn equal_front(ranks: &Ranks, lefts: &[NodeId], rights: &[NodeId]) -> usize
 }
 
 /// How many items behind that front are the same from the back on.
-fn equal_back(ranks: &Ranks, lefts: &[NodeId], rights: &[NodeId], front: usize) -> usize
-    requires left { AllRanked ranks.now lefts.now }
-    requires right { AllRanked ranks.now rights.now }
-    requires front { IsFront ranks.now lefts.now rights.now front }
-    ensures { IsBack ranks.now lefts.now rights.now front result }
+fn equal_back(forests: &RankedForests<'_>, lefts: &[NodeId], rights: &[NodeId], front: usize) -> usize
+    requires left { AllWithin forests.now lefts.now }
+    requires right { AllWithin forests.now rights.now }
+    requires front { IsFront forests.now lefts.now rights.now front }
+    ensures { IsBack forests.now lefts.now rights.now front result }
 {
     let mut left = lefts.len();
     let mut right = rights.len();
     while left > front
         && right > front
-        && ranks.of(lefts[left - 1]) == ranks.of(rights[right - 1])
+        && forests.rank(lefts[left - 1]) == forests.rank(rights[right - 1])
     {
         left -= 1;
         right -= 1;
@@ -114,19 +112,19 @@ fn take_anchors(
 #[tactic(auto, using(crate::proofs::AlignLaws::aligned))]
 fn in_turn(
     alloc: Global,
-    ranks: &Ranks,
+    forests: &RankedForests<'_>,
     lefts: &[NodeId],
     rights: &[NodeId],
 ) -> Result<Aligned, AllocError>
-    requires left { AllRanked ranks.now lefts.now }
-    requires right { AllRanked ranks.now rights.now }
-    ensures ok { IfOk result (λ it. Aligns ranks.now lefts.now rights.now it.list.items it.moved.items) }
+    requires left { AllWithin forests.now lefts.now }
+    requires right { AllWithin forests.now rights.now }
+    ensures ok { IfOk result (λ it. Aligns forests.now lefts.now rights.now it.list.items it.moved.items) }
     ensures calm { IfOk result (λ it. it.moved.items ≡ []) }
 {
-    let front = equal_front(ranks, lefts, rights);
-    let back = equal_back(ranks, lefts, rights, front);
+    let front = equal_front(forests, lefts, rights);
+    let back = equal_back(forests, lefts, rights, front);
     let ends = (lefts.len() - back, rights.len() - back);
-    let anchors = anchors(alloc, ranks, lefts, rights, front, back)?;
+    let anchors = anchors(alloc, forests, lefts, rights, front, back)?;
     let mut list = Vec::new(alloc);
     take_turns(&mut list, (0, 0), (front, front))?;
     take_anchors(&mut list, &anchors, (front, front), ends)?;
@@ -187,25 +185,23 @@ fn checked(
 
 /// Takes the items of two sequences for each other: equal ends, and between them those that belong together by their names or by what
 /// they have in common. What was put together is looked at.
-fn crossing<'g>(
+fn crossing(
     alloc: Global,
-    graph: &'g Graph<'g>,
-    ranks: &'g Ranks,
+    forests: &RankedForests<'_>,
     lefts: &[NodeId],
     rights: &[NodeId],
     asked: Asked<'_>,
     documents: bool,
 ) -> Result<Option<Aligned>, AllocError>
-    requires ranked { RanksAre graph.now ranks.now }
-    requires left { AllRanked ranks.now lefts.now }
-    requires right { AllRanked ranks.now rights.now }
-    ensures ok { IfOk result (λ it. IfSome it (λ a. Aligns ranks.now lefts.now rights.now a.list.items a.moved.items)) }
+    requires left { AllWithin forests.now lefts.now }
+    requires right { AllWithin forests.now rights.now }
+    ensures ok { IfOk result (λ it. IfSome it (λ a. Aligns forests.now lefts.now rights.now a.list.items a.moved.items)) }
 {
-    let front = equal_front(ranks, lefts, rights);
-    let back = equal_back(ranks, lefts, rights, front);
+    let front = equal_front(forests, lefts, rights);
+    let back = equal_back(forests, lefts, rights, front);
     let ends = (lefts.len() - back, rights.len() - back);
     let between = (&lefts[front..ends.0], &rights[front..ends.1]);
-    let middle = middle(alloc, graph, ranks, between, front, asked, documents)?;
+    let middle = pair_items(alloc, forests, between, front, asked, documents)?;
     let mut steps = Vec::new(alloc);
     put_pairs(&mut steps, (0, 0), (front, front))?;
     put_steps(&mut steps, &middle)?;
@@ -220,26 +216,24 @@ fn are_lone(documents: bool, lefts: &[NodeId], rights: &[NodeId]) -> bool {
 
 /// Takes the items of two sequences for each other, as is asked.
 #[inline(never)] // stack
-pub(crate) fn align<'g>(
+pub(crate) fn align(
     alloc: Global,
-    graph: &'g Graph<'g>,
-    ranks: &'g Ranks,
+    forests: &RankedForests<'_>,
     lefts: &[NodeId],
     rights: &[NodeId],
     asked: Asked<'_>,
     documents: bool,
 ) -> Result<Aligned, AllocError>
-    requires ranked { RanksAre graph.now ranks.now }
-    requires left { AllRanked ranks.now lefts.now }
-    requires right { AllRanked ranks.now rights.now }
-    ensures ok { IfOk result (λ it. Aligns ranks.now lefts.now rights.now it.list.items it.moved.items) }
+    requires left { AllWithin forests.now lefts.now }
+    requires right { AllWithin forests.now rights.now }
+    ensures ok { IfOk result (λ it. Aligns forests.now lefts.now rights.now it.list.items it.moved.items) }
     ensures calm { asked.entry.by_position ≡ true → IfOk result (λ it. it.moved.items ≡ []) }
 {
     if asked.by_position || are_lone(documents, lefts, rights) {
-        return in_turn(alloc, ranks, lefts, rights);
+        return in_turn(alloc, forests, lefts, rights);
     }
-    match crossing(alloc, graph, ranks, lefts, rights, asked, documents)? {
+    match crossing(alloc, forests, lefts, rights, asked, documents)? {
         Some(aligned) => Ok(aligned),
-        None => in_turn(alloc, ranks, lefts, rights),
+        None => in_turn(alloc, forests, lefts, rights),
     }
 }

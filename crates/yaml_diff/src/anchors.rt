@@ -1,25 +1,26 @@
 //! Items that stand once in each of two sequences, as far as their places rise on both sides.
 ghost use Rattle.std.specs.Prelude.{◌≡◌, ◌≤◌, length, IfOk};
-ghost use Rattle.yaml_diff.specs.Aligning.{AllRanked, AllSameRanks};
+ghost use Rattle.yaml_diff.specs.Aligning.{AllSameRanks};
+ghost use Rattle.yaml_diff.specs.Found.{AllWithin};
 
 use std::alloc::{AllocError, Global};
-use yaml_rank::ranks::Ranks;
+use yaml_store_rank::RankedForests;
 use yaml_tree::node::NodeId;
 
 /// The ranks that items have once, from the front to the back, each with the place of its item.
 fn lone_ranks(
     alloc: Global,
-    ranks: &Ranks,
+    forests: &RankedForests<'_>,
     items: &[NodeId],
     front: usize,
     back: usize,
-) -> Result<Vec<(usize, usize)>, AllocError>
-    requires { AllRanked ranks.now items.now }
+) -> Result<Vec<(u32, usize)>, AllocError>
+    requires { AllWithin forests.now items.now }
 {
     let mut all = Vec::new(alloc);
     for (place, item) in items.iter().enumerate() {
         if front <= place && place < items.len().saturating_sub(back) {
-            all.push((ranks.of(*item), place))?;
+            all.push((forests.rank(*item), place))?;
         }
     }
     all.sort()?;
@@ -38,8 +39,8 @@ fn lone_ranks(
 /// The places of the ranks that stand in both lists, which rise, in the order of the left places.
 fn shared(
     alloc: Global,
-    lefts: &[(usize, usize)],
-    rights: &[(usize, usize)],
+    lefts: &[(u32, usize)],
+    rights: &[(u32, usize)],
 ) -> Result<Vec<(usize, usize)>, AllocError> {
     let mut pairs = Vec::new(alloc);
     let mut next = 0;
@@ -114,17 +115,17 @@ fn longest_rising(
 /// The places of items between equal ends that stand once there on either side, as many as rise on both.
 pub(crate) fn anchors(
     alloc: Global,
-    ranks: &Ranks,
+    forests: &RankedForests<'_>,
     lefts: &[NodeId],
     rights: &[NodeId],
     front: usize,
     back: usize,
 ) -> Result<Vec<(usize, usize)>, AllocError>
-    requires left { AllRanked ranks.now lefts.now }
-    requires right { AllRanked ranks.now rights.now }
+    requires left { AllWithin forests.now lefts.now }
+    requires right { AllWithin forests.now rights.now }
 {
-    let left = lone_ranks(alloc, ranks, lefts, front, back)?;
-    let right = lone_ranks(alloc, ranks, rights, front, back)?;
+    let left = lone_ranks(alloc, forests, lefts, front, back)?;
+    let right = lone_ranks(alloc, forests, rights, front, back)?;
     let pairs = shared(alloc, &left, &right)?;
     longest_rising(alloc, &pairs)
 }

@@ -5,7 +5,7 @@ use Rattle.yaml_diff.proofs.align.equal_back.Goals.{then-loop-left-test+then-rig
 
 pub loop-left-preserved : goal.loop-left-preserved
 loop-left-preserved c =
-    let r = c.args.ranks.now in
+    let r = c.args.forests.now in
     let xs = c.args.lefts.now in
     let ys = c.args.rights.now in
     let i = c.loop-left.invariant in
@@ -23,7 +23,7 @@ loop-left-preserved c =
 
 pub returns : goal.returns
 returns c =
-    let r = c.args.ranks.now in
+    let r = c.args.forests.now in
     let xs = c.args.lefts.now in
     let ys = c.args.rights.now in
     let i = c.loop-left.invariant in

@@ -4,7 +4,7 @@ use Rattle.yaml_diff.proofs.align.equal_front.Goals as goal
 
 pub loop-front-preserved : goal.loop-front-preserved
 loop-front-preserved c =
-    let r = c.args.ranks.now in
+    let r = c.args.forests.now in
     let xs = c.args.lefts.now in
     let ys = c.args.rights.now in
     let at = c.loop-front.front in
@@ -13,7 +13,7 @@ loop-front-preserved c =
 
 pub returns-else-of : goal.returns-else-of
 returns-else-of c =
-    let r = c.args.ranks.now in
+    let r = c.args.forests.now in
     let xs = c.args.lefts.now in
     let ys = c.args.rights.now in
     let at = c.loop-front.front in
@@ -23,9 +23,9 @@ returns-else-of c =
 pub returns-else-front-rights : goal.returns-else-front-rights
 returns-else-front-rights c =
     let i = c.loop-front.invariant in
-    record { left = i.left; right = i.right; same = i.same; ends = λ s. absurd (let l = right-within c.args.ranks.now c.args.lefts.now c.args.rights.now c.loop-front.front c.loop-front.front s in omega (arith, l)) }
+    record { left = i.left; right = i.right; same = i.same; ends = λ s. absurd (let l = right-within c.args.forests.now c.args.lefts.now c.args.rights.now c.loop-front.front c.loop-front.front s in omega (arith, l)) }
 
 pub returns-after-loop-front : goal.returns-after-loop-front
 returns-after-loop-front c =
     let i = c.loop-front.invariant in
-    record { left = i.left; right = i.right; same = i.same; ends = λ s. absurd (let l = left-within c.args.ranks.now c.args.lefts.now c.args.rights.now c.loop-front.front c.loop-front.front s in omega (arith, l)) }
+    record { left = i.left; right = i.right; same = i.same; ends = λ s. absurd (let l = left-within c.args.forests.now c.args.lefts.now c.args.rights.now c.loop-front.front c.loop-front.front s in omega (arith, l)) }

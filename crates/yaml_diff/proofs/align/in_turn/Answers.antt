@@ -10,5 +10,5 @@ returns-clause-ok c =
     let ys = c.args.rights.now in
     let front = c.equal_front-front.result in
     let back = c.equal_back-back.result in
-    subst (Aligns c.args.ranks.now xs ys c.take_turns-2.new.list.items) (sym c.new.ensures.items) (aligned c.args.ranks.now xs ys front back (length xs - back) (length ys - back) c.take_turns.new.list.items c.take_anchors.new.list.items c.take_turns-2.new.list.items c.equal_front-front.ensures c.equal_back-back.ensures refl refl
+    subst (Aligns c.args.forests.now xs ys c.take_turns-2.new.list.items) (sym c.new.ensures.items) (aligned c.args.forests.now xs ys front back (length xs - back) (length ys - back) c.take_turns.new.list.items c.take_anchors.new.list.items c.take_turns-2.new.list.items c.equal_front-front.ensures c.equal_back-back.ensures refl refl
     (c.in_ok-take_turns.ensures.ok ∙ ap (λ z. z ++ turns 0 0 (front - 0) (front - 0)) c.new-list.ensures.items) c.in_ok-take_anchors.ensures.ok c.in_ok-take_turns-2.ensures.ok)
