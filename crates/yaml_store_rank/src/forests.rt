@@ -145,7 +145,7 @@ impl<'s> RankedForests<'s> {
         self.entries[start + entry]
     }
 
-    /// The roots of the documents of a stream.
+    /// The roots of the documents of a stream that there is.
     pub fn stream(&self, place: usize) -> &[NodeId]
         requires { place < length self.now.streams }
         ensures { slice_get self.now.streams place ≡ Some (numbers result.now) }

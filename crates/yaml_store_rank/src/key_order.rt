@@ -13,9 +13,6 @@ use yaml_store::no_memory::NoMemory;
 use yaml_store::nodes::{Node, Place, Span};
 use yaml_tree::node::NodeId;
 
-/// How many entries have places of 32 bits.
-const ROOM: usize = 4_294_967_296;
-
 /// The places of the entries of a mapping. Another node has none.
 pub(crate) fn entries_span(node: &Node) -> Option<Span>
     ensures { SpanIs (place_of node.now) result }
@@ -76,7 +73,6 @@ fn order_mapping(
 ) -> Result<(), NoMemory>
     requires long { length order.old ≡ length entries.now }
     requires within { SpanWithin (length entries.now) span }
-    requires few { length entries.now < 4294967296 }
     requires below { All (λ p. p.0 < length ranks.now) (slice_range (number_pairs entries.now) span.start span.end) }
     requires differ { Differ (ranks_of_keys (slice_index ranks.now) (slice_range (number_pairs entries.now) span.start span.end)) }
     ensures { IfOk result (λ _. IsPut span (slice_index ranks.now) (number_pairs entries.now) order.old order.new) }
@@ -96,7 +92,6 @@ fn order_all(
     keys: &mut Vec<(u32, u32)>,
 ) -> Result<(), NoMemory>
     requires long { length order.old ≡ length entries.now }
-    requires few { length entries.now < 4294967296 }
     requires can { CanOrder nodes.now (number_pairs entries.now) ranks.now }
     ensures { IfOk result (λ _. OrderedUpto (length nodes.now) (slice_index ranks.now) (number_pairs entries.now) nodes.now order.new) }
 {
@@ -118,9 +113,6 @@ pub(crate) fn key_order(
     requires { CanOrder nodes.now (number_pairs entries.now) ranks.now }
     ensures { IfOk result (λ order. OrderedUpto (length nodes.now) (slice_index ranks.now) (number_pairs entries.now) nodes.now order.items) }
 {
-    if entries.len() >= ROOM {
-        return Err(NoMemory);
-    }
     let mut order = zeros(alloc, entries.len())?;
     let mut keys = Vec::new(alloc);
     order_all(nodes, entries, ranks, &mut order, &mut keys)?;
