@@ -55,7 +55,7 @@ fn put_source<K: Composer>(
     source: &Chars<'_>,
     ends: &mut Ends,
 ) -> Result<K, Fault>
-    ensures { (bytes : List ℕ) → IsSource bytes source.now → (before : List (List ℕ)) → Reached K.holds before keeper.entry ends.old → IfOk result (λ kept. Reached K.holds (before ++ (bytes ∷ [])) kept ends.new) }
+    ensures { (bytes : List ℕ) → IsSource bytes source.now → (before : List (List ℕ)) → Reached K.holds before keeper ends.old → IfOk result (λ kept. Reached K.holds (before ++ (bytes ∷ [])) kept ends.new) }
 {
     let mut kept = kept_source(alloc, keeper, source)?;
     let documents = kept.count_documents()?;
@@ -71,7 +71,7 @@ fn put_bytes<K: Composer>(
     bytes: &[u8],
     ends: &mut Ends,
 ) -> Result<K, Fault>
-    ensures { (before : List (List ℕ)) → Reached K.holds before keeper.entry ends.old → IfOk result (λ kept. Reached K.holds (before ++ (bytes.now ∷ [])) kept ends.new) }
+    ensures { (before : List (List ℕ)) → Reached K.holds before keeper ends.old → IfOk result (λ kept. Reached K.holds (before ++ (bytes.now ∷ [])) kept ends.new) }
 {
     let source = source_of(bytes)?;
     put_source(alloc, keeper, &source, ends)
@@ -85,7 +85,7 @@ fn put_streams<K: Composer>(
     others: &[&[u8]],
     ends: &mut Ends,
 ) -> Result<K, usize>
-    ensures { (bytes : List ℕ) → IsSource bytes first.now → Reached K.holds [] keeper.entry ends.old → IfOk result (λ kept. Reached K.holds (bytes ∷ map (λ it. it.now) others.now) kept ends.new) }
+    ensures { (bytes : List ℕ) → IsSource bytes first.now → Reached K.holds [] keeper ends.old → IfOk result (λ kept. Reached K.holds (bytes ∷ map (λ it. it.now) others.now) kept ends.new) }
 {
     let mut kept = match put_source(alloc, keeper, first, ends) {
         Ok(kept) => kept,

@@ -4,8 +4,8 @@ use Rattle.yaml_tree.specs.TreeLists.{IsFirstTooHigh, AreLow}
 use Rattle.yaml_store.specs.StoreGrows.{trees_of}
 use Rattle.yaml_tree_builder.specs.BuilderModel.{AllAt}
 use Rattle.yaml_tree_builder.proofs.BuilderLaws.{roots-of}
-use Rattle.yaml_tree_builder.proofs.ReachedLaws.{stream-is-forest, stream-closes}
-use Rattle.yaml_tree_builder.proofs.LevelLaws.{closed-stream}
+use Rattle.yaml_tree_builder.proofs.ReachedLaws.{stream-is-forest, stream-closes, streams-are-forests}
+use Rattle.yaml_tree_builder.proofs.LevelLaws.{closed-stream, closed-all}
 use Rattle.yaml_tree_builder.proofs.builder.TreeBuilder.documents.Goals as goal
 
 pub returns-clause-size : goal.returns-clause-size
@@ -21,6 +21,13 @@ returns-clause-size c = λ ds s r h.
       documents = omega (arith, roots.count, c.len.ensures, self.stack.ok.0);
       nodes = omega (arith, ap length (stream-closes ds s r), h.counted.count);
     }
+
+pub returns-clause-streams : goal.returns-clause-streams
+returns-clause-streams c = λ dss s r h.
+    let self = c.args.self.now in
+    let roots = roots-of self s h (closed-all dss s r) in
+    let all = streams-are-forests dss s r in
+    record { forests = all.forests; unfolded = all.unfolded; count_is = omega (arith, roots.count, c.len.ensures, self.stack.ok.0, ap length all.is) }
 
 pub returns-in-Some-clause-refused : goal.returns-in-Some-clause-refused
 returns-in-Some-clause-refused c = λ ds s r h.
