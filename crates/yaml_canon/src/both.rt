@@ -1,6 +1,5 @@
 //! Two streams in one store.
 ghost use Rattle.std.specs.Prelude.{◌≡◌, ◌++◌, ℕ, List, [], IfOk, IfErr};
-ghost use Rattle.yaml_graph.specs.GraphView.{forest as root_trees};
 ghost use Rattle.yaml_canon.specs.Both.{HasBoth, HaveRanks};
 ghost use Rattle.yaml_canon.specs.Comparing.{IsComposed};
 ghost use Rattle.yaml_canon.specs.Refused.{RefusesSide};
@@ -9,7 +8,6 @@ use crate::forest::{forest_of, kept_source, lent, source_of};
 use crate::ranks::{RankedForest, ranked_roots};
 use crate::sides::with_side;
 use std::alloc::Global;
-use yaml_graph::graph::Graph;
 use yaml_store_composer::Composing;
 use yaml_text::Side;
 use yaml_text::fault::Fault;
@@ -21,19 +19,6 @@ pub struct BothForests<'l> {
     pub forest: Forest<'l>,
     /// How many roots and nodes are the left one's.
     pub left: StreamSize,
-}
-
-impl BothForests<'_> {
-    /// The nodes of both streams in one graph, equal ones mostly merged. Their texts are borrowed from the store. The only
-    /// error is want of memory (21).
-    pub fn graph(&self, alloc: Global) -> Result<Graph<'_>, Fault>
-        requires { (left right : List ℕ) × HasBoth left right self.now }
-        ensures ok { (left right : List ℕ) (has : HasBoth left right self.now) → IfOk result (λ graph. root_trees graph ≡ has.mean.lefts ++ has.mean.rights) }
-        ensures err { IfErr result (λ fault. fault ≡ Fault.OutOfMemory) }
-    {
-        let graph = self.forest.store.graph(alloc, &self.forest.roots)?;
-        Ok(graph)
-    }
 }
 
 /// The ranked nodes of two streams, and the ranks of the left one's roots and then those of the right one's.

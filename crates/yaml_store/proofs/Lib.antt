@@ -3,4 +3,3 @@ pub mod Parts
 pub mod StoreLaws
 mod TagParts
 mod ContentLaws
-mod GraphLaws

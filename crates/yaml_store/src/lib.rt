@@ -4,7 +4,6 @@
 //! A table finds nodes and tags that occurred before. What it finds is compared with what was asked for, so no contract speaks of it.
 #![tactic(auto)]
 
-mod graph;
 mod memo;
 pub mod no_memory;
 pub mod nodes;
