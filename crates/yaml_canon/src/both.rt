@@ -1,5 +1,5 @@
 //! Two streams in one store.
-ghost use Rattle.std.specs.Prelude.{◌≡◌, ◌++◌, ℕ, List, [], IfOk, IfErr};
+ghost use Rattle.std.specs.Prelude.{ℕ, List, IfOk, IfErr};
 ghost use Rattle.yaml_canon.specs.Both.{HasBoth, HaveRanks};
 ghost use Rattle.yaml_canon.specs.Comparing.{IsComposed};
 ghost use Rattle.yaml_canon.specs.Refused.{RefusesSide};
