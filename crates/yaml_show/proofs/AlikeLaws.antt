@@ -72,48 +72,14 @@ admitted_alike text f g a k m h = record {
   fits = subst (λ z. length z ≤ text_limit) (same_spelled f g (alike_arranged f g k m.keyed h)) a.fits;
 }
 
--- ---- a stream without documents
-
-no_bytes : spell_bytes [] ≡ []
-unfolding spell_bytes spell
-no_bytes = refl
-
-none_alike : (f : List Tree) → Alike f [] → f ≡ []
-none_alike [] h = refl
-none_alike (t ∷ f) h = absurd (cc)
-
-none_admitted : Admitted []
-none_admitted = record { trees = tt; fits = subst (λ z. length z ≤ text_limit) (sym no_bytes) (omega arith) }
-
-nothing_meant : (f : List Tree) → Means [] f → f ≡ []
-nothing_meant f m =
-    let u = spellings_mean [] none_admitted in
-    one_meaning [] f u.forest m (subst (λ z. Means z u.forest) no_bytes u.means) ∙ none_alike u.forest u.alike
-
 -- ---- what is shown
 
 pub when_none : {T P : Type 0} (o : Option T) → o ≡ None → IfNone o P → P
 when_none None e h = h
 when_none (Some x) e h = absurd (cc)
 
--- what a store holds of this stream and an empty one
-pub all_left : (lefts rights all : List Tree) → Means [] rights → all ≡ lefts ++ rights → all ≡ lefts
-all_left lefts rights all n e = e ∙ ap (λ z. lefts ++ z) (nothing_meant rights n) ∙ append-nil lefts
-
--- the documents of a store that holds this stream and an empty one
-all_meant : (bytes : List ℕ) (f lefts rights all : List Tree) → Means bytes lefts → Means [] rights → all ≡ lefts ++ rights → Means bytes f → all ≡ f
-all_meant bytes f lefts rights all m n e k = all_left lefts rights all n e ∙ one_meaning bytes lefts f m k
-
--- what is known of these documents
-pub of_meant : (P : List Tree → Type 0) (bytes : List ℕ) (f lefts rights all : List Tree) → Means bytes lefts → Means [] rights → all ≡ lefts ++ rights → P all → Means bytes f → P f
-of_meant P bytes f lefts rights all m n e h k = subst P (all_meant bytes f lefts rights all m n e k) h
-
 pub theirs : (f : List Tree) (lines : List (List ℕ)) → (lines ≡ map json_text (map arranged f)) × (all_have_json f ≡ true) → AreTheirs f lines
 theirs f lines h = record { written = h.0; has = h.1 }
-
--- the text of such documents
-pub written_is : (write : List Tree → List ℕ) (bytes text : List ℕ) (f lefts rights all : List Tree) → Means bytes lefts → Means [] rights → all ≡ lefts ++ rights → text ≡ write all → Means bytes f → text ≡ write f
-written_is write bytes text f lefts rights all m n e h k = h ∙ ap write (all_meant bytes f lefts rights all m n e k)
 
 pub shows_written : (write : List Tree → List ℕ) (bytes text : List ℕ) → MeanAlike bytes text → ((f : List Tree) → Means bytes f → text ≡ write f) → ShowsBy write bytes text
 shows_written write bytes text m r =

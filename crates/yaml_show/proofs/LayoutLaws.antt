@@ -7,12 +7,7 @@ use Rattle.std.proofs.lemmas.Bool.Decides.{nat_tests}
 use Rattle.std.proofs.lemmas.List.{append_assoc, append-nil}
 use Rattle.yaml_definitions.specs.model.Tag.{seq_tag, map_tag}
 use Rattle.yaml_definitions.specs.model.Tree.{Tree, Trees, Pairs, scalar, sequence, mapping}
-use Rattle.yaml_definitions.specs.model.Order.{arranged}
 use Rattle.yaml_tree.specs.TreeLists.{trees, pairs}
-use Rattle.yaml_graph.specs.GraphView.{roots_of, tree, forest}
-use Rattle.yaml_tree.specs.declared.node.NodeId.{NodeId}
-use Rattle.yaml_graph.specs.declared.graph.Graph.{Graph}
-use Rattle.yaml_spell.proofs.ShownLaws.{map-twice}
 use Rattle.yaml_show_scalar.specs.Scalars.{scalar_text, scalar_lines}
 use Rattle.yaml_show_scalar.specs.declared.scalar.Quotes.TheVariants.{WhereNeeded}
 use Rattle.yaml_show.specs.declared.place.Place.{Place}
@@ -190,7 +185,3 @@ module _ {X : Type 0} (f : X → Tree) (xs : List X) (i : ℕ) where
 
   pub documents_end : (w whole : List ℕ) → length xs ≤ i → w ++ shown_text (map f (drop i xs)) ≡ whole → w ≡ whole
   documents_end w whole l h = sym (append-nil w) ∙ ap (λ z. w ++ shown_text (map f z)) (sym (drop_of_length-le xs l)) ∙ h
-
--- the roots of a graph, arranged, are its forest, arranged
-pub roots_arranged : (g : Graph) (roots : List NodeId) → roots ≡ roots_of g → map (λ i. arranged (tree g i.0)) roots ≡ map arranged (forest g)
-roots_arranged g roots e = ap (map (λ (i : NodeId). arranged (tree g i.0))) e ∙ sym (map-twice (λ (i : NodeId). tree g i.0) arranged (roots_of g))

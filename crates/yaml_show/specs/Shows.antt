@@ -19,10 +19,14 @@ readable f = shown_text (map arranged f)
 abbrev pub readable_sharing : List Tree → List ℕ
 readable_sharing f = sharing_shown (map arranged f)
 
--- what is written with entries in the order of their keys, with anchors and aliases or without
+-- what is written of documents that are arranged, with anchors and aliases or without
+abbrev pub arranged_by : Bool → List Tree → List ℕ
+arranged_by false = shown_text
+arranged_by true = sharing_shown
+
+-- the same of documents, with entries in the order of their keys
 abbrev pub written_by : Bool → List Tree → List ℕ
-written_by false = readable
-written_by true = readable_sharing
+written_by shares f = arranged_by shares (map arranged f)
 
 -- what is written of documents: their readable text; the same with entries in the order of the source; or with anchors and aliases
 abbrev pub written_in : Manner → List Tree → List ℕ

@@ -2,10 +2,6 @@
 ghost use Rattle.std.specs.Prelude.{◌≡◌, ◌<◌, ◌++◌, ◌∷◌, [], map, string_bytes, OnOk, IfOk, IfErr};
 ghost use Rattle.std.specs.List.{All};
 ghost use Rattle.yaml_definitions.specs.model.Limits.{text_limit};
-ghost use Rattle.yaml_definitions.specs.model.Order.{arranged};
-ghost use Rattle.yaml_graph.specs.GraphView.{forest};
-ghost use Rattle.yaml_rank.specs.RanksView.{RanksAre};
-ghost use Rattle.yaml_store_rank.specs.Forests.{count, tree};
 ghost use Rattle.yaml_spell.specs.RankedNodes.{Rooted, tree_of, trees_of, pairs_of};
 ghost use Rattle.yaml_show_scalar.specs.Stops.{limit_of, Stops};
 ghost use Rattle.yaml_show_scalar.specs.Texts.{written};
@@ -13,17 +9,12 @@ ghost use Rattle.yaml_show.specs.Layout.{node_lines, item_lines, entry_lines, do
 
 use crate::keys::{all_fit, put_key};
 use crate::lines::{goes_on, put_before, put_empty, put_head, put_line, put_scalar_node};
-use crate::nodes::Nodes;
 use crate::place::Place;
-use crate::source::SourceForests;
 use std::alloc::Global;
-use yaml_rank::ranked_graph::RankedGraph;
 use yaml_show_scalar::{Out, Stop};
 use yaml_spell::ranked::RankedNodes;
-use yaml_store_rank::RankedForests;
 use yaml_text::core_tag;
 use yaml_text::limits::text_limit;
-use yaml_tree::node::NodeId;
 use yaml_tree::shown::Inside;
 
 /// The greatest level of a collection in block style. One that is deeper is on one line, so that indentation does not grow further.
@@ -166,41 +157,20 @@ fn put_documents<I: Copy, V: RankedNodes<I>>(
     Ok(())
 }
 
-/// The documents in block style: `---`, then a line for each entry and item. Entries are in the order of their keys. Aliases are written
-/// out. The ranks must be those of the graph.
+/// The documents of these roots in block style: `---`, then a line for each entry and item. Aliases are written out.
 ///
 /// # Errors
 /// `TooLong`: the text would have more than 67,108,864 bytes. `OutOfMemory`.
-pub fn block_text(alloc: Global, nodes: &Nodes<'_>) -> Result<String, Stop>
-    requires { RanksAre nodes.now.graph nodes.now.ranks }
-    ensures ok { IfOk result (λ text. string_bytes text ≡ shown_text (map arranged (forest nodes.now.graph))) }
-    ensures err { IfErr result (Stops text_limit (shown_text (map arranged (forest nodes.now.graph)))) }
-{
-    let view = RankedGraph {
-        graph: &nodes.graph,
-        ranks: &nodes.ranks,
-    };
-    let mut out = Out::new(alloc, text_limit());
-    put_documents(alloc, &view, nodes.graph.roots(), &mut out)?;
-    Ok(out.text)
-}
-
-/// The documents of these roots in block style, with the entries in the order of the source. Documents that mean the same may have them
-/// in different orders.
-///
-/// # Errors
-/// Those of `block_text`.
-pub fn source_text(
+pub fn block_text<I: Copy, V: RankedNodes<I>>(
     alloc: Global,
-    forests: &RankedForests<'_>,
-    roots: &[NodeId],
+    view: &V,
+    roots: &[I],
 ) -> Result<String, Stop>
-    requires { All (λ i. i.0 < count forests.now) roots.now }
-    ensures ok { IfOk result (λ text. string_bytes text ≡ shown_text (map (λ i. tree forests.now i.0) roots.now)) }
-    ensures err { IfErr result (Stops text_limit (shown_text (map (λ i. tree forests.now i.0) roots.now))) }
+    requires { Rooted V.stands V.count V.number view.now roots.now }
+    ensures ok { IfOk result (λ text. string_bytes text ≡ shown_text (map (tree_of V.tree V.number view.now) roots.now)) }
+    ensures err { IfErr result (Stops text_limit (shown_text (map (tree_of V.tree V.number view.now) roots.now))) }
 {
-    let view = SourceForests { forests };
     let mut out = Out::new(alloc, text_limit());
-    put_documents(alloc, &view, roots, &mut out)?;
+    put_documents(alloc, view, roots, &mut out)?;
     Ok(out.text)
 }

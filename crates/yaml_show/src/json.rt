@@ -3,9 +3,6 @@ ghost use Rattle.std.specs.Prelude.{◌≡◌, ℕ, List, ◌<◌, ◌++◌, ◌
 ghost use Rattle.std.specs.List.{All, list_all};
 ghost use Rattle.yaml_definitions.specs.model.Tag.{str_tag, seq_tag, map_tag};
 ghost use Rattle.yaml_definitions.specs.model.Limits.{text_limit};
-ghost use Rattle.yaml_definitions.specs.model.Order.{arranged};
-ghost use Rattle.yaml_graph.specs.GraphView.{forest};
-ghost use Rattle.yaml_rank.specs.RanksView.{RanksAre};
 ghost use Rattle.yaml_spell.specs.RankedNodes.{Rooted, tree_of, trees_of, pairs_of};
 ghost use Rattle.yaml_show_scalar.specs.Escapes.{quoted};
 ghost use Rattle.yaml_show_scalar.specs.declared.escapes.Language.TheVariants.{Json};
@@ -16,10 +13,8 @@ ghost use Rattle.yaml_show.specs.JsonText.{json_scalar, json_key, json_text, jso
 ghost use Rattle.yaml_show.specs.JsonTrees.{scalar_has_json, key_has_json, has_json, items_have_json, entries_have_json, Says, Lacks, Overruns};
 
 use crate::flow::put_separator;
-use crate::nodes::Nodes;
 use crate::unwritten::Unwritten;
 use std::alloc::Global;
-use yaml_rank::ranked_graph::RankedGraph;
 use yaml_show_scalar::escapes::put_json_string;
 use yaml_show_scalar::number::{is_in_words, put_float};
 use yaml_show_scalar::tag::is_resolved;
@@ -214,8 +209,13 @@ fn add_line(lines: &mut Vec<String>, line: String) -> Result<(), Unwritten>
     }
 }
 
-/// The documents of these roots as JSON.
-fn root_lines<I: Copy, V: RankedNodes<I>>(
+/// The documents of these roots as JSON: a line for each, without its line feed. Keys are in the order of their bytes if the trees are
+/// arranged.
+///
+/// # Errors
+/// `NoJson`: a key is no string, a float is `.inf`, `-.inf` or `.nan`, or a tag is none of the core schema. `Stopped`: memory does not
+/// suffice, or the lines, with five bytes for each more, would have more than 67,108,864 bytes.
+pub fn json_lines<I: Copy, V: RankedNodes<I>>(
     alloc: Global,
     view: &V,
     roots: &[I],
@@ -234,23 +234,4 @@ fn root_lines<I: Copy, V: RankedNodes<I>>(
         add_line(&mut lines, line.text)?;
     }
     Ok(lines)
-}
-
-/// The documents as JSON: a line for each, without its line feed. Keys are in the order of their bytes. The ranks must be those of the
-/// graph.
-///
-/// # Errors
-/// `NoJson`: a key is no string, a float is `.inf`, `-.inf` or `.nan`, or a tag is none of the core schema. `Stopped`: memory does not
-/// suffice, or the lines, with five bytes for each more, would have more than 67,108,864 bytes.
-pub fn json_lines(alloc: Global, nodes: &Nodes<'_>) -> Result<Vec<String>, Unwritten>
-    requires { RanksAre nodes.now.graph nodes.now.ranks }
-    ensures ok { IfOk result (λ lines. (map string_bytes lines.items ≡ map json_text (map arranged (forest nodes.now.graph))) × (list_all has_json (map arranged (forest nodes.now.graph)) ≡ true)) }
-    ensures err { IfErr result (Lacks (list_all has_json (map arranged (forest nodes.now.graph)))) }
-    ensures stops { IfErr result (Overruns text_limit (line_stream (map arranged (forest nodes.now.graph)))) }
-{
-    let view = RankedGraph {
-        graph: &nodes.graph,
-        ranks: &nodes.ranks,
-    };
-    root_lines(alloc, &view, nodes.graph.roots())
 }

@@ -15,7 +15,6 @@ mod keys;
 pub mod laws;
 mod lines;
 pub mod manner;
-pub mod nodes;
 pub mod place;
 mod presenting;
 mod sharing;
@@ -26,9 +25,8 @@ mod source;
 pub mod unshown;
 pub mod unwritten;
 
-pub use block::{block_text, source_text};
+pub use block::block_text;
 pub use json::json_lines;
-pub use nodes::Nodes;
 pub use sharing::sharing_text;
 pub use shown::{show, show_as_read, show_json, show_sharing};
 pub use unshown::Unshown;

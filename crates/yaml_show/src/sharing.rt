@@ -3,9 +3,6 @@ ghost use Rattle.std.specs.Prelude.{◌≡◌, ◌<◌, ◌++◌, ◌∷◌, [],
 ghost use Rattle.std.specs.List.{All};
 ghost use Rattle.yaml_definitions.specs.canonical.Serialize.{anchor_name};
 ghost use Rattle.yaml_definitions.specs.model.Limits.{text_limit};
-ghost use Rattle.yaml_definitions.specs.model.Order.{arranged};
-ghost use Rattle.yaml_graph.specs.GraphView.{forest};
-ghost use Rattle.yaml_rank.specs.RanksView.{RanksAre};
 ghost use Rattle.yaml_spell.specs.declared.names.Opening.TheVariants.{Plain};
 ghost use Rattle.yaml_spell.specs.NamesView.{ranks_in, given_of};
 ghost use Rattle.yaml_spell.specs.RankedNodes.{Ready, Rooted, tree_of, trees_of, pairs_of};
@@ -18,12 +15,10 @@ ghost use Rattle.yaml_show.specs.Sharing.{alias_line, behind_anchor, line_inside
 use crate::block::DEEPEST;
 use crate::draft::{Draft, put_alias, put_anchor};
 use crate::lines::goes_on;
-use crate::nodes::Nodes;
 use crate::place::Place;
 use crate::sharing_flow::put_flow_inside;
 use crate::sharing_keys::{all_have_room, put_shared_key};
 use std::alloc::Global;
-use yaml_rank::ranked_graph::RankedGraph;
 use yaml_show_scalar::Stop;
 use yaml_spell::names::{Names, Opening};
 use yaml_spell::opening::{begin_document, open_node};
@@ -264,25 +259,24 @@ fn put_documents<I: Copy, V: RankedNodes<I>>(
     }
 }
 
-/// The documents in block style, with anchors and aliases: those of their canonical text, with the same names. Entries are in the order of
-/// their keys.
+/// The documents of these roots in block style, with the anchors and aliases of their canonical text if the trees are arranged.
 ///
 /// # Errors
 /// Those of `block_text`.
-pub fn sharing_text(alloc: Global, nodes: &Nodes<'_>) -> Result<String, Stop>
-    requires { RanksAre nodes.now.graph nodes.now.ranks }
-    ensures ok { IfOk result (λ text. string_bytes text ≡ sharing_shown (map arranged (forest nodes.now.graph))) }
-    ensures err { IfErr result (Stops text_limit (sharing_shown (map arranged (forest nodes.now.graph)))) }
+pub fn sharing_text<I: Copy, V: RankedNodes<I>>(
+    alloc: Global,
+    view: &V,
+    roots: &[I],
+) -> Result<String, Stop>
+    requires { Rooted V.stands V.count V.number view.now roots.now }
+    ensures ok { IfOk result (λ text. string_bytes text ≡ sharing_shown (map (tree_of V.tree V.number view.now) roots.now)) }
+    ensures err { IfErr result (Stops text_limit (sharing_shown (map (tree_of V.tree V.number view.now) roots.now))) }
 {
-    let view = RankedGraph {
-        graph: &nodes.graph,
-        ranks: &nodes.ranks,
-    };
     let Ok(names) = Names::new(alloc, view.len()) else {
         return Err(Stop::OutOfMemory);
     };
     let mut names = names;
     let mut draft = Draft::new(alloc, text_limit());
-    put_documents(alloc, &view, &mut names, nodes.graph.roots(), &mut draft);
+    put_documents(alloc, view, &mut names, roots, &mut draft);
     draft.finish()
 }

@@ -4,7 +4,7 @@ use Rattle.yaml_show.specs.JsonText.{line_stream}
 use Rattle.std.specs.String.{string_bytes}
 use Rattle.yaml_spell.specs.RankedNodes.{tree_of}
 use Rattle.yaml_show.proofs.JsonLaws.{LinesAt}
-use Rattle.yaml_show.proofs.json.root_lines.Given as goal
+use Rattle.yaml_show.proofs.json.json_lines.Given as goal
 
 abbrev pub invariant-loop-root : goal.invariant-loop-root
 invariant-loop-root g l =
