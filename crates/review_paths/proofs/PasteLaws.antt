@@ -6,7 +6,7 @@ use Rattle.std.specs.Str.{encode_utf8_all}
 use Rattle.std.proofs.lemmas.List.{append-nil, append_assoc, map-append, reverse-append}
 use Rattle.std.proofs.lemmas.List.Concat.{flat_map-append}
 use Rattle.std.proofs.lemmas.List.Folds.{list_all-append}
-use Rattle.yaml_graph.specs.declared.graph.Graph.{Graph}
+use Rattle.yaml_store_rank.specs.Forests.{Forests}
 use Rattle.yaml_diff.specs.Lines.{step_of, way_of}
 use Rattle.yaml_diff.specs.declared.difference.Step as code
 use Rattle.yaml_path.specs.Ways.{Way}
@@ -25,21 +25,21 @@ map_reverse f [] = refl
 map_reverse f (x ∷ xs) = ap (map f) (reverse-append (x ∷ []) xs) ∙ map-append f (reverse xs) (x ∷ []) ∙ ap (λ z. z ++ (f x ∷ [])) (map_reverse f xs) ∙ sym (reverse-append (f x ∷ []) (map f xs))
 
 -- a path begins with its last step
-way_split : (g : Graph) (steps : List code.Step) (s : code.Step) → way_of g (steps ++ (s ∷ [])) ≡ step_of g s ∷ map (step_of g) (reverse steps)
+way_split : (g : Forests) (steps : List code.Step) (s : code.Step) → way_of g (steps ++ (s ∷ [])) ≡ step_of g s ∷ map (step_of g) (reverse steps)
 way_split g steps s = ap reverse (map-append (step_of g) steps (s ∷ [])) ∙ reverse-append (map (step_of g) steps) (step_of g s ∷ []) ∙ ap (λ z. step_of g s ∷ z) (sym (map_reverse (step_of g) steps))
 
 all_kept : (w : Way) → w ≡ kept_steps true w
 all_kept [] = refl
 all_kept (s ∷ w) = refl
 
-pub kept_all : (g : Graph) (path : List code.Step) (numbered : Bool) → numbered ≡ true → map (step_of g) (reverse path) ≡ kept_steps numbered (way_of g path)
+pub kept_all : (g : Forests) (path : List code.Step) (numbered : Bool) → numbered ≡ true → map (step_of g) (reverse path) ≡ kept_steps numbered (way_of g path)
 kept_all g path numbered e = map_reverse (step_of g) path ∙ all_kept (way_of g path) ∙ ap (λ b. kept_steps b (way_of g path)) (sym e)
 
-pub kept_rest : (g : Graph) (path steps : List code.Step) (s : code.Step) (numbered : Bool) → numbered ≡ false → path ≡ steps ++ (s ∷ []) → map (step_of g) (reverse steps) ≡ kept_steps numbered (way_of g path)
+pub kept_rest : (g : Forests) (path steps : List code.Step) (s : code.Step) (numbered : Bool) → numbered ≡ false → path ≡ steps ++ (s ∷ []) → map (step_of g) (reverse steps) ≡ kept_steps numbered (way_of g path)
 kept_rest g path steps s numbered e h =
     ap (kept_steps false) (sym (way_split g steps s)) ∙ ap (λ z. kept_steps false (way_of g z)) (sym h) ∙ ap (λ b. kept_steps b (way_of g path)) (sym e)
 
-pub kept_none : (g : Graph) (path : List code.Step) (numbered : Bool) → path ≡ [] → map (step_of g) (reverse path) ≡ kept_steps numbered (way_of g path)
+pub kept_none : (g : Forests) (path : List code.Step) (numbered : Bool) → path ≡ [] → map (step_of g) (reverse path) ≡ kept_steps numbered (way_of g path)
 kept_none g path numbered h = ap (λ z. map (step_of g) (reverse z)) h ∙ ap (λ z. kept_steps numbered (way_of g z)) (sym h)
 
 -- ---- whether each fits
@@ -60,7 +60,7 @@ pub flat_by_map : {X Y : Type 0} (q : Y → List ℕ) (f : X → Y) (xs : List X
 flat_by_map q f [] = refl
 flat_by_map q f (x ∷ xs) = ap (λ z. q (f x) ++ z) (flat_by_map q f xs)
 
-module _ (g : Graph) (f n l : Bool) (path steps : List code.Step) (b : Bool) (e : map (step_of g) (reverse steps) ≡ kept_steps n (way_of g path)) (h : b ≡ list_all (λ s. fits_step (step_of g s)) (reverse steps)) where
+module _ (g : Forests) (f n l : Bool) (path steps : List code.Step) (b : Bool) (e : map (step_of g) (reverse steps) ≡ kept_steps n (way_of g path)) (h : b ≡ list_all (λ s. fits_step (step_of g s)) (reverse steps)) where
   all_fit : b ≡ list_all fits_step (kept_steps n (way_of g path))
   all_fit = h ∙ all_by_map fits_step (step_of g) (reverse steps) ∙ ap (list_all fits_step) e
 

@@ -1,5 +1,5 @@
 -- What an error says of JSON that was to be written piece by piece.
-use Rattle.std.proofs.Common.{◌≡◌, inl, inr, ℕ, zero, suc, ◌+◌, ◌≤◌, ◌<◌, Bool, true, false, ◌&&◌, List, [], ◌∷◌, ◌++◌, length, map, get_or, refl, sym, ◌∙◌, ap, ap₂, subst, arith}
+use Rattle.std.proofs.Common.{◌≡◌, inl, inr, ℕ, Bor, zero, suc, ◌+◌, ◌≤◌, ◌<◌, Bool, true, false, ◌&&◌, List, [], ◌∷◌, ◌++◌, length, map, get_or, refl, sym, ◌∙◌, ap, ap₂, subst, arith}
 use Rattle.std.specs.Prelude.{Some, bytes_eq, codes}
 use Rattle.std.specs.List.{slice_get}
 use Rattle.std.proofs.lemmas.List.{append_assoc, append-nil}
@@ -8,14 +8,13 @@ use Rattle.yaml_definitions.specs.model.Tree.{Tree, Trees, Pairs, scalar, sequen
 use Rattle.yaml_definitions.specs.model.Tag.{core_tag, str_tag, seq_tag, map_tag}
 use Rattle.yaml_definitions.specs.model.Order.{arranged}
 use Rattle.yaml_tree.specs.TreeLists.{trees, pairs}
-use Rattle.yaml_graph.specs.GraphView.{nodes_of, tree}
-use Rattle.yaml_graph.specs.declared.node.Node.{Node}
-use Rattle.yaml_graph.specs.declared.node.NodeKind.{NodeKind}
-use Rattle.yaml_graph.specs.declared.node.NodeKind.TheVariants as kinds
-use Rattle.yaml_graph.specs.declared.graph.Graph.{Graph}
-use Rattle.yaml_rank.specs.RanksView.{RanksAre}
-use Rattle.yaml_rank.specs.declared.ranks.Ranks.{Ranks}
-use Rattle.review_text.proofs.GraphShapes.{sequence-there, mapping-there}
+use Rattle.yaml_tree.proofs.Lists.{get-some}
+use Rattle.yaml_tree.specs.declared.node.NodeId.{NodeId}
+use Rattle.yaml_tree.specs.declared.shown.Shown.{Shown}
+use Rattle.yaml_tree.specs.declared.shown.Inside.{Inside}
+use Rattle.yaml_tree.specs.declared.shown.Inside.TheVariants as shown
+use Rattle.yaml_store_rank.specs.Forests.{Forests, tree, held_shown, IsRanked}
+use Rattle.yaml_store_rank.proofs.ForestTrees.{tree-shown}
 use Rattle.yaml_show_scalar.specs.Stops.{Stops}
 use Rattle.yaml_show_scalar.specs.Escapes.{quoted}
 use Rattle.yaml_show_scalar.specs.Tags.{is_resolved}
@@ -107,26 +106,27 @@ entry_of : (o c k s v l r : List ℕ) → o ++ ((c ++ (k ++ (s ++ (v ++ l)))) ++
 entry_of o c k s v l r = simp append_assoc
 
 module _ {X : Type 0} (f : X → Tree × Tree) where
-  value_lower : (xs : List X) (i : ℕ) (d : X) → i < length xs → height (f (get_or xs i d)).1 < heights_of_pairs (pairs (map f xs))
-  value_lower [] i d l = absurd (omega arith)
-  value_lower (x ∷ xs) zero d l = omega arith
-  value_lower (x ∷ xs) (suc i) d l = let h = value_lower xs i d (omega arith) in omega (arith, h)
+  value_lower : (xs : List X) (i : ℕ) (y : X) → slice_get xs i ≡ Some y → height (f y).1 < heights_of_pairs (pairs (map f xs))
+  value_lower [] i y h = absurd cc
+  value_lower (x ∷ xs) zero y h = let e : x ≡ y = cc in subst (λ z. height (f z).1 < heights_of_pairs (pairs (map f (x ∷ xs)))) e (omega arith)
+  value_lower (x ∷ xs) (suc i) y h = let l = value_lower xs i y h in omega (arith, l)
 
-  key_lacks : (xs : List X) (i : ℕ) (d : X) → i < length xs → is_string (f (get_or xs i d)).0 ≡ false → entries_have_json (pairs (map f xs)) ≡ false
-  key_lacks [] i d l e = absurd (omega arith)
-  key_lacks (x ∷ xs) zero d l e = ap (λ z. z && (has_json (f x).1 && entries_have_json (pairs (map f xs)))) e
-  key_lacks (x ∷ xs) (suc i) d l e =
+  key_lacks : (xs : List X) (i : ℕ) (y : X) → slice_get xs i ≡ Some y → is_string (f y).0 ≡ false → entries_have_json (pairs (map f xs)) ≡ false
+  key_lacks [] i y h e = absurd cc
+  key_lacks (x ∷ xs) zero y h e = let q : x ≡ y = cc in ap (λ z. z && (has_json (f x).1 && entries_have_json (pairs (map f xs)))) (ap (λ z. is_string (f z).0) q ∙ e)
+  key_lacks (x ∷ xs) (suc i) y h e =
       let more : Bool = entries_have_json (pairs (map f xs)) in
-      and_lacks (is_string (f x).0) (has_json (f x).1 && more) (and_lacks (has_json (f x).1) more (key_lacks xs i d (omega arith) e))
+      and_lacks (is_string (f x).0) (has_json (f x).1 && more) (and_lacks (has_json (f x).1) more (key_lacks xs i y h e))
 
-  value_lacks : (xs : List X) (i : ℕ) (d : X) → i < length xs → has_json (f (get_or xs i d)).1 ≡ false → entries_have_json (pairs (map f xs)) ≡ false
-  value_lacks [] i d l e = absurd (omega arith)
-  value_lacks (x ∷ xs) zero d l e =
+  value_lacks : (xs : List X) (i : ℕ) (y : X) → slice_get xs i ≡ Some y → has_json (f y).1 ≡ false → entries_have_json (pairs (map f xs)) ≡ false
+  value_lacks [] i y h e = absurd cc
+  value_lacks (x ∷ xs) zero y h e =
+      let q : x ≡ y = cc in
       let more : Bool = entries_have_json (pairs (map f xs)) in
-      and_lacks (is_string (f x).0) (has_json (f x).1 && more) (ap (λ z. z && more) e)
-  value_lacks (x ∷ xs) (suc i) d l e =
+      and_lacks (is_string (f x).0) (has_json (f x).1 && more) (ap (λ z. z && more) (ap (λ z. has_json (f z).1) q ∙ e))
+  value_lacks (x ∷ xs) (suc i) y h e =
       let more : Bool = entries_have_json (pairs (map f xs)) in
-      and_lacks (is_string (f x).0) (has_json (f x).1 && more) (and_lacks (has_json (f x).1) more (value_lacks xs i d (omega arith) e))
+      and_lacks (is_string (f x).0) (has_json (f x).1 && more) (and_lacks (has_json (f x).1) more (value_lacks xs i y h e))
 
 module _ {X : Type 0} (f : X → Tree × Tree) (xs : List X) (left limit limit' : ℕ) (old o : List ℕ) (why : Unsaid) (same : limit' ≡ limit) where
   -- what an error says of the object
@@ -143,12 +143,12 @@ module _ {X : Type 0} (f : X → Tree × Tree) (xs : List X) (left limit limit' 
       let whole = sym at.0 ∙ ap (λ z. o ++ (entries_json i (pairs (map f z)) ++ codes "}")) (drop_of_length-le xs l) in
       unsays_stop _ _ _ _ _ stop why e (stops_same limit limit' (o ++ codes "}") _ stop same whole h)
 
-  module _ (i : ℕ) (d : X) (l : i < length xs) (at : EntriesAt f xs i old o) where
+  module _ (i : ℕ) (d : X) (l : slice_get xs i ≡ Some d) (at : EntriesAt f xs i old o) where
     abbrev key_text : List ℕ
-    key_text = name_json (f (get_or xs i d)).0 ++ codes ":"
+    key_text = name_json (f d).0 ++ codes ":"
 
     abbrev value_text : List ℕ
-    value_text = value_json (f (get_or xs i d)).1
+    value_text = value_json (f d).1
 
     abbrev entry_end : List ℕ
     entry_end = entries_left f xs (i + 1) ++ codes "}"
@@ -156,17 +156,17 @@ module _ {X : Type 0} (f : X → Tree × Tree) (xs : List X) (left limit limit' 
     entry_whole : old ++ (codes "{" ++ (entries_json 0 (pairs (map f xs)) ++ codes "}")) ≡ (((o ++ comma i) ++ key_text) ++ value_text) ++ entry_end
     entry_whole =
         sym at.0 ∙ ap (λ z. o ++ (z ++ codes "}")) (entries_split f xs i d l)
-        ∙ entry_of o (comma i) (name_json (f (get_or xs i d)).0) (codes ":") value_text (entries_left f xs (i + 1)) (codes "}")
+        ∙ entry_of o (comma i) (name_json (f d).0) (codes ":") value_text (entries_left f xs (i + 1)) (codes "}")
 
     key_whole : old ++ (codes "{" ++ (entries_json 0 (pairs (map f xs)) ++ codes "}")) ≡ ((o ++ comma i) ++ key_text) ++ (value_text ++ entry_end)
     key_whole = entry_whole ∙ append_assoc ((o ++ comma i) ++ key_text) value_text entry_end
 
-    pub key_fails : (a : List ℕ) → a ≡ o ++ comma i → Unsays (is_string (f (get_or xs i d)).0) 0 1 limit' (a ++ key_text) why → EntriesFail
+    pub key_fails : (a : List ℕ) → a ≡ o ++ comma i → Unsays (is_string (f d).0) 0 1 limit' (a ++ key_text) why → EntriesFail
     key_fails a e =
         unsays_more _ _ 0 _ 1 (left + 1) limit limit' _ (value_text ++ entry_end) _ why (key_lacks f xs i d l) (λ h. absurd (omega (arith, h))) same
         (key_whole ∙ ap (λ z. (z ++ key_text) ++ (value_text ++ entry_end)) (sym e))
 
-    pub value_fails : (a b : List ℕ) → a ≡ o ++ comma i → b ≡ a ++ key_text → Unsays (has_json (f (get_or xs i d)).1) (height (f (get_or xs i d)).1) left limit' (b ++ value_text) why → EntriesFail
+    pub value_fails : (a b : List ℕ) → a ≡ o ++ comma i → b ≡ a ++ key_text → Unsays (has_json (f d).1) (height (f d).1) left limit' (b ++ value_text) why → EntriesFail
     value_fails a b e k =
         let low = value_lower f xs i d l in
         unsays_more _ _ _ _ left (left + 1) limit limit' _ entry_end _ why (value_lacks f xs i d l) (λ h. omega (arith, h, low)) same
@@ -174,10 +174,10 @@ module _ {X : Type 0} (f : X → Tree × Tree) (xs : List X) (left limit limit' 
 
   pub entry_comma_fails : (i : ℕ) (stop : Stop) → i < length xs → EntriesAt f xs i old o → why ≡ Stopped stop → Stops limit' (o ++ comma i) stop → EntriesFail
   entry_comma_fails i stop l at e h =
-      let d : X = first_of xs i l in
-      let K : List ℕ = key_text i d l at in
-      let R : List ℕ = value_text i d l at ++ entry_end i d l at in
-      unsays_stop _ _ _ _ _ stop why e (stops_longer limit limit' (o ++ comma i) (K ++ R) _ stop same (key_whole i d l at ∙ append_assoc (o ++ comma i) K R) h)
+      let d = get-some xs i l in
+      let K : List ℕ = key_text i d.0 d.1 at in
+      let R : List ℕ = value_text i d.0 d.1 at ++ entry_end i d.0 d.1 at in
+      unsays_stop _ _ _ _ _ stop why e (stops_longer limit limit' (o ++ comma i) (K ++ R) _ stop same (key_whole i d.0 d.1 at ∙ append_assoc (o ++ comma i) K R) h)
 
 -- ---- whole nodes
 
@@ -186,23 +186,22 @@ module _ (t : Tree) (left limit : ℕ) (old : List ℕ) (why : Unsaid) where
   abbrev Fails : Tree → Type 0
   Fails z = Unsays (has_json z) (height z) left limit (old ++ value_json z) why
 
-  pub scalar_unsays : (g x h y : List ℕ) → t ≡ scalar h y → g ≡ h → x ≡ y → Unsays (scalar_has_json g x) 0 1 limit (old ++ scalar_json g x) why → Fails t
-  scalar_unsays g x h y e p q k =
-      subst Fails (ap₂ scalar p q ∙ sym e) (unsays_more _ _ 0 0 1 left limit limit _ [] _ why (λ n. n) (λ n. absurd (omega (arith, n))) refl (sym (append-nil (old ++ scalar_json g x))) k)
+  pub scalar_unsays : (g x : List ℕ) → t ≡ scalar g x → Unsays (scalar_has_json g x) 0 1 limit (old ++ scalar_json g x) why → Fails t
+  scalar_unsays g x e k = subst Fails (sym e) (unsays_more _ _ 0 0 1 left limit limit _ [] _ why (λ n. n) (λ n. absurd (omega (arith, n))) refl (sym (append-nil (old ++ scalar_json g x))) k)
 
-  pub sequence_unsays : (g h : List ℕ) (ts : Trees) (less : ℕ) → t ≡ sequence h ts → g ≡ h → less + 1 ≡ left → Unsays (items_have_json ts) (heights ts) (less + 1) limit (old ++ (codes "[" ++ (items_json 0 ts ++ codes "]"))) why → Fails t
-  sequence_unsays g h ts less e p n k =
-      subst Fails (sym e) (unsays_more _ _ _ _ (less + 1) left limit limit _ [] _ why (and_lacks (bytes_eq h seq_tag) (items_have_json ts)) (λ m. subst (λ z. z ≤ heights ts) n m) refl (sym (append-nil _)) k)
+  pub sequence_unsays : (g : List ℕ) (ts : Trees) (less : ℕ) → t ≡ sequence g ts → less + 1 ≡ left → Unsays (items_have_json ts) (heights ts) (less + 1) limit (old ++ (codes "[" ++ (items_json 0 ts ++ codes "]"))) why → Fails t
+  sequence_unsays g ts less e n k =
+      subst Fails (sym e) (unsays_more _ _ _ _ (less + 1) left limit limit _ [] _ why (and_lacks (bytes_eq g seq_tag) (items_have_json ts)) (λ m. subst (λ z. z ≤ heights ts) n m) refl (sym (append-nil _)) k)
 
-  pub mapping_unsays : (g h : List ℕ) (ps : Pairs) (less : ℕ) → t ≡ mapping h ps → g ≡ h → less + 1 ≡ left → Unsays (entries_have_json ps) (heights_of_pairs ps) (less + 1) limit (old ++ (codes "{" ++ (entries_json 0 ps ++ codes "}"))) why → Fails t
-  mapping_unsays g h ps less e p n k =
-      subst Fails (sym e) (unsays_more _ _ _ _ (less + 1) left limit limit _ [] _ why (and_lacks (bytes_eq h map_tag) (entries_have_json ps)) (λ m. subst (λ z. z ≤ heights_of_pairs ps) n m) refl (sym (append-nil _)) k)
+  pub mapping_unsays : (g : List ℕ) (ps : Pairs) (less : ℕ) → t ≡ mapping g ps → less + 1 ≡ left → Unsays (entries_have_json ps) (heights_of_pairs ps) (less + 1) limit (old ++ (codes "{" ++ (entries_json 0 ps ++ codes "}"))) why → Fails t
+  mapping_unsays g ps less e n k =
+      subst Fails (sym e) (unsays_more _ _ _ _ (less + 1) left limit limit _ [] _ why (and_lacks (bytes_eq g map_tag) (entries_have_json ps)) (λ m. subst (λ z. z ≤ heights_of_pairs ps) n m) refl (sym (append-nil _)) k)
 
-pub other_sequence : (t : Tree) (g h : List ℕ) (ts : Trees) → t ≡ sequence h ts → g ≡ h → bytes_eq g seq_tag ≡ false → has_json t ≡ false
-other_sequence t g h ts e p b = ap has_json e ∙ ap (λ z. z && items_have_json ts) (ap (λ z. bytes_eq z seq_tag) (sym p) ∙ b)
+pub other_sequence : (t : Tree) (g : List ℕ) (ts : Trees) → t ≡ sequence g ts → bytes_eq g seq_tag ≡ false → has_json t ≡ false
+other_sequence t g ts e b = ap has_json e ∙ ap (λ z. z && items_have_json ts) b
 
-pub other_mapping : (t : Tree) (g h : List ℕ) (ps : Pairs) → t ≡ mapping h ps → g ≡ h → bytes_eq g map_tag ≡ false → has_json t ≡ false
-other_mapping t g h ps e p b = ap has_json e ∙ ap (λ z. z && entries_have_json ps) (ap (λ z. bytes_eq z map_tag) (sym p) ∙ b)
+pub other_mapping : (t : Tree) (g : List ℕ) (ps : Pairs) → t ≡ mapping g ps → bytes_eq g map_tag ≡ false → has_json t ≡ false
+other_mapping t g ps e b = ap has_json e ∙ ap (λ z. z && entries_have_json ps) b
 
 -- a node that is not there
 pub none_lacks : (t : Tree) → t ≡ scalar [] [] → has_json (arranged t) ≡ false
@@ -215,18 +214,19 @@ none_is_no_string t e = ap (λ z. is_string (arranged z)) e
 
 -- ---- keys
 
-pub other_string : (t : Tree) (g h y : List ℕ) → t ≡ scalar h y → g ≡ h → bytes_eq g str_tag ≡ false → is_string t ≡ false
-other_string t g h y e p b = ap is_string e ∙ ap (λ z. bytes_eq z str_tag) (sym p) ∙ b
+pub other_string : (t : Tree) (g y : List ℕ) → t ≡ scalar g y → bytes_eq g str_tag ≡ false → is_string t ≡ false
+other_string t g y e b = ap is_string e ∙ b
 
 -- a node that is no scalar
-module _ (g : Graph) (r : Ranks) (are : RanksAre g r) (i : ℕ) (n : Node) (there : slice_get (nodes_of g) i ≡ Some n) where
-  pub other_kind : ((content : _) → n.kind ≡ kinds.Scalar content → ⊥) → is_string (arranged (tree g i)) ≡ false
-  other_kind f = by n.kind refl f
+module _ (f : Forests) (are : IsRanked f) (i : ℕ) (s : Shown NodeId) (there : slice_get f.nodes i ≡ Some (held_shown s)) where
+  pub other_kind : ((x : Bor (List ℕ)) → s.inside ≡ shown.Scalar x → ⊥) → is_string (arranged (tree f i)) ≡ false
+  unfolding arranged
+  other_kind other = by s.inside refl
     where
-      by : (k : NodeKind) → n.kind ≡ k → ((content : _) → k ≡ kinds.Scalar content → ⊥) → is_string (arranged (tree g i)) ≡ false
-      by (kinds.Scalar content) e f = absurd (f content refl)
-      by (kinds.Sequence items) e f = ap is_string (sequence-there g r are i n there items items.items e refl)
-      by (kinds.Mapping entries) e f = ap is_string (mapping-there g r are i n there entries _ e refl)
+      by : (x : Inside NodeId) → s.inside ≡ x → is_string (arranged (tree f i)) ≡ false
+      by (shown.Scalar x) e = absurd (other x e)
+      by (shown.Sequence xs) e = ap (λ t. is_string (arranged t)) (tree-shown f are i s there (shown.Sequence xs) e)
+      by (shown.Mapping xs) e = ap (λ t. is_string (arranged t)) (tree-shown f are i s there (shown.Mapping xs) e)
 
 module _ (t : Tree) (x old : List ℕ) (limit limit' : ℕ) (why : Unsaid) (stop : Stop) (n : IsName t x) (is : why ≡ Stopped stop) (same : limit' ≡ limit) where
   -- what an error says of a key

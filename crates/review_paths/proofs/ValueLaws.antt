@@ -1,6 +1,7 @@
 -- Values of JSON that are written piece by piece.
 use Rattle.std.proofs.Common.{◌≡◌, ◌&&◌, ℕ, ◌+◌, ◌<◌, ◌≤◌, true, List, ◌++◌, length, map, drop, get_or, refl, sym, ◌∙◌, ap, ap₂, subst, add-one}
-use Rattle.std.specs.Prelude.{bytes_eq, codes}
+use Rattle.std.specs.Prelude.{Some, bytes_eq, codes}
+use Rattle.std.specs.List.{slice_get}
 use Rattle.std.proofs.Math.ListN.{drop_of_length-le}
 use Rattle.std.proofs.lemmas.List.{append_assoc}
 use Rattle.yaml_definitions.specs.model.Tree.{Tree, Trees, Pairs, scalar, sequence, mapping}
@@ -8,7 +9,7 @@ use Rattle.yaml_definitions.specs.model.Tag.{str_tag, seq_tag, map_tag}
 use Rattle.yaml_tree.specs.TreeLists.{trees, pairs}
 use Rattle.yaml_show_scalar.specs.Escapes.{quoted}
 use Rattle.yaml_show_scalar.specs.declared.escapes.Language.TheVariants.{Json}
-use Rattle.review_text.proofs.Pieces.{drop_next}
+use Rattle.review_text.proofs.Pieces.{drop_next, drop_at}
 use Rattle.review_paths.specs.Values.{comma, name_json, value_json, items_json, entries_json, items_have_json, entries_have_json, IsName, Says, SaysKey, SaysItems, SaysEntries}
 
 -- ---- items, from a place on
@@ -60,20 +61,20 @@ module _ {X : Type 0} (f : X → Tree × Tree) (xs : List X) where
       (o ++ (entries_left i ++ codes "}") ≡ old ++ (codes "{" ++ (entries_left 0 ++ codes "}")))
       × (entries_have_json (pairs (map f (drop i xs))) ≡ true → entries_have_json (pairs (map f xs)) ≡ true)
 
-  pub entries_split : (i : ℕ) (d : X) → i < length xs → entries_left i ≡ comma i ++ (name_json (f (get_or xs i d)).0 ++ (codes ":" ++ (value_json (f (get_or xs i d)).1 ++ entries_left (i + 1))))
+  pub entries_split : (i : ℕ) (d : X) → slice_get xs i ≡ Some d → entries_left i ≡ comma i ++ (name_json (f d).0 ++ (codes ":" ++ (value_json (f d).1 ++ entries_left (i + 1))))
   entries_split i d l =
-      ap (λ z. entries_json i (pairs (map f z))) (drop_next xs i d l)
-      ∙ ap (λ z. comma i ++ (name_json (f (get_or xs i d)).0 ++ (codes ":" ++ (value_json (f (get_or xs i d)).1 ++ entries_json z (pairs (map f (drop (i + 1) xs))))))) (sym (add-one i))
+      ap (λ z. entries_json i (pairs (map f z))) (drop_at xs i d l)
+      ∙ ap (λ z. comma i ++ (name_json (f d).0 ++ (codes ":" ++ (value_json (f d).1 ++ entries_json z (pairs (map f (drop (i + 1) xs))))))) (sym (add-one i))
 
   pub entries_first : (old a : List ℕ) → a ≡ old ++ codes "{" → EntriesAt 0 old a
   entries_first old a e = (ap (λ z. z ++ (entries_left 0 ++ codes "}")) e ∙ append_assoc old (codes "{") (entries_left 0 ++ codes "}"), λ h. h)
 
-  pub entries_step : (i : ℕ) (d : X) (old o a b c : List ℕ) → i < length xs → EntriesAt i old o → a ≡ o ++ comma i → SaysKey (f (get_or xs i d)).0 a b → Says (f (get_or xs i d)).1 b c → EntriesAt (i + 1) old c
+  pub entries_step : (i : ℕ) (d : X) (old o a b c : List ℕ) → slice_get xs i ≡ Some d → EntriesAt i old o → a ≡ o ++ comma i → SaysKey (f d).0 a b → Says (f d).1 b c → EntriesAt (i + 1) old c
   entries_step i d old o a b c l h e n k =
       let C = comma i in
-      let K = name_json (f (get_or xs i d)).0 in
+      let K = name_json (f d).0 in
       let S = codes ":" in
-      let V = value_json (f (get_or xs i d)).1 in
+      let V = value_json (f d).1 in
       let L = entries_left (i + 1) in
       let R = codes "}" in (
         ap (λ z. z ++ (L ++ R)) (k.0 ∙ ap (λ z. z ++ V) (n.0 ∙ ap (λ z. z ++ (K ++ S)) e))
@@ -81,7 +82,7 @@ module _ {X : Type 0} (f : X → Tree × Tree) (xs : List X) where
             ∙ ap (λ z. o ++ (C ++ z)) (append_assoc K S (V ++ (L ++ R)))
             ∙ ap (λ z. o ++ z) (sym (ap (λ z. z ++ R) (entries_split i d l) ∙ append_assoc C (K ++ (S ++ (V ++ L))) R ∙ ap (λ z. C ++ z) (append_assoc K (S ++ (V ++ L)) R ∙ ap (λ z. K ++ (S ++ z)) (append_assoc V L R))))
             ∙ h.0,
-        λ m. h.1 (ap (λ z. entries_have_json (pairs (map f z))) (drop_next xs i d l) ∙ ap₂ ◌&&◌ n.1 (ap₂ ◌&&◌ k.1 m)),
+        λ m. h.1 (ap (λ z. entries_have_json (pairs (map f z))) (drop_at xs i d l) ∙ ap₂ ◌&&◌ n.1 (ap₂ ◌&&◌ k.1 m)),
       )
 
   pub entries_end : (i : ℕ) (old o a : List ℕ) → length xs ≤ i → EntriesAt i old o → a ≡ o ++ codes "}" → SaysEntries (pairs (map f xs)) old a
@@ -90,17 +91,17 @@ module _ {X : Type 0} (f : X → Tree × Tree) (xs : List X) where
 
 -- ---- whole nodes
 
-pub scalar_says : (g x h y old new : List ℕ) (t : Tree) → t ≡ scalar h y → g ≡ h → x ≡ y → Says (scalar g x) old new → Says t old new
-scalar_says g x h y old new t e p q k = subst (λ z. Says z old new) (ap₂ scalar p q ∙ sym e) k
+pub scalar_says : (g x old new : List ℕ) (t : Tree) → t ≡ scalar g x → Says (scalar g x) old new → Says t old new
+scalar_says g x old new t e k = subst (λ z. Says z old new) (sym e) k
 
-pub sequence_says : (g h old new : List ℕ) (ts : Trees) (t : Tree) → t ≡ sequence h ts → g ≡ h → bytes_eq g seq_tag ≡ true → SaysItems ts old new → Says t old new
-sequence_says g h old new ts t e p b k = subst (λ z. Says z old new) (ap (λ z. sequence z ts) p ∙ sym e) (k.0, ap₂ ◌&&◌ b k.1)
+pub sequence_says : (g old new : List ℕ) (ts : Trees) (t : Tree) → t ≡ sequence g ts → bytes_eq g seq_tag ≡ true → SaysItems ts old new → Says t old new
+sequence_says g old new ts t e b k = subst (λ z. Says z old new) (sym e) (k.0, ap₂ ◌&&◌ b k.1)
 
-pub mapping_says : (g h old new : List ℕ) (ps : Pairs) (t : Tree) → t ≡ mapping h ps → g ≡ h → bytes_eq g map_tag ≡ true → SaysEntries ps old new → Says t old new
-mapping_says g h old new ps t e p b k = subst (λ z. Says z old new) (ap (λ z. mapping z ps) p ∙ sym e) (k.0, ap₂ ◌&&◌ b k.1)
+pub mapping_says : (g old new : List ℕ) (ps : Pairs) (t : Tree) → t ≡ mapping g ps → bytes_eq g map_tag ≡ true → SaysEntries ps old new → Says t old new
+mapping_says g old new ps t e b k = subst (λ z. Says z old new) (sym e) (k.0, ap₂ ◌&&◌ b k.1)
 
-pub name_is : (g x h y : List ℕ) (t : Tree) → t ≡ scalar h y → g ≡ h → x ≡ y → bytes_eq g str_tag ≡ true → IsName t x
-name_is g x h y t e p q b = subst (λ z. IsName z x) (ap₂ scalar p q ∙ sym e) (refl, b)
+pub name_is : (g x : List ℕ) (t : Tree) → t ≡ scalar g x → bytes_eq g str_tag ≡ true → IsName t x
+name_is g x t e b = subst (λ z. IsName z x) (sym e) (refl, b)
 
 pub key_says : (t : Tree) (x old a new : List ℕ) → IsName t x → a ≡ old ++ quoted Json x → new ≡ a ++ codes ":" → SaysKey t old new
 key_says t x old a new n e h = (h ∙ ap (λ z. z ++ codes ":") (e ∙ ap (λ z. old ++ z) (sym n.0)) ∙ append_assoc old (name_json t) (codes ":"), n.1)

@@ -32,6 +32,7 @@ pub(crate) fn content_of<'b>(forests: &'b RankedForests<'_>, key: NodeId) -> Opt
     let Some(shown) = forests.get(key) else {
         return None;
     };
+    forests.laws();
     match shown.inside {
         Inside::Scalar(content) => {
             if is_str(shown.tag) {

@@ -108,6 +108,7 @@ fn name_of<'b>(forests: &'b RankedForests<'_>, key: NodeId) -> Option<&'b str>
     let Some(shown) = forests.get(key) else {
         return None;
     };
+    forests.laws();
     match shown.inside {
         Inside::Scalar(content) => {
             if is_string(shown.tag) {

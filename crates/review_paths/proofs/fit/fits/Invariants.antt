@@ -5,4 +5,4 @@ use Rattle.review_paths.specs.Pasted.{fits_step}
 use Rattle.review_paths.proofs.fit.fits.Given as goal
 
 abbrev pub invariant-steps : goal.invariant-steps
-invariant-steps l = l.all ≡ list_all (λ s. fits_step (step_of l.both.graph s)) (map (λ s. s.now) l.yielded)
+invariant-steps l = l.all ≡ list_all (λ s. fits_step (step_of l.forests s)) (map (λ s. s.now) l.yielded)

@@ -6,4 +6,4 @@ use Rattle.review_paths.specs.Pasted.{pasted_step}
 use Rattle.review_paths.proofs.step.put_steps.Given as goal
 
 abbrev pub invariant-steps : goal.invariant-steps
-invariant-steps l = string_bytes l.out ≡ string_bytes l.fn.out ++ flat_map (λ s. pasted_step l.is_filter l.is_left (step_of l.both.graph s)) (map (λ s. s.now) l.yielded)
+invariant-steps l = string_bytes l.out ≡ string_bytes l.fn.out ++ flat_map (λ s. pasted_step l.is_filter l.is_left (step_of l.forests s)) (map (λ s. s.now) l.yielded)

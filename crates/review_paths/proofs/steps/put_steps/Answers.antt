@@ -15,7 +15,7 @@ steps-init c = sym (append-nil _)
 
 pub steps-preserved : goal.steps-preserved
 steps-preserved c =
-    let f : code.Step → List ℕ = λ s. next_json (step_of c.args.both.now.graph s) in
+    let f : code.Step → List ℕ = λ s. next_json (step_of c.args.forests.now s) in
     let o = string_bytes c.put_step.new.out in
     step_more f o _ _ (map (λ s. s.now) c.steps.yielded) c.in-Some-step.step.now c.steps.invariant c.in_ok-put_next.ensures.ok ∙ ap (λ z. o ++ flat_map f z) (sym (map-append (λ s. s.now) c.steps.yielded (c.in-Some-step.step ∷ [])))
 
@@ -23,7 +23,7 @@ pub returns : goal.returns
 returns c = record {
   ok = (
       let t = YieldsList-end (YieldsList-from_rev_slice c.in-Some.steps.now cc) c.steps.yielded _ c.steps.yielded_by _ _ c.in-None.is c.next.ensures.steps in
-      let g = c.args.both.now.graph in
+      let g = c.args.forests.now in
       let d = c.in-Some.document.now in
       let split : c.args.path.now ≡ c.in-Some.steps.now ++ (d ∷ []) = search rules in
       steps_written g c.args.path.now c.in-Some.steps.now (map (λ s. s.now) c.steps.yielded) d _ _ _ split t.0 c.in_ok-put_step.ensures.ok c.steps.invariant);

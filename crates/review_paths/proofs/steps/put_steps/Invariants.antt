@@ -6,4 +6,4 @@ use Rattle.review_paths.specs.Json.{next_json}
 use Rattle.review_paths.proofs.steps.put_steps.Given as goal
 
 abbrev pub invariant-steps : goal.invariant-steps
-invariant-steps l = string_bytes l.out ≡ string_bytes l.initial.out ++ flat_map (λ s. next_json (step_of l.both.graph s)) (map (λ s. s.now) l.yielded)
+invariant-steps l = string_bytes l.out ≡ string_bytes l.initial.out ++ flat_map (λ s. next_json (step_of l.forests s)) (map (λ s. s.now) l.yielded)
