@@ -4,4 +4,5 @@ mod Lists
 mod NodeLaws
 mod LayoutLaws
 mod AliasLaws
+mod RankLaws
 mod SeatLaws
