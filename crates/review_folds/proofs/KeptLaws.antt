@@ -1,6 +1,6 @@
 -- Differences and moves that are kept one by one.
 use Rattle.std.proofs.Common.{◌≡◌, ℕ, zero, suc, Bool, true, false, ◌&&◌, nat_le, nat_lt, List, [], ◌∷◌, ◌++◌, length, take, refl, ◌∙◌, ap, arith}
-use Rattle.yaml_graph.specs.declared.graph.Graph.{Graph}
+use Rattle.yaml_store_rank.specs.Forests.{Forests}
 use Rattle.yaml_diff.specs.declared.difference.Difference.{Difference}
 use Rattle.yaml_diff.specs.declared.difference.Move.{Move}
 use Rattle.yaml_diff.specs.declared.difference.Step as code
@@ -10,17 +10,17 @@ use Rattle.review_folds.specs.Ignored.{is_ignored, outside, moves_outside}
 -- ---- without patterns
 
 -- none is ignored
-pub none_ignored : (g : Graph) (ps : List Pattern) (path : List code.Step) (answer : Bool) → length ps ≡ 0 → answer ≡ false → answer ≡ is_ignored g ps path
+pub none_ignored : (g : Forests) (ps : List Pattern) (path : List code.Step) (answer : Bool) → length ps ≡ 0 → answer ≡ false → answer ≡ is_ignored g ps path
 none_ignored g [] path answer n e = e
 none_ignored g (p ∷ ps) path answer n e = absurd (omega (arith, n))
 
 -- so all are kept
-pub outside_none : (g : Graph) (ps : List Pattern) (ds : List Difference) → ps ≡ [] → outside g ps ds ≡ ds
+pub outside_none : (g : Forests) (ps : List Pattern) (ds : List Difference) → ps ≡ [] → outside g ps ds ≡ ds
 outside_none g [] [] e = refl
 outside_none g [] (d ∷ ds) e = ap (λ z. d ∷ z) (outside_none g [] ds refl)
 outside_none g (p ∷ ps) ds e = absurd (cc)
 
-pub moves_none : (g : Graph) (ps : List Pattern) (ms : List Move) → ps ≡ [] → moves_outside g ps ms ≡ ms
+pub moves_none : (g : Forests) (ps : List Pattern) (ms : List Move) → ps ≡ [] → moves_outside g ps ms ≡ ms
 moves_none g [] [] e = refl
 moves_none g [] (m ∷ ms) e = ap (λ z. m ∷ z) (moves_none g [] ms refl)
 moves_none g (p ∷ ps) ms e = absurd (cc)

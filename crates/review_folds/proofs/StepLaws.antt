@@ -1,7 +1,7 @@
 -- The steps of paths as texts.
 use Rattle.std.proofs.Common.{◌≡◌, List, [], ◌∷◌, ◌++◌, ℕ, map, reverse, true, refl, sym, ◌∙◌, ap}
 use Rattle.std.proofs.lemmas.List.{append-nil, append_assoc, map-append, reverse-append}
-use Rattle.yaml_graph.specs.declared.graph.Graph.{Graph}
+use Rattle.yaml_store_rank.specs.Forests.{Forests}
 use Rattle.yaml_diff.specs.Lines.{step_of, way_of}
 use Rattle.yaml_diff.specs.declared.difference.Step as code
 use Rattle.review_text.specs.Hidden.{visible}
@@ -13,22 +13,22 @@ map_reverse f [] = refl
 map_reverse f (x ∷ xs) = ap (map f) (reverse-append (x ∷ []) xs) ∙ map-append f (reverse xs) (x ∷ []) ∙ ap (λ z. z ++ (f x ∷ [])) (map_reverse f xs) ∙ sym (reverse-append (f x ∷ []) (map f xs))
 
 -- a path begins with its last step
-way_split : (g : Graph) (steps : List code.Step) (s : code.Step) → way_of g (steps ++ (s ∷ [])) ≡ step_of g s ∷ map (step_of g) (reverse steps)
+way_split : (g : Forests) (steps : List code.Step) (s : code.Step) → way_of g (steps ++ (s ∷ [])) ≡ step_of g s ∷ map (step_of g) (reverse steps)
 way_split g steps s = ap reverse (map-append (step_of g) steps (s ∷ [])) ∙ reverse-append (map (step_of g) steps) (step_of g s ∷ []) ∙ ap (λ z. step_of g s ∷ z) (sym (map_reverse (step_of g) steps))
 
 -- a path of one step
-pub one_step : (g : Graph) (s : code.Step) → path_text true (way_of g (s ∷ [])) ≡ first_text (step_of g s)
+pub one_step : (g : Forests) (s : code.Step) → path_text true (way_of g (s ∷ [])) ≡ first_text (step_of g s)
 one_step g s = append-nil (first_text (step_of g s))
 
-abbrev pub written : Graph → code.Step → List ℕ
+abbrev pub written : Forests → code.Step → List ℕ
 written g s = visible (step_text (step_of g s))
 
-by_map : (g : Graph) (xs : List code.Step) → map (written g) xs ≡ map (λ t. visible (step_text t)) (map (step_of g) xs)
+by_map : (g : Forests) (xs : List code.Step) → map (written g) xs ≡ map (λ t. visible (step_text t)) (map (step_of g) xs)
 by_map g [] = refl
 by_map g (x ∷ xs) = ap (λ z. written g x ∷ z) (by_map g xs)
 
 -- all steps of a path are written
-pub all_written : (g : Graph) (path steps seen : List code.Step) (s : code.Step) (first texts : List (List ℕ)) → path ≡ steps ++ (s ∷ []) → seen ≡ reverse steps → first ≡ visible (first_text (step_of g s)) ∷ [] → texts ≡ first ++ map (written g) seen
+pub all_written : (g : Forests) (path steps seen : List code.Step) (s : code.Step) (first texts : List (List ℕ)) → path ≡ steps ++ (s ∷ []) → seen ≡ reverse steps → first ≡ visible (first_text (step_of g s)) ∷ [] → texts ≡ first ++ map (written g) seen
     → texts ≡ texts_of (way_of g path)
 all_written g path steps seen s first texts e q h k =
     k ∙ ap (λ z. z ++ map (written g) seen) h ∙ ap (λ z. visible (first_text (step_of g s)) ∷ z) (by_map g seen ∙ ap (λ z. map (λ t. visible (step_text t)) (map (step_of g) z)) q)

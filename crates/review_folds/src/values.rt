@@ -27,7 +27,7 @@ pub(crate) fn rank_at(forests: &RankedForests<'_>, id: NodeId) -> Option<u32>
 }
 
 /// The value of the keys of this rank in a mapping. Another node has none.
-#[tactic(auto, using(crate::proofs::ValueLaws::key_none, crate::proofs::ValueLaws::value_by, crate::proofs::ValueLaws::past_part, crate::proofs::ValueLaws::value_within))]
+#[tactic(auto, using(crate::proofs::ValueLaws::key_none, crate::proofs::ValueLaws::value_by, crate::proofs::ValueLaws::no_part, crate::proofs::ValueLaws::value_within))]
 pub(crate) fn value_in(
     forests: &RankedForests<'_>,
     node: NodeId,

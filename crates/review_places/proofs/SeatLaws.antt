@@ -1,5 +1,5 @@
 -- Where a path leads, step by step.
-use Rattle.std.proofs.Common.{◌≡◌, ℕ, ◌+◌, ◌*◌, ◌<◌, ◌≤◌, ◌&&◌, Bool, not, List, [], ◌∷◌, map, refl, sym, ◌∙◌, ap, subst, arith}
+use Rattle.std.proofs.Common.{◌≡◌, ℕ, ◌+◌, ◌*◌, ◌<◌, ◌≤◌, ◌&&◌, Bool, not, List, [], ◌∷◌, length, map, refl, sym, ◌∙◌, ap, subst, arith}
 use Rattle.std.specs.Prelude.{Option, Some, None, IfSome, IfNone, option_map}
 use Rattle.std.specs.List.{slice_get}
 use Rattle.std.proofs.lemmas.Option.{slice_get-get_or, slice_get_past}
@@ -116,7 +116,7 @@ module _ (f : Forests) (stream : Stream) (layout : Layout) where
       let v : step ≡ other = cc in
       let g : path ≡ there = cc in
       let i = leads-one are path there node from event at own so g l k in
-      let h : IsPart f stream layout other from at a m = subst (λ z. IsPart f stream layout z from at a m) f (subst (λ z. IsPart f stream layout step z at a m) i.0 (subst (λ z. IsPart f stream layout step node z a m) i.1 p)) in
+      let h : IsPart f stream layout other from at a m = subst (λ z. IsPart f stream layout z from at a m) v (subst (λ z. IsPart f stream layout step z at a m) i.0 (subst (λ z. IsPart f stream layout step node z a m) i.1 p)) in
       part-one are other from a b at m n h q
 
   -- ---- one more step
@@ -143,12 +143,16 @@ module _ (f : Forests) (stream : Stream) (layout : Layout) where
   pub ends-empty : EndsNowhere f stream layout []
   ends-empty = λ node event own l. nowhere [] node event own refl l
 
-  pub ends-first : (path : List Step) (step : Step) → path ≡ [] → ((node : NodeId) (event : ℕ) → IsRoot f stream layout step node event → ⊥) → EndsNowhere f stream layout (step ∷ path)
+  pub ends-first : (path : List Step) (step : Step) → length path ≡ 0 → ((node : NodeId) (event : ℕ) → IsRoot f stream layout step node event → ⊥) → EndsNowhere f stream layout (step ∷ path)
   ends-first path step e none = λ node event own l. by (step ∷ path) node event own refl l
     where
+      empty : (path : List Step) → length path ≡ 0 → path ≡ []
+      empty [] e = refl
+      empty (s ∷ path) e = absurd (omega (arith, e))
+
       by : (p : List Step) (node : NodeId) (event : ℕ) (own : Bool) → p ≡ step ∷ path → Leads f stream layout p node event own → ⊥
       by _ _ _ _ q (document {step = other} {node} {event} r) = none node event (let g : other ≡ step = cc in subst (λ z. IsRoot f stream layout z node event) g r)
-      by _ _ _ _ q (further {path = above} {node} {event} {own} l p) = nowhere above node event own (cc) l
+      by _ _ _ _ q (further {path = above} {node} {event} {own} l p) = let g : above ≡ path = cc in nowhere above node event own (g ∙ empty path e) l
 
   pub ends-above : (path : List Step) (step : Step) → (path ≡ [] → ⊥) → EndsNowhere f stream layout path → EndsNowhere f stream layout (step ∷ path)
   ends-above path step d none = λ part below own l. let b = before (step ∷ path) path step part below own refl l d in none b.0 b.1 b.2 b.3

@@ -1,7 +1,8 @@
 //! Where the nodes of differences stand.
-ghost use Rattle.std.specs.Prelude.{◌≡◌, ◌<◌, ◌+◌, ◌*◌, ◌∷◌, [], ℕ, Some, None, length, map, nat_lt, slice_get, option_map, IfSome, IfNone};
+ghost use Rattle.std.specs.Prelude.{◌≡◌, ◌<◌, ◌+◌, ◌*◌, ◌∷◌, [], ℕ, Some, None, length, nat_lt, slice_get, option_map, IfSome, IfNone};
 ghost use Rattle.yaml_tree.specs.declared.node.NodeId.{NodeId};
 ghost use Rattle.yaml_store_rank.specs.Forests.{count, entries_at};
+ghost use Rattle.yaml_store_rank.specs.KeyOrder.{number_pairs};
 ghost use Rattle.review_places.specs.Layout.{offsets_of, alias_events, node_numbers, node_told};
 ghost use Rattle.review_places.specs.Seats.{layout_of, forests_of, place_on, IsValue, LeadsDown, IsRoot, IsPart, IsEnd, EndsNowhere, IsSeat, HasNoSeat};
 
@@ -100,7 +101,7 @@ impl<'g> Finder<'g> {
         key: NodeId,
     ) -> Option<(NodeId, usize)>
         requires within { mapping.0 < count (forests_of self.now) }
-        requires entries { map (λ p. (p.0.0, p.1.0)) entries.now ≡ entries_at (forests_of self.now) mapping.0 }
+        requires entries { number_pairs entries.now ≡ entries_at (forests_of self.now) mapping.0 }
         ensures some { IfSome result (λ value. IsValue (forests_of self.now) mapping key value.0 value.1) }
         ensures none { IfNone result ((part : NodeId) (number : ℕ) → IsValue (forests_of self.now) mapping key part number → ⊥) }
     {

@@ -6,7 +6,7 @@ use Rattle.review_folds.proofs.keep.differences_outside.Goals as goal
 
 pub loop-difference-preserved-in_ok-push : goal.loop-difference-preserved-in_ok-push
 loop-difference-preserved-in_ok-push c =
-    let g = c.args.both.now.graph in
+    let g = c.args.forests.now in
     let ps = c.args.patterns.now in
     let d = c.in-Some.difference in
     let ys = c.loop-difference.yielded in
@@ -21,7 +21,7 @@ loop-difference-preserved-in_ok-push c =
 
 pub loop-difference-preserved : goal.loop-difference-preserved
 loop-difference-preserved c =
-    let g = c.args.both.now.graph in
+    let g = c.args.forests.now in
     let ps = c.args.patterns.now in
     let d = c.in-Some.difference in
     let ys = c.loop-difference.yielded in

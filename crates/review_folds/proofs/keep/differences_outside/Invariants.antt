@@ -6,5 +6,5 @@ use Rattle.review_folds.proofs.keep.differences_outside.Given as goal
 abbrev pub invariant-loop-difference : goal.invariant-loop-difference
 invariant-loop-difference l = record {
   all : l.yielded ++ into_iter_items l.difference-iterator ≡ l.fn.list.items;
-  kept : l.kept.items ≡ outside l.both.graph l.patterns l.yielded;
+  kept : l.kept.items ≡ outside l.forests l.patterns l.yielded;
 }

@@ -6,7 +6,7 @@ use Rattle.review_folds.proofs.keep.moves_outside.Goals as goal
 
 pub loop-one-preserved-in_ok-push : goal.loop-one-preserved-in_ok-push
 loop-one-preserved-in_ok-push c =
-    let g = c.args.both.now.graph in
+    let g = c.args.forests.now in
     let ps = c.args.patterns.now in
     let d = c.in-Some.one in
     let ys = c.loop-one.yielded in
@@ -21,7 +21,7 @@ loop-one-preserved-in_ok-push c =
 
 pub loop-one-preserved : goal.loop-one-preserved
 loop-one-preserved c =
-    let g = c.args.both.now.graph in
+    let g = c.args.forests.now in
     let ps = c.args.patterns.now in
     let d = c.in-Some.one in
     let ys = c.loop-one.yielded in

@@ -6,5 +6,5 @@ use Rattle.review_folds.proofs.keep.moves_outside.Given as goal
 abbrev pub invariant-loop-one : goal.invariant-loop-one
 invariant-loop-one l = record {
   all : l.yielded ++ into_iter_items l.one-iterator ≡ l.fn.moves.items;
-  kept : l.kept.items ≡ moves_outside l.both.graph l.patterns l.yielded;
+  kept : l.kept.items ≡ moves_outside l.forests l.patterns l.yielded;
 }

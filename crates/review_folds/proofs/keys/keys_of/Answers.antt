@@ -3,5 +3,5 @@ use Rattle.review_folds.proofs.KeyLaws.{each_next}
 use Rattle.review_folds.proofs.keys.keys_of.Goals as goal
 
 pub loop-text-preserved : goal.loop-text-preserved
-loop-text-preserved c are =
-    each_next (λ text. text.now) c.args.both.now c.args.texts.now c.loop-text.keys.items _ c.loop-text.text-index _ _ _ (omega arith) refl (c.loop-text.invariant are) (c.key_of.ensures are) c.in_ok-push.ensures.items
+loop-text-preserved c =
+    each_next (λ text. text.now) c.args.forests.now c.args.texts.now c.loop-text.keys.items _ c.loop-text.text-index _ _ _ (omega arith) refl c.loop-text.invariant c.key_of.ensures c.in_ok-push.ensures.items

@@ -1,7 +1,6 @@
 use Rattle.std.proofs.Common.{take, map}
-use Rattle.yaml_rank.specs.RanksView.{RanksAre}
 use Rattle.review_folds.specs.Labels.{AreEach}
 use Rattle.review_folds.proofs.keys.keys_of.Given as goal
 
 abbrev pub invariant-loop-text : goal.invariant-loop-text
-invariant-loop-text l = RanksAre l.both.graph l.both.ranks → AreEach l.both (map (λ text. text.now) (take l.text-index l.texts)) l.keys.items
+invariant-loop-text l = AreEach l.forests (map (λ text. text.now) (take l.text-index l.texts)) l.keys.items

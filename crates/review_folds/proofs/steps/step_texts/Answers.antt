@@ -15,7 +15,7 @@ pub returns : goal.returns
 returns c = record {
   ok = (
       let t = YieldsList-end (YieldsList-from_rev_slice c.in-Some.steps.now cc) c.steps.yielded _ c.steps.yielded_by _ _ c.in-None.is c.next.ensures.steps in
-      let g = c.args.both.now.graph in
+      let g = c.args.forests.now in
       let d = c.in-Some.document.now in
       let split : c.args.path.now ≡ c.in-Some.steps.now ++ (d ∷ []) = search rules in
       let first : map string_bytes c.push.new.self.items ≡ visible (first_text (step_of g d)) ∷ [] = search rules in

@@ -1,4 +1,5 @@
-use Rattle.std.proofs.Common.{◌≡◌, ◌∷◌, [], ◌&&◌, not, refl, sym, ◌∙◌, ap, subst, rules, tests}
+use Rattle.std.specs.Prelude.{IfNone}
+use Rattle.std.proofs.Common.{◌≡◌, ◌∷◌, [], ◌&&◌, not, length, refl, sym, ◌∙◌, ap, subst, rules, tests}
 use Rattle.review_places.specs.Layout.{is_alias_event}
 use Rattle.review_places.specs.Seats.{forests_of, IsEnd, EndsNowhere}
 use Rattle.review_places.proofs.SeatLaws.{if_none, end-further, ends-first, ends-here}
@@ -13,11 +14,21 @@ returns-then-is_empty-clause-none t c =
     let step = c.in_ok-step.step.now in
     let rest = c.in_ok-step.rest.now in
     let path : c.args.path.now ≡ step ∷ rest = search rules in
-    let none : rest ≡ [] = search rules in
+    let none : length rest ≡ 0 = search rules in
     if_none c.begin.result c.begin.ensures.none (λ h. subst (EndsNowhere f stream layout) (sym path) (ends-first f stream layout rest step none h))
 
 pub returns-in_err-part-clause-none : goal.returns-in_err-part-clause-none
-returns-in_err-part-clause-none t c = ?
+returns-in_err-part-clause-none t c =
+    let f = forests_of c.args.self.now in
+    let stream = c.args.self.now.stream in
+    let layout = c.args.self.now.layout in
+    let above = c.in_ok-above.above in
+    let step = c.in_ok-step.step.now in
+    let rest = c.in_ok-step.rest.now in
+    let path : c.args.path.now ≡ step ∷ rest = search rules in
+    let some : rest ≡ [] → ⊥ = λ q. search (rules, tests) in
+    let ends = ends-here f stream layout c.laws.ensures rest step above.0 above.1 above.2 some c.in_ok-above.ensures.leads c.in_err-part.ensures.none in
+    subst (λ z. IfNone z (EndsNowhere f stream layout c.args.path.now)) (sym c.from_residual-in_err-part.ensures) (subst (EndsNowhere f stream layout) (sym path) ends)
 
 pub returns-clause-leads : goal.returns-clause-leads
 returns-clause-leads t c =
