@@ -144,9 +144,9 @@ in-back n m back e d two all bl br ee dd ea i j k l p q =
     ap (λ v. slice_get v (length two + (back - suc i))) ea ∙ get-behind two (turns e d (n - e) (m - d)) (back - suc i) (Both j k) w
 
 -- the three parts of a list
-pub aligned : (g : Forests) (lefts rights : List NodeId) (front back e d : ℕ) (one two all : List Places) → IsFront r lefts rights front → IsBack r lefts rights front back → e ≡ length lefts - back → d ≡ length rights - back
-    → one ≡ [] ++ turns 0 0 (front - 0) (front - 0) → AlignsFrom one front front e d two → all ≡ two ++ turns e d (length lefts - e) (length rights - d) → Aligns r lefts rights all []
-aligned r lefts rights front back e d one two all f b ee dd eo at ea = record {
+pub aligned : (g : Forests) (lefts rights : List NodeId) (front back e d : ℕ) (one two all : List Places) → IsFront g lefts rights front → IsBack g lefts rights front back → e ≡ length lefts - back → d ≡ length rights - back
+    → one ≡ [] ++ turns 0 0 (front - 0) (front - 0) → AlignsFrom one front front e d two → all ≡ two ++ turns e d (length lefts - e) (length rights - d) → Aligns g lefts rights all []
+aligned g lefts rights front back e d one two all f b ee dd eo at ea = record {
   left = takes-each left_place all (length lefts) lefts-rise;
   right = takes-each right_place all (length rights) rights-rise;
   settles = rising-settles all (length lefts) (length rights) lefts-rise rights-rise;
@@ -190,37 +190,37 @@ below-next (suc k) zero l = absurd (omega (arith, l))
 below-next (suc k) (suc n) l = elim (below-next k n (omega (arith, l))) [ inl a ↦ inl (omega (arith, a)) | inr e ↦ inr (ap suc e) ]
 
 module _ (g : Forests) (lefts rights : List NodeId) where
-  pub same-here : (j k : ℕ) → j < length lefts → k < length rights → rank r (get_or lefts j (record { 0 = 0 })).0 ≡ rank r (get_or rights k (record { 0 = 0 })).0 → SameRanks r lefts rights j k
+  pub same-here : (j k : ℕ) → j < length lefts → k < length rights → rank g (get_or lefts j (record { 0 = 0 })).0 ≡ rank g (get_or rights k (record { 0 = 0 })).0 → SameRanks g lefts rights j k
   same-here j k l m e = (get_or lefts j (record { 0 = 0 }), get_or rights k (record { 0 = 0 }), slice_get-get_or lefts j (record { 0 = 0 }) l, slice_get-get_or rights k (record { 0 = 0 }) m, e)
 
-  pub here-same : (j k : ℕ) → SameRanks r lefts rights j k → rank r (get_or lefts j (record { 0 = 0 })).0 ≡ rank r (get_or rights k (record { 0 = 0 })).0
+  pub here-same : (j k : ℕ) → SameRanks g lefts rights j k → rank g (get_or lefts j (record { 0 = 0 })).0 ≡ rank g (get_or rights k (record { 0 = 0 })).0
   here-same j k s =
       let x : get_or lefts j (record { 0 = 0 }) ≡ s.0 = get_or_from_slice_get lefts j s.0 (record { 0 = 0 }) s.2 in
       let y : get_or rights k (record { 0 = 0 }) ≡ s.1 = get_or_from_slice_get rights k s.1 (record { 0 = 0 }) s.3 in
-      ap (λ z. rank r z.0) x ∙ s.4 ∙ ap (λ z. rank r z.0) (sym y)
+      ap (λ z. rank g z.0) x ∙ s.4 ∙ ap (λ z. rank g z.0) (sym y)
 
-  pub left-within : (j k : ℕ) → SameRanks r lefts rights j k → j < length lefts
+  pub left-within : (j k : ℕ) → SameRanks g lefts rights j k → j < length lefts
   left-within j k s = slice_get_within lefts j s.0 s.2
 
-  pub right-within : (j k : ℕ) → SameRanks r lefts rights j k → k < length rights
+  pub right-within : (j k : ℕ) → SameRanks g lefts rights j k → k < length rights
   right-within j k s = slice_get_within rights k s.1 s.3
 
-  pub front-next : (front : ℕ) → SameRanks r lefts rights front front → ((i : ℕ) → i < front → SameRanks r lefts rights i i) → (i : ℕ) → i < front + 1 → SameRanks r lefts rights i i
-  front-next front s f i l = elim (below-next i front l) [ inl a ↦ f i a | inr e ↦ subst (λ z. SameRanks r lefts rights z z) (sym e) s ]
+  pub front-next : (front : ℕ) → SameRanks g lefts rights front front → ((i : ℕ) → i < front → SameRanks g lefts rights i i) → (i : ℕ) → i < front + 1 → SameRanks g lefts rights i i
+  front-next front s f i l = elim (below-next i front l) [ inl a ↦ f i a | inr e ↦ subst (λ z. SameRanks g lefts rights z z) (sym e) s ]
 
-  pub back-next : (left right : ℕ) → 0 < left → 0 < right → left ≤ length lefts → right ≤ length rights → left + length rights ≡ right + length lefts → SameRanks r lefts rights (left - 1) (right - 1)
-      → ((i j k : ℕ) → i < length lefts - left → i + suc j ≡ length lefts → i + suc k ≡ length rights → SameRanks r lefts rights j k) → (i j k : ℕ) → i < length lefts - (left - 1) → i + suc j ≡ length lefts → i + suc k ≡ length rights → SameRanks r lefts rights j k
+  pub back-next : (left right : ℕ) → 0 < left → 0 < right → left ≤ length lefts → right ≤ length rights → left + length rights ≡ right + length lefts → SameRanks g lefts rights (left - 1) (right - 1)
+      → ((i j k : ℕ) → i < length lefts - left → i + suc j ≡ length lefts → i + suc k ≡ length rights → SameRanks g lefts rights j k) → (i j k : ℕ) → i < length lefts - (left - 1) → i + suc j ≡ length lefts → i + suc k ≡ length rights → SameRanks g lefts rights j k
   back-next left right a b m n e s f i j k l p q = elim (below-next i (length lefts - left) (omega (arith, a, l, m))) [
     | inl h ↦ f i j k h p q
     | inr h ↦
         let x : left - 1 ≡ j = omega (arith, a, m, p, h) in
         let y : right - 1 ≡ k = omega (arith, b, m, n, e, q, h) in
-        subst (λ z. SameRanks r lefts rights z k) x (subst (λ z. SameRanks r lefts rights (left - 1) z) y s)
+        subst (λ z. SameRanks g lefts rights z k) x (subst (λ z. SameRanks g lefts rights (left - 1) z) y s)
   ]
 
   pub back-done : (front left right : ℕ) → left ≤ length lefts → right ≤ length rights → front ≤ left → front ≤ right → left + length rights ≡ right + length lefts
-      → ((i j k : ℕ) → i < length lefts - left → i + suc j ≡ length lefts → i + suc k ≡ length rights → SameRanks r lefts rights j k)
-      → (front < left → front < right → SameRanks r lefts rights (left - 1) (right - 1) → ⊥) → IsBack r lefts rights front (length lefts - left)
+      → ((i j k : ℕ) → i < length lefts - left → i + suc j ≡ length lefts → i + suc k ≡ length rights → SameRanks g lefts rights j k)
+      → (front < left → front < right → SameRanks g lefts rights (left - 1) (right - 1) → ⊥) → IsBack g lefts rights front (length lefts - left)
   back-done front left right m n a b e f last = record {
     left = omega (arith, m, a);
     right = omega (arith, m, n, a, b, e);
@@ -228,5 +228,5 @@ module _ (g : Forests) (lefts rights : List NodeId) where
     ends = λ j k p q x y s.
         let u : j ≡ left - 1 = omega (arith, m, p) in
         let v : k ≡ right - 1 = omega (arith, m, n, e, q) in
-        last (omega (arith, m, p, x)) (omega (arith, m, n, e, q, y)) (subst (λ z. SameRanks r lefts rights z (right - 1)) u (subst (λ z. SameRanks r lefts rights j z) v s));
+        last (omega (arith, m, p, x)) (omega (arith, m, n, e, q, y)) (subst (λ z. SameRanks g lefts rights z (right - 1)) u (subst (λ z. SameRanks g lefts rights j z) v s));
   }

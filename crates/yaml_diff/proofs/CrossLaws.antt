@@ -24,9 +24,9 @@ pair_step old new l r n m a b e =
     ap (λ z. places_in z ++ rest) e ∙ ap (λ z. z ++ rest) (map-append place_of old ((Both l r, false) ∷ [])) ∙ step_both (places_in old) l r n m a b
 
 -- steps of three parts that are right: equal fronts, what was put together, and equal backs
-pub crossed : (g : Forests) (lefts rights : List NodeId) (front back e d : ℕ) (one two all middle : List (Places × Bool)) (list moved : List Places) → IsFront r lefts rights front → IsBack r lefts rights front back → e ≡ length lefts - back → d ≡ length rights - back
-    → places_in one ≡ turns 0 0 (front - 0) (front - 0) → two ≡ one ++ middle → places_in all ≡ places_in two ++ turns e d (length lefts - e) (length rights - d) → Checked all list moved (length lefts) (length rights) → Aligns r lefts rights list moved
-crossed r lefts rights front back e d one two all middle list moved f b ee dd eo et ea c = subst (λ z. Aligns r lefts rights z moved) (sym c.all) (record {
+pub crossed : (g : Forests) (lefts rights : List NodeId) (front back e d : ℕ) (one two all middle : List (Places × Bool)) (list moved : List Places) → IsFront g lefts rights front → IsBack g lefts rights front back → e ≡ length lefts - back → d ≡ length rights - back
+    → places_in one ≡ turns 0 0 (front - 0) (front - 0) → two ≡ one ++ middle → places_in all ≡ places_in two ++ turns e d (length lefts - e) (length rights - d) → Checked all list moved (length lefts) (length rights) → Aligns g lefts rights list moved
+crossed g lefts rights front back e d one two all middle list moved f b ee dd eo et ea c = subst (λ z. Aligns g lefts rights z moved) (sym c.all) (record {
   left = left-each all moved (length lefts) (length rights) c.are c.is_right;
   right = right-each all moved (length lefts) (length rights) c.are c.is_right;
   settles = settled all moved (length lefts) (length rights) c.are c.is_right;
@@ -43,8 +43,8 @@ crossed r lefts rights front back e d one two all middle list moved f b ee dd eo
     parts : places_in two ≡ places_in one ++ places_in middle
     parts = ap places_in et ∙ map-append place_of one middle
 
-pub crossed-answer : (g : Forests) (lefts rights : List NodeId) (front back e d : ℕ) (one two all middle : List (Places × Bool)) (answer : Result (Option Aligned) AllocError) → IsFront r lefts rights front → IsBack r lefts rights front back → e ≡ length lefts - back → d ≡ length rights - back
-    → places_in one ≡ turns 0 0 (front - 0) (front - 0) → two ≡ one ++ middle → places_in all ≡ places_in two ++ turns e d (length lefts - e) (length rights - d) → IfOk answer (λ it. IfSome it (λ a. Checked all a.list.items a.moved.items (length lefts) (length rights))) → IfOk answer (λ it. IfSome it (λ a. Aligns r lefts rights a.list.items a.moved.items))
-crossed-answer r lefts rights front back e d one two all middle (Ok (Some a)) f b ee dd eo et ea c = crossed r lefts rights front back e d one two all middle a.list.items a.moved.items f b ee dd eo et ea c
-crossed-answer r lefts rights front back e d one two all middle (Ok None) f b ee dd eo et ea c = tt
-crossed-answer r lefts rights front back e d one two all middle (Err x) f b ee dd eo et ea c = tt
+pub crossed-answer : (g : Forests) (lefts rights : List NodeId) (front back e d : ℕ) (one two all middle : List (Places × Bool)) (answer : Result (Option Aligned) AllocError) → IsFront g lefts rights front → IsBack g lefts rights front back → e ≡ length lefts - back → d ≡ length rights - back
+    → places_in one ≡ turns 0 0 (front - 0) (front - 0) → two ≡ one ++ middle → places_in all ≡ places_in two ++ turns e d (length lefts - e) (length rights - d) → IfOk answer (λ it. IfSome it (λ a. Checked all a.list.items a.moved.items (length lefts) (length rights))) → IfOk answer (λ it. IfSome it (λ a. Aligns g lefts rights a.list.items a.moved.items))
+crossed-answer g lefts rights front back e d one two all middle (Ok (Some a)) f b ee dd eo et ea c = crossed g lefts rights front back e d one two all middle a.list.items a.moved.items f b ee dd eo et ea c
+crossed-answer g lefts rights front back e d one two all middle (Ok None) f b ee dd eo et ea c = tt
+crossed-answer g lefts rights front back e d one two all middle (Err x) f b ee dd eo et ea c = tt

@@ -29,8 +29,8 @@ pub item-count : (g : Forests) (tag : List ℕ) (items : List NodeId) → count 
 item-count g tag [] = refl
 item-count g tag (i ∷ items) = ap suc (item-count g tag items)
 
-pub aligned-takes : (g : Forests) (tag : List ℕ) (lefts rights : List NodeId) (ps moved : List Places) → Aligns r lefts rights ps moved → Takes ps (sequence_of g tag lefts) (sequence_of g tag rights)
-aligned-takes g r tag lefts rights ps moved a = record {
+pub aligned-takes : (g : Forests) (tag : List ℕ) (lefts rights : List NodeId) (ps moved : List Places) → Aligns g lefts rights ps moved → Takes ps (sequence_of g tag lefts) (sequence_of g tag rights)
+aligned-takes g tag lefts rights ps moved a = record {
   lefts = subst (Each left_place ps) (sym (item-count g tag lefts)) a.left;
   rights = subst (Each right_place ps) (sym (item-count g tag rights)) a.right;
 }
@@ -40,18 +40,18 @@ map-some f None x e = absurd (cc)
 map-some f (Some i) x e = (i, refl, cc)
 
 module _ (g : Forests) (are : IsRanked g) (tag : List ℕ) (lefts rights : List NodeId) (wl : AllWithin g lefts) (wr : AllWithin g rights) where
-  same-items : (j k : ℕ) → SameRanks r lefts rights j k → SameItems (sequence_of g tag lefts) (sequence_of g tag rights) j k
+  same-items : (j k : ℕ) → SameRanks g lefts rights j k → SameItems (sequence_of g tag lefts) (sequence_of g tag rights) j k
   same-items j k s =
       (tree_of g s.0, tree_of g s.1, item-here g tag lefts (Some j) ∙ ap (trees_of g) s.2, item-here g tag rights (Some k) ∙ ap (trees_of g) s.3, (are.ranked s.0.0 s.1.0 (wl j s.0 s.2) (wr k s.1 s.3)).0.0 s.4)
 
-  same-ranks : (j k : ℕ) → SameItems (sequence_of g tag lefts) (sequence_of g tag rights) j k → SameRanks r lefts rights j k
+  same-ranks : (j k : ℕ) → SameItems (sequence_of g tag lefts) (sequence_of g tag rights) j k → SameRanks g lefts rights j k
   same-ranks j k s =
       let x = map-some (tree_of g) (slice_get lefts j) s.0 (sym (item-here g tag lefts (Some j)) ∙ s.2) in
       let y = map-some (tree_of g) (slice_get rights k) s.1 (sym (item-here g tag rights (Some k)) ∙ s.3) in
       let e : same (tree g x.0.0) (tree g y.0.0) ≡ true = subst (λ z. same z (tree g y.0.0) ≡ true) (sym x.2) (subst (λ z. same s.0 z ≡ true) (sym y.2) s.4) in
       (x.0, y.0, x.1, y.1, (are.ranked x.0.0 y.0.0 (wl j x.0 x.1) (wr k y.0 y.1)).0.1 e)
 
-  pub aligned-ends : (ps moved : List Places) → Aligns r lefts rights ps moved → EndsPaired ps (sequence_of g tag lefts) (sequence_of g tag rights)
+  pub aligned-ends : (ps moved : List Places) → Aligns g lefts rights ps moved → EndsPaired ps (sequence_of g tag lefts) (sequence_of g tag rights)
   aligned-ends ps moved a = record {
     front = a.front;
     fronts = λ i l. let s = a.fronts i l in (same-items i i s.0, s.1);

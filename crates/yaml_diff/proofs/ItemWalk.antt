@@ -33,20 +33,20 @@ below-next (suc k) (suc n) l = elim (below-next k n (omega arith)) [ inl a ↦ i
 abbrev pub SomeItems : Forests → List NodeId → List NodeId → List Places → List Places → ℕ → ℕ → List Line → List MoveLine → Bool → Type 0
 SomeItems g lefts rights ps moved at room lines moves w = (tag : List ℕ) → (P M : Pairing) × (P [] ≡ ps) × (M [] ≡ moved) × ListsSome g P M (sequence_of g tag lefts) (sequence_of g tag rights) room (PlacesBelow at ps) lines moves w
 
-pub items-first : (g : Forests) (lefts rights : List NodeId) (ps moved : List Places) (room : ℕ) (lines : List Line) (moves : List MoveLine) (w : Bool) → Aligns r lefts rights ps moved → lines ≡ [] → moves ≡ [] → w ≡ true → SomeItems g lefts rights ps moved 0 room lines moves w
-items-first g r lefts rights ps moved room lines moves w a e m f tag =
+pub items-first : (g : Forests) (lefts rights : List NodeId) (ps moved : List Places) (room : ℕ) (lines : List Line) (moves : List MoveLine) (w : Bool) → Aligns g lefts rights ps moved → lines ≡ [] → moves ≡ [] → w ≡ true → SomeItems g lefts rights ps moved 0 room lines moves w
+items-first g lefts rights ps moved room lines moves w a e m f tag =
     let t = sequence_of g tag lefts in
     let u = sequence_of g tag rights in
-    (begin ps t u, begin-moved moved, refl, refl, some-none g (begin ps t u) (begin-moved moved) t u room (PlacesBelow 0 ps) lines moves w (begin-pairs ps t u (aligned-takes g r tag lefts rights ps moved a)) (begin-settles ps moved t u a.settles) (begin-order ps moved t u a.in_order) e m f none)
+    (begin ps t u, begin-moved moved, refl, refl, some-none g (begin ps t u) (begin-moved moved) t u room (PlacesBelow 0 ps) lines moves w (begin-pairs ps t u (aligned-takes g tag lefts rights ps moved a)) (begin-settles ps moved t u a.settles) (begin-order ps moved t u a.in_order) e m f none)
   where
     none : (s : Step) → PlacesBelow 0 ps s → ⊥
     none (at_places p) c = absurd (omega (arith, c.1))
     none (at_key x) c = c
 
-pub items-next : (g : Forests) → IsRanked g → (lefts rights : List NodeId) (ps moved : List Places) (at room : ℕ) (p : Places) (lines more all : List Line) (moves more_moves all_moves : List MoveLine) (w v b : Bool) → AllWithin g lefts → AllWithin g rights → Aligns r lefts rights ps moved → slice_get ps at ≡ Some p
+pub items-next : (g : Forests) → IsRanked g → (lefts rights : List NodeId) (ps moved : List Places) (at room : ℕ) (p : Places) (lines more all : List Line) (moves more_moves all_moves : List MoveLine) (w v b : Bool) → AllWithin g lefts → AllWithin g rights → Aligns g lefts rights ps moved → slice_get ps at ≡ Some p
     → SomeItems g lefts rights ps moved at room lines moves w → ((Q N : Pairing) × Lists g Q N (trees_of g (item_of lefts (left_place p))) (trees_of g (item_of rights (right_place p))) (room - (length lines + length moves)) more more_moves v)
     → all ≡ lines ++ map (under (Item p)) more → all_moves ≡ moves ++ map (moved_under (Item p)) more_moves → b ≡ (w && v) → SomeItems g lefts rights ps moved (at + 1) room all all_moves b
-items-next g r are lefts rights ps moved at room p lines more all moves more_moves all_moves w v b wl wr a e o m ea ma eb tag =
+items-next g are lefts rights ps moved at room p lines more all moves more_moves all_moves w v b wl wr a e o m ea ma eb tag =
     let t = sequence_of g tag lefts in
     let u = sequence_of g tag rights in
     let P = (o tag).0 in
@@ -57,7 +57,7 @@ items-next g r are lefts rights ps moved at room p lines more all moves more_mov
     let left = room - (length lines + length moves) in
     let x : Lists g Q N (placed t (left_place p)) (placed u (right_place p)) left more more_moves v =
     subst (λ z. Lists g Q N z (placed u (right_place p)) left more more_moves v) (sym (item-here g tag lefts (left_place p))) (subst (λ z. Lists g Q N (trees_of g (item_of lefts (left_place p))) z left more more_moves v) (sym (item-here g tag rights (right_place p))) m.2) in
-    let ends : EndsPaired (P []) t u = subst (λ z. EndsPaired z t u) (sym i) (aligned-ends g r are tag lefts rights wl wr ps moved a) in
+    let ends : EndsPaired (P []) t u = subst (λ z. EndsPaired z t u) (sym i) (aligned-ends g are tag lefts rights wl wr ps moved a) in
     let allow : Allows (P []) (at_places p) = subst (λ z. Allows z (at_places p)) (sym i) (at, e) in
     (put P (at_places p) Q, put M (at_places p) N, i, (o tag).3, add-some g P Q M N t u room (PlacesBelow at ps) (PlacesBelow (at + 1) ps) lines more all moves more_moves all_moves w v b (Item p) refl allow ends (o tag).4 x ea ma eb split up (at, omega arith, e) fresh (λ s c. subst (λ z. StepBefore z t u s (at_places p)) (sym i) (before s c)))
   where
@@ -97,9 +97,9 @@ take-full (suc n) [] l = absurd (omega (arith, l))
 take-full (suc n) (x ∷ xs) l = ap suc (take-full n xs (omega (arith, l)))
 
 -- what is left of the room is taken by the pairs of the two sequences themselves that have moved
-pub items-done : (g : Forests) → IsRanked g → (lefts rights : List NodeId) (ps moved : List Places) (at room : ℕ) (f new : Found) → AllWithin g lefts → AllWithin g rights → Aligns r lefts rights ps moved → length ps ≤ at → SomeItems g lefts rights ps moved at room (lines_of f) (moves_of f) f.whole
+pub items-done : (g : Forests) → IsRanked g → (lefts rights : List NodeId) (ps moved : List Places) (at room : ℕ) (f new : Found) → AllWithin g lefts → AllWithin g rights → Aligns g lefts rights ps moved → length ps ≤ at → SomeItems g lefts rights ps moved at room (lines_of f) (moves_of f) f.whole
     → lines_of new ≡ lines_of f → moves_of new ≡ moves_of f ++ map here (take (room - count_of f) moved) → new.whole ≡ (f.whole && nat_le (length moved) (room - count_of f)) → FindsItems g lefts rights room new
-items-done g r are lefts rights ps moved at room f new wl wr a l o e m n tag = (P, M, subst (λ z. Lists g P M t u room z (moves_of new) new.whole) (sym e) (subst (λ z. Lists g P M t u room (lines_of f) z new.whole) (sym m) whole))
+items-done g are lefts rights ps moved at room f new wl wr a l o e m n tag = (P, M, subst (λ z. Lists g P M t u room z (moves_of new) new.whole) (sym e) (subst (λ z. Lists g P M t u room (lines_of f) z new.whole) (sym m) whole))
   where
     t : Option Tree
     t = sequence_of g tag lefts
@@ -142,4 +142,4 @@ items-done g r are lefts rights ps moved at room f new wl wr a l o e m n tag = (
 
     whole : Lists g P M t u room (lines_of f) all new.whole
     whole = lists-done g P M t u room (PlacesBelow at ps) (lines_of f) (moves_of f) all f.whole new.whole refl s by (let k = take-most left moved in omega (arith, k, total, s.few, left-is)) (λ h. (on h).0) (λ h. cut f.whole (nat_le (length moved) left) refl refl h)
-        (add-own-moves g P M t u (PlacesBelow at ps) (moves_of f) moved left f.whole new.whole s.pairs refl (subst (λ z. EndsPaired z t u) (sym (o tag).2) (aligned-ends g r are tag lefts rights wl wr ps moved a)) (o tag).3 a.once s.moved by on)
+        (add-own-moves g P M t u (PlacesBelow at ps) (moves_of f) moved left f.whole new.whole s.pairs refl (subst (λ z. EndsPaired z t u) (sym (o tag).2) (aligned-ends g are tag lefts rights wl wr ps moved a)) (o tag).3 a.once s.moved by on)

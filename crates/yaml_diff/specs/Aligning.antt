@@ -28,6 +28,3 @@ pub record AlignsFrom (old : List Places) (j k n m : ℕ) (new : List Places) : 
   pub left : places_by left_place more ≡ numbers j (n - j)
   pub right : places_by right_place more ≡ numbers k (m - k)
 
--- places of items that have the same rank
-abbrev pub AllSameRanks : Forests → List NodeId → List NodeId → List (ℕ × ℕ) → Type 0
-AllSameRanks g lefts rights anchors = (n : ℕ) (p : ℕ × ℕ) → slice_get anchors n ≡ Some p → SameRanks g lefts rights p.0 p.1

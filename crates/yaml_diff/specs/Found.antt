@@ -4,14 +4,14 @@ use Rattle.std.specs.List.{slice_get}
 use Rattle.yaml_definitions.specs.model.Tree.{Tree}
 use Rattle.yaml_store_rank.specs.Forests.{Forests, count, rank}
 use Rattle.yaml_store_rank.specs.KeyOrder.{numbers, number_pairs}
-use Rattle.yaml_tree.specs.View.{Inside, content, items, entries}
+use Rattle.yaml_tree.specs.View as view
 use Rattle.yaml_tree.specs.declared.node.NodeId.{NodeId}
 use Rattle.yaml_path.specs.Ways.{Pairing, Each, Settles, InOrder, left_place, right_place}
 use Rattle.yaml_path.specs.declared.places.Places.{Places}
 use Rattle.yaml_path.specs.declared.places.Places.TheVariants.{Both}
 use Rattle.yaml_diff.specs.Lines.{Line, line_of, sequence_of}
 use Rattle.yaml_diff.specs.Moves.{MoveLine, move_line_of}
-use Rattle.yaml_diff.specs.Listing.{Entries, Lists}
+use Rattle.yaml_diff.specs.Listing.{Lists}
 use Rattle.yaml_diff.specs.declared.difference.Found.{Found}
 
 abbrev pub lines_of : Found → List Line
@@ -62,12 +62,12 @@ IsValueOf g es r (Some value) = (k : ℕ) × (p : ℕ × ℕ) × (slice_get es k
 -- the node of this number is a sequence of these items
 pub record HasItems (g : Forests) (i : ℕ) (list : List NodeId) : Type 0 where
   pub tag : List ℕ
-  pub is : slice_get g.nodes i ≡ Some (tag, items (numbers list))
+  pub is : slice_get g.nodes i ≡ Some (tag, view.items (numbers list))
 
 -- the node of this number is a mapping of these entries, as they are written
-pub record HasEntries (g : Forests) (i : ℕ) (list : Entries) : Type 0 where
+pub record HasEntries (g : Forests) (i : ℕ) (list : List (NodeId × NodeId)) : Type 0 where
   pub tag : List ℕ
-  pub is : slice_get g.nodes i ≡ Some (tag, entries (number_pairs list))
+  pub is : slice_get g.nodes i ≡ Some (tag, view.entries (number_pairs list))
 
 abbrev pub Within : Forests → Option NodeId → Type 0
 Within g None = Unit {0}
@@ -94,8 +94,8 @@ top [] = 0
 top (i ∷ items) = greater (i.0 + 1) (top items)
 
 -- both are of one kind, and scalars of one content
-abbrev pub kinds_alike : Inside → Inside → Bool
-kinds_alike (content x) (content y) = bytes_eq x y
-kinds_alike (items x) (items y) = true
-kinds_alike (entries x) (entries y) = true
+abbrev pub kinds_alike : view.Inside → view.Inside → Bool
+kinds_alike (view.content x) (view.content y) = bytes_eq x y
+kinds_alike (view.items x) (view.items y) = true
+kinds_alike (view.entries x) (view.entries y) = true
 kinds_alike _ _ = false

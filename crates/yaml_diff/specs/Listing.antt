@@ -3,19 +3,14 @@ use Rattle.std.specs.Prelude.{◌≡◌, ◌⊎◌, ℕ, ◌+◌, ◌<◌, ◌�
 use Rattle.std.specs.List.{slice_get}
 use Rattle.yaml_definitions.specs.model.Tree.{Tree}
 use Rattle.yaml_definitions.specs.model.Same.{Same}
-use Rattle.yaml_store_rank.specs.Forests.{Forests, tree}
-use Rattle.yaml_tree.specs.declared.node.NodeId.{NodeId}
+use Rattle.yaml_store_rank.specs.Forests.{Forests, tree, entries_at}
 use Rattle.yaml_path.specs.Path.{part}
 use Rattle.yaml_path.specs.Path as plain
 use Rattle.yaml_path.specs.Ways.{Way, Pairing, PairsAll, Differs, at_places, at_key}
 use Rattle.yaml_path.specs.Ways as ways
 use Rattle.yaml_path.specs.declared.places.Places.{Places}
-use Rattle.yaml_diff.specs.Lines.{Line, IsTold, Listed, Apart, Ordered, Begins, tree_of, way_of}
+use Rattle.yaml_diff.specs.Lines.{Line, IsTold, Listed, Apart, Ordered, Begins, way_of}
 use Rattle.yaml_diff.specs.Moves.{MoveLine, ListsMoves, ListsSomeMoves}
-
--- the entries of a mapping, by the numbers of keys and values
-abbrev pub Entries : Type 0
-Entries = List (NodeId × NodeId)
 
 -- Under a one-to-one pairing, of which some pairs have moved, at most so many differences in their order and moves, and all of them if they are told to be whole.
 pub record Lists (g : Forests) (P M : Pairing) (t u : Option Tree) (room : ℕ) (lines : List Line) (moves : List MoveLine) (is_whole : Bool) : Type 0 where
@@ -54,11 +49,11 @@ abbrev pub PlacesBelow : ℕ → List Places → ways.Step → Type 0
 PlacesBelow n ps (at_places p) = (k : ℕ) × (k < n) × (slice_get ps k ≡ Some p)
 PlacesBelow n ps (at_key x) = ⊥
 
--- the keys of the entries before a place
-abbrev pub EntriesBelow : Forests → ℕ → Entries → ways.Step → Type 0
-EntriesBelow g n entries (at_places p) = ⊥
-EntriesBelow g n entries (at_key x) = (k : ℕ) × (p : NodeId × NodeId) × (k < n) × (slice_get entries k ≡ Some p) × Same (tree_of g p.0) x
+-- the keys of so many entries of a mapping
+abbrev pub EntriesBelow : Forests → ℕ → ℕ → ways.Step → Type 0
+EntriesBelow g mapping n (at_places p) = ⊥
+EntriesBelow g mapping n (at_key x) = (k : ℕ) × (p : ℕ × ℕ) × (k < n) × (slice_get (entries_at g mapping) k ≡ Some p) × Same (tree g p.0) x
 
--- the parts that the left tree has, and those of the keys of the entries before a place
-abbrev pub RightCovers : Forests → ℕ → ℕ → Entries → ways.Step → Type 0
-RightCovers g left n entries s = LeftCovers g left s ⊎ EntriesBelow g n entries s
+-- the parts that the left tree has, and those of the keys of so many entries of the right one
+abbrev pub RightCovers : Forests → ℕ → ℕ → ℕ → ways.Step → Type 0
+RightCovers g left right n s = LeftCovers g left s ⊎ EntriesBelow g right n s

@@ -1,6 +1,5 @@
 //! Items that stand once in each of two sequences, as far as their places rise on both sides.
-ghost use Rattle.std.specs.Prelude.{◌≡◌, ◌≤◌, length, IfOk};
-ghost use Rattle.yaml_diff.specs.Aligning.{AllSameRanks};
+ghost use Rattle.std.specs.Prelude.{◌≤◌, length};
 ghost use Rattle.yaml_diff.specs.Found.{AllWithin};
 
 use std::alloc::{AllocError, Global};

@@ -10,7 +10,7 @@ invariant-loop-left l =
       onward : l.front ≤ l.left;
       onward_too : l.front ≤ l.right;
       level : l.left + length l.rights ≡ l.right + length l.lefts;
-      same : (i j k : ℕ) → i < length l.lefts - l.left → i + suc j ≡ length l.lefts → i + suc k ≡ length l.rights → SameRanks l.ranks l.lefts l.rights j k;
+      same : (i j k : ℕ) → i < length l.lefts - l.left → i + suc j ≡ length l.lefts → i + suc k ≡ length l.rights → SameRanks l.forests l.lefts l.rights j k;
     }
 
 abbrev pub decreases-loop-left : goal.decreases-loop-left

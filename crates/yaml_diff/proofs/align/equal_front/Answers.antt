@@ -8,17 +8,17 @@ loop-front-preserved c =
     let xs = c.args.lefts.now in
     let ys = c.args.rights.now in
     let at = c.loop-front.front in
-    let s = same-here r xs ys at at (omega arith) (omega arith) (sym c.of.ensures ∙ c.if-of.true ∙ c.of-then-front-rights.ensures) in
+    let s = same-here r xs ys at at (omega arith) (omega arith) (sym c.rank.ensures ∙ c.if-rank.true ∙ c.rank-then-front-rights.ensures) in
     record { left = omega arith; right = omega arith; same = front-next r xs ys at s c.loop-front.invariant.same }
 
-pub returns-else-of : goal.returns-else-of
-returns-else-of c =
+pub returns-else-rank : goal.returns-else-rank
+returns-else-rank c =
     let r = c.args.forests.now in
     let xs = c.args.lefts.now in
     let ys = c.args.rights.now in
     let at = c.loop-front.front in
     let i = c.loop-front.invariant in
-    record { left = i.left; right = i.right; same = i.same; ends = λ s. absurd (c.if-of.false (c.of.ensures ∙ here-same r xs ys at at s ∙ sym c.of-then-front-rights.ensures)) }
+    record { left = i.left; right = i.right; same = i.same; ends = λ s. absurd (c.if-rank.false (c.rank.ensures ∙ here-same r xs ys at at s ∙ sym c.rank-then-front-rights.ensures)) }
 
 pub returns-else-front-rights : goal.returns-else-front-rights
 returns-else-front-rights c =

@@ -7,7 +7,7 @@ invariant-loop-front l =
     record {
       left : l.front ≤ length l.lefts;
       right : l.front ≤ length l.rights;
-      same : (i : ℕ) → i < l.front → SameRanks l.ranks l.lefts l.rights i i;
+      same : (i : ℕ) → i < l.front → SameRanks l.forests l.lefts l.rights i i;
     }
 
 abbrev pub decreases-loop-front : goal.decreases-loop-front
