@@ -17,10 +17,10 @@ use Rattle.yaml_store_rank.proofs.ForestTrees.{documents-within}
 use Rattle.yaml_store_rank.proofs.KeyOrderLaws.{unmap}
 use Rattle.yaml_canon.specs.Written.{AllMean, ShowsStreams}
 use Rattle.yaml_diff.specs.Found.{AllWithin}
+use Rattle.yaml_diff.proofs.Shapes.{all-at}
 use Rattle.yaml_conflicts.specs.MergedStreams.{stream, StreamBreaks}
 use Rattle.yaml_conflicts.proofs.RuleLaws.{not-true}
 use Rattle.yaml_conflicts.proofs.MergedLaws.{stream-exists}
-use Rattle.yaml_conflicts.proofs.NodeLaws.{all-got}
 use Rattle.yaml_conflicts.specs.Found.{line_of, path_of, Lists}
 use Rattle.yaml_conflicts.specs.Streams.{documents, RootsWithin, FindsDocuments, FindsOutcome, FindsStreams}
 use Rattle.yaml_conflicts.specs.declared.sides.Conflict.{Conflict}
@@ -76,7 +76,7 @@ four-mean f b o t m h = by f.streams h
 
 module _ (f : Forests) (are : IsRanked f) where
   within : (roots : List NodeId) (k : ℕ) → numbers roots ≡ documents_of f k → AllWithin f roots
-  within roots k e = all-got (λ i. i.0 < count f) roots (unmap (λ (i : NodeId). i.0) (λ i. i < count f) roots (subst (All (λ i. i < count f)) (sym e) (documents-within f are k)))
+  within roots k e = all-at (λ i. i.0 < count f) roots (unmap (λ (i : NodeId). i.0) (λ i. i < count f) roots (subst (All (λ i. i < count f)) (sym e) (documents-within f are k)))
 
   documents-are : (roots : List NodeId) (k : ℕ) → numbers roots ≡ documents_of f k → documents f roots ≡ trees (stream_trees f k)
   documents-are roots k e = ap trees (sym (map-map (tree f) (λ (i : NodeId). i.0) roots) ∙ ap (map (tree f)) e)

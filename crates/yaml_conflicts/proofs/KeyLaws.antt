@@ -15,10 +15,10 @@ use Rattle.yaml_store_rank.specs.KeyOrder.{number_pairs}
 use Rattle.yaml_path.specs.Path.{at_key, part, part_of}
 use Rattle.yaml_diff.specs.Lines.{tree_of, trees_of}
 use Rattle.yaml_diff.specs.Found.{AllWithin}
+use Rattle.yaml_diff.proofs.Shapes.{entry-below, value-some}
 use Rattle.yaml_diff.proofs.ListParts.{get-side, get-nth, get-map, map-get}
 use Rattle.yaml_conflicts.specs.declared.sides.Sides.{Sides}
 use Rattle.yaml_conflicts.specs.Keys.{side_has, Stands, Covers, HasSide, HasKeysBelow, HasKeys, KeysWithin, Adds}
-use Rattle.yaml_conflicts.proofs.NodeLaws.{entry-below, value-some}
 
 -- ---- lists of keys
 
