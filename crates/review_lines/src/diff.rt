@@ -269,8 +269,8 @@ fn lines_with(
         let count = counts[number];
         if count > 0 && lines.len() < asked.lines {
             let at = (
-                place_at(&places.left, number),
-                place_at(&places.right, number),
+                place_at(asked, &places.left, number),
+                place_at(asked, &places.right, number),
             );
             lines.push(line_of(alloc, forests, difference, asked, at, count, &mut budget)?)?;
         }

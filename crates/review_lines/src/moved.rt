@@ -261,8 +261,8 @@ fn lines_of_groups(
     let mut lines = Vec::new(alloc);
     for (number, group) in groups.iter().enumerate() {
         let at = (
-            place_at(&places.left, number),
-            place_at(&places.right, number),
+            place_at(asked, &places.left, number),
+            place_at(asked, &places.right, number),
         );
         lines.push(line_of_group(alloc, forests, asked, moves, *group, keys, at)?)?;
     }

@@ -6,6 +6,7 @@ use review_places::finder::{Finder, Seat, Side, Stream};
 use review_places::layout::lay_out_from;
 use review_places::places::{places, unmarked};
 use review_places::trace::Traced;
+use review_text::options::Diff;
 use std::alloc::{AllocError, Global};
 use std::collections::BTreeSet;
 use yaml_diff::Difference;
@@ -20,8 +21,11 @@ pub(crate) struct Places {
     pub(crate) causes: Vec<Option<Cause>>,
 }
 
-/// The place at a number, if one is told.
-pub(crate) fn place_at(places: &[Option<Place>], number: usize) -> Option<Place> {
+/// The place at a number, if places are asked for and one is there.
+pub(crate) fn place_at(asked: &Diff<'_>, places: &[Option<Place>], number: usize) -> Option<Place> {
+    if !asked.places {
+        return None;
+    }
     match places.get(number) {
         Some(place) => *place,
         None => None,
