@@ -1,8 +1,7 @@
 -- Streams that mean the same are shown as the same bytes.
-use Rattle.std.proofs.Common.{◌≡◌, inl, inr, true, ℕ, ◌≤◌, List, [], ◌∷◌, ◌++◌, length, map, refl, sym, ◌∙◌, ap, subst, arith}
+use Rattle.std.proofs.Common.{◌≡◌, inl, inr, ℕ, ◌≤◌, List, [], ◌∷◌, length, map, refl, sym, ◌∙◌, ap, subst}
 use Rattle.std.specs.Cmp.Lexicographic.{pointwise}
 use Rattle.std.specs.Prelude.{encode_utf8_all, Option, Some, None, IfNone}
-use Rattle.std.proofs.lemmas.List.{append-nil}
 use Rattle.yaml_definitions.specs.model.Limits.{height_limit, text_limit}
 use Rattle.yaml_definitions.specs.model.Tree.{Tree, height}
 use Rattle.yaml_definitions.specs.model.Order.{arranged}
@@ -10,20 +9,18 @@ use Rattle.yaml_definitions.specs.model.Same.{same, Keyed, Alike}
 use Rattle.yaml_definitions.specs.model.Proper.{AreAdmitted, Admitted}
 use Rattle.yaml_definitions.specs.model.Sound.{AllProper}
 use Rattle.yaml_definitions.specs.model.Means.{Means}
-use Rattle.yaml_definitions.specs.canonical.Spell.{spell, spell_bytes}
+use Rattle.yaml_definitions.specs.canonical.Spell.{spell_bytes}
 use Rattle.yaml_definitions.proofs.Members.{and_both, both_and}
 use Rattle.yaml_definitions.proofs.MeaningLaws.{meaning_is_proper}
 use Rattle.yaml_definitions.proofs.SameLaws.{same_to, same_from}
 use Rattle.yaml_spell.specs.Documents.{arranged_bytes, spell_more}
 use Rattle.yaml_spell.proofs.DocumentLaws.{arranged_same, spell_whole}
-use Rattle.law_one_reading.proofs.Documents.{one_meaning}
-use Rattle.law_read_back.proofs.Meanings.{spellings_mean}
 use Rattle.yaml_show.specs.JsonText.{json_text}
 use Rattle.yaml_show.specs.Layout.{shown_text}
 use Rattle.yaml_show.specs.Sharing.{sharing_shown}
 use Rattle.yaml_canon.specs.Claims.{AllOf, MeansAlone, IsCanonicalText}
 use Rattle.yaml_show.specs.Alike.{MeanAlike}
-use Rattle.yaml_show.specs.Lines.{joined, all_have_json, AreTheirs, SameIsJsonAlike}
+use Rattle.yaml_show.specs.Lines.{joined, SameIsJsonAlike}
 use Rattle.yaml_show.specs.Shows.{ReadsBack, IsShownText, ShowsBy, SameIsShownAlike, SameIsSharedAlike}
 
 -- ---- documents that are alike
@@ -77,9 +74,6 @@ admitted_alike text f g a k m h = record {
 pub when_none : {T P : Type 0} (o : Option T) → o ≡ None → IfNone o P → P
 when_none None e h = h
 when_none (Some x) e h = absurd (cc)
-
-pub theirs : (f : List Tree) (lines : List (List ℕ)) → (lines ≡ map json_text (map arranged f)) × (all_have_json f ≡ true) → AreTheirs f lines
-theirs f lines h = record { written = h.0; has = h.1 }
 
 pub shows_written : (write : List Tree → List ℕ) (bytes text : List ℕ) → MeanAlike bytes text → ((f : List Tree) → Means bytes f → text ≡ write f) → ShowsBy write bytes text
 shows_written write bytes text m r =

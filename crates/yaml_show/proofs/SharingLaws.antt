@@ -1,14 +1,13 @@
 -- Block style with anchors and aliases, piece by piece.
-use Rattle.std.proofs.Common.{◌≡◌, ℕ, suc, ◌+◌, ◌<◌, ◌≤◌, ◌^◌, Bool, true, false, cond, List, [], ◌∷◌, ◌++◌, length, map, drop, refl, sym, ◌∙◌, ap, subst, add-one, arith}
-use Rattle.std.specs.Prelude.{nat_le, not, ◌||◌, ◌&&◌, codes, Some, None}
+use Rattle.std.proofs.Common.{◌≡◌, ℕ, ◌+◌, ◌<◌, ◌≤◌, ◌^◌, Bool, true, false, cond, List, [], ◌∷◌, ◌++◌, length, map, drop, refl, sym, ◌∙◌, ap, add-one}
+use Rattle.std.specs.Prelude.{nat_le, not, ◌||◌, ◌&&◌, codes}
 use Rattle.std.specs.Fmt.{decimal}
 use Rattle.std.specs.Str.{chars}
 use Rattle.std.proofs.Math.ListN.{drop_of_length-le}
-use Rattle.std.proofs.lemmas.Fmt.{decimal-digits_of, decimal_digit, decimal_step}
+use Rattle.std.proofs.lemmas.Fmt.{decimal-digits_of, decimal_digit}
 use Rattle.std.proofs.lemmas.List.{append_assoc}
 use Rattle.yaml_definitions.specs.canonical.Serialize.{anchor_name}
-use Rattle.yaml_definitions.specs.canonical.Spell.{serial_of_arranged}
-use Rattle.yaml_definitions.specs.model.Serial.{SerialNode, SerialNodes, SerialPairs, alias_at, item_serial, entry_serial}
+use Rattle.yaml_definitions.specs.model.Serial.{SerialNode, alias_at}
 use Rattle.yaml_definitions.specs.model.Tag.{seq_tag, map_tag}
 use Rattle.yaml_definitions.specs.model.Tree.{Tree, Trees, Pairs, scalar, sequence, mapping, end, item, done, entry}
 use Rattle.yaml_tree.specs.TreeLists.{trees, pairs}
@@ -23,7 +22,7 @@ use Rattle.yaml_show.specs.declared.place.Place.{Place}
 use Rattle.yaml_show.specs.declared.place.Place.TheVariants.{Value, Item}
 use Rattle.yaml_show.specs.Flow.{is_short, is_simple, mark, colon, key_text}
 use Rattle.yaml_show.specs.Layout.{space, is_root, lines_at, goes_on, head, deepest, no_items, no_entries, empty_text, before_part}
-use Rattle.yaml_show.specs.Sharing.{is_alias, anchor_before, flow_inside, sharing_items, sharing_entries, sharing_flow, sharing_key, key_room, has_room, all_have_room, alias_line, behind_anchor, line_inside, inside_lines, sharing_item_lines, sharing_entry_lines, sharing_lines, sharing_document, sharing_shown, made}
+use Rattle.yaml_show.specs.Sharing.{is_alias, flow_inside, sharing_items, sharing_entries, sharing_flow, sharing_key, key_room, has_room, all_have_room, alias_line, behind_anchor, line_inside, inside_lines, sharing_item_lines, sharing_entry_lines, sharing_lines, sharing_document, sharing_shown, made}
 
 -- ---- names
 

@@ -1,5 +1,5 @@
 -- The roots of a stream whose nodes are ranked.
-use Rattle.std.proofs.Common.{◌≡◌, ℕ, ◌<◌, List, [], map, length, sym, ◌∙◌, ap, subst, arith}
+use Rattle.std.proofs.Common.{◌≡◌, ℕ, ◌<◌, List, [], map, sym, ◌∙◌, ap, subst}
 use Rattle.std.specs.List.{All, slice_index_or}
 use Rattle.yaml_definitions.specs.model.Tree.{Tree}
 use Rattle.yaml_definitions.specs.model.Order.{arranged}
@@ -10,6 +10,7 @@ use Rattle.yaml_spell.proofs.ShownLaws.{map-twice}
 use Rattle.yaml_store_rank.specs.Forests.{Forests, count, tree, documents_of, IsRanked}
 use Rattle.yaml_store_rank.specs.KeyOrder.{numbers}
 use Rattle.yaml_store_rank.specs.Walked.{walked_tree}
+use Rattle.yaml_store_rank.proofs.ForestTrees.{documents-within}
 use Rattle.yaml_store_rank.proofs.KeyOrderLaws.{unmap}
 use Rattle.yaml_canon.specs.Ranks.{HasRanks}
 use Rattle.yaml_canon.specs.Written.{ShowsStream}
@@ -34,7 +35,7 @@ module _ (bytes : List ℕ) (f : Forests) (shows : ShowsStream bytes f) (roots :
   pub source_rooted : IsRanked f → (view : SourceForests) → view.forests.now ≡ f → Rooted (λ _. Unit {0}) (λ (s : SourceForests). count s.forests.now) (λ (i : NodeId). i.0) view roots
   source_rooted are view same = record {
     ranked = tt;
-    within = subst (λ z. All (λ (i : NodeId). i.0 < count z) roots) (sym same) (unmap (λ (i : NodeId). i.0) (λ i. i < count f) roots (subst (All (λ i. i < count f)) (sym is) (are.rooted 0 [] (omega (arith, ap length shows.streams)))));
+    within = subst (λ z. All (λ (i : NodeId). i.0 < count z) roots) (sym same) (unmap (λ (i : NodeId). i.0) (λ i. i < count f) roots (subst (All (λ i. i < count f)) (sym is) (documents-within f are 0)));
   }
 
 -- arranged

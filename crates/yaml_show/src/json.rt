@@ -220,7 +220,7 @@ pub fn json_lines<I: Copy, V: RankedNodes<I>>(
     view: &V,
     roots: &[I],
 ) -> Result<Vec<String>, Unwritten>
-    requires rooted { Rooted V.stands V.count V.number view.now roots.now }
+    requires { Rooted V.stands V.count V.number view.now roots.now }
     ensures ok { IfOk result (λ lines. (map string_bytes lines.items ≡ map json_text (map (tree_of V.tree V.number view.now) roots.now)) × (list_all has_json (map (tree_of V.tree V.number view.now) roots.now) ≡ true)) }
     ensures err { IfErr result (Lacks (list_all has_json (map (tree_of V.tree V.number view.now) roots.now))) }
     ensures stops { IfErr result (Overruns text_limit (line_stream (map (tree_of V.tree V.number view.now) roots.now))) }

@@ -1,5 +1,5 @@
 //! What of a node is on one line in block style.
-ghost use Rattle.std.specs.Prelude.{◌≡◌, ◌<◌, ◌++◌, ◌∷◌, [], OnOk, IfErr};
+ghost use Rattle.std.specs.Prelude.{◌≡◌, ◌<◌, ◌++◌, OnOk, IfErr};
 ghost use Rattle.yaml_show_scalar.specs.Scalars.{scalar_lines};
 ghost use Rattle.yaml_show_scalar.specs.Tags.{tag_text};
 ghost use Rattle.yaml_show_scalar.specs.Stops.{limit_of, Stops};

@@ -1,5 +1,5 @@
 //! Nodes on one line, with anchors and aliases.
-ghost use Rattle.std.specs.Prelude.{◌≡◌, ◌<◌, ◌++◌, ◌∷◌, ◌&&◌, [], not};
+ghost use Rattle.std.specs.Prelude.{◌≡◌, ◌<◌, ◌∷◌, ◌&&◌, [], not};
 ghost use Rattle.std.specs.List.{All};
 ghost use Rattle.yaml_definitions.specs.grammar.Characters.{c-mapping-start, c-sequence-start};
 ghost use Rattle.yaml_spell.specs.declared.names.Opening.TheVariants.{Plain};

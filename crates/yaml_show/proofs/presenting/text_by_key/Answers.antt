@@ -1,6 +1,5 @@
-use Rattle.std.proofs.Common.{sym, ◌∙◌, ap, subst, rules}
+use Rattle.std.proofs.Common.{sym, ◌∙◌, ap, subst}
 use Rattle.yaml_definitions.specs.model.Limits.{text_limit}
-use Rattle.yaml_text.specs.declared.fault.Fault.TheVariants.{OutOfMemory}
 use Rattle.yaml_show_scalar.specs.Stops.{Stops}
 use Rattle.yaml_show.specs.Refused.{RefusesBy}
 use Rattle.yaml_show.specs.Shows.{arranged_by, written_by}

@@ -1,4 +1,4 @@
-use Rattle.std.proofs.Common.{◌≡◌, true, map, sym, ◌∙◌, ap, subst}
+use Rattle.std.proofs.Common.{◌≡◌, true, map, ◌∙◌, ap, subst}
 use Rattle.std.specs.List.{list_all}
 use Rattle.yaml_definitions.specs.model.Limits.{text_limit}
 use Rattle.yaml_canon.proofs.SpelledLaws.{spelled-rooted}

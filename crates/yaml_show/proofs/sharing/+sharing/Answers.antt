@@ -1,4 +1,4 @@
-use Rattle.std.proofs.Common.{◌≡◌, true, false, ℕ, ◌+◌, ◌*◌, ◌<◌, List, [], ◌∷◌, ◌++◌, refl, sym, ◌∙◌, ap, rules, arith}
+use Rattle.std.proofs.Common.{◌≡◌, true, false, ◌+◌, ◌*◌, ◌<◌, sym, ◌∙◌, ap, rules, arith}
 use Rattle.yaml_definitions.specs.model.Tree.{height, heights, heights_of_pairs}
 use Rattle.yaml_spell.specs.NamesView.{given_of}
 use Rattle.yaml_spell.specs.RankedNodes.{tree_of, pair_of, trees_of, pairs_of}
@@ -11,7 +11,7 @@ use Rattle.yaml_spell.specs.declared.names.Opening.TheVariants.{Plain}
 use Rattle.yaml_show.specs.Sharing.{inside_lines, made}
 use Rattle.yaml_show.proofs.FlowLaws.{seq_own, map_own}
 use Rattle.yaml_show.proofs.LayoutLaws.{none_items, some_items, none_entries, some_entries, deep, shallow}
-use Rattle.yaml_show.proofs.DraftLaws.{adds_as, adds_then, adds_forgone, left_none, left_as, left_next, left_end}
+use Rattle.yaml_show.proofs.DraftLaws.{adds_as, adds_then, adds_forgone, left_as, left_next, left_end}
 use Rattle.yaml_show.proofs.SharingLaws.{lines_by_alias, lines_by_anchor, lines_by_plain, scalar_inside, no_items_inside, deep_items_inside, items_inside, no_entries_inside, deep_entries_inside, wide_entries_inside, entries_inside, none_items_given, none_entries_given, scalar_given, sequence_given, mapping_given, items_split, items_over, entries_split, entries_over}
 use Rattle.yaml_show.proofs.sharing.+sharing.Goals as goal
 

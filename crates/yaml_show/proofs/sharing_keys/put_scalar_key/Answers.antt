@@ -1,6 +1,5 @@
-use Rattle.std.proofs.Common.{◌∙◌, ap}
+use Rattle.std.proofs.Common.{◌∙◌}
 use Rattle.yaml_spell.specs.NamesView.{given_of}
-use Rattle.yaml_spell.specs.Walked.{given_inside}
 use Rattle.yaml_spell.proofs.WriteLaws.{given_alias, given_anchored, given_plain}
 use Rattle.yaml_show.proofs.DraftLaws.{adds_as, adds_then, adds_three}
 use Rattle.yaml_show.proofs.SharingLaws.{key_by_alias, key_by_anchor, key_by_plain, scalar_given}
