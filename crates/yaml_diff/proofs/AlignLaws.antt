@@ -10,7 +10,7 @@ use Rattle.yaml_path.specs.Ways.{left_place, right_place, put_before, places_by,
 use Rattle.yaml_path.specs.declared.places.Places.{Places}
 use Rattle.yaml_path.specs.declared.places.Places.TheVariants.{Both, Left, Right}
 use Rattle.std.proofs.lemmas.Option.{slice_get_within, get_or_from_slice_get, slice_get-get_or}
-use Rattle.yaml_store_rank.specs.Forests.{rank}
+use Rattle.yaml_store_rank.specs.Forests.{Forests, rank}
 use Rattle.yaml_diff.specs.Found.{Aligns, SameRanks}
 use Rattle.yaml_diff.specs.Aligning.{IsFront, IsBack, AlignsFrom}
 use Rattle.yaml_diff.proofs.ListParts.{get-behind}

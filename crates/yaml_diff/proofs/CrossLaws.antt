@@ -4,6 +4,7 @@ use Rattle.std.specs.Prelude.{Option, Some, None, Result, Ok, Err, IfOk, IfSome}
 use Rattle.std.specs.declared.alloc.AllocError.{AllocError}
 use Rattle.yaml_diff.specs.declared.align.Aligned.{Aligned}
 use Rattle.yaml_tree.specs.declared.node.NodeId.{NodeId}
+use Rattle.yaml_store_rank.specs.Forests.{Forests}
 use Rattle.yaml_path.specs.Ways.{turns}
 use Rattle.yaml_path.specs.declared.places.Places.{Places}
 use Rattle.yaml_path.specs.declared.places.Places.TheVariants.{Both}

@@ -1,5 +1,5 @@
 -- Mappings: the order of their keys.
-use Rattle.std.proofs.Common.{◌≡◌, ℕ, zero, suc, ◌+◌, ◌<◌, ◌≤◌, Bool, true, false, cond, List, [], ◌∷◌, ◌++◌, map, length, inl, inr, refl, sym, ◌∙◌, ap, subst, arith, length-append}
+use Rattle.std.proofs.Common.{◌≡◌, ℕ, zero, suc, ◌+◌, ◌<◌, ◌≤◌, Bool, true, false, cond, List, [], ◌∷◌, ◌++◌, length, inl, inr, refl, sym, ◌∙◌, ap, subst, arith, length-append}
 use Rattle.std.specs.Prelude.{Some, None}
 use Rattle.std.specs.List.{slice_get}
 use Rattle.std.proofs.lemmas.Option.{slice_get_within}
@@ -71,10 +71,10 @@ key-least g (q ∷ xs) (suc k) x l f = by (same x (tree g q.0)) refl (key-least 
     by false h m = omega (arith, m)
 
 module _ (g : Forests) (are : IsRanked g) (i j at : ℕ) (li : i < count g) (lj : j < count g) (p : ℕ × ℕ) where
-  lefts : List (ℕ × ℕ)
+  abbrev lefts : List (ℕ × ℕ)
   lefts = entries_at g i
 
-  rights : List (ℕ × ℕ)
+  abbrev rights : List (ℕ × ℕ)
   rights = entries_at g j
 
   -- a key of an entry before a place of both stands before one that no entry up to there has

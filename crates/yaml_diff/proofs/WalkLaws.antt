@@ -24,7 +24,7 @@ use Rattle.yaml_diff.specs.declared.difference.Found.{Found}
 use Rattle.yaml_diff.specs.Lines.{Line, line_of, trees_of, sequence_of, under}
 use Rattle.yaml_diff.specs.Moves.{MoveLine, move_line_of, here, moved_under}
 use Rattle.yaml_diff.specs.Listing.{Lists, ListsSome, LeftEntries, EntriesBelow, LeftCovers, RightCovers}
-use Rattle.yaml_diff.specs.Found.{lines_of, moves_of, Finds, FindsItems, HasItems, HasEntries, IsValueOf, AllWithin, Within, item_of, size, top, greater}
+use Rattle.yaml_diff.specs.Found.{lines_of, moves_of, Finds, FindsItems, HasItems, IsValueOf, AllWithin, Within, item_of, size, top, greater}
 use Rattle.yaml_diff.proofs.WayLaws.{none-part, part-like, turn, turn-pairs, turn-settles, turn-order, calm, put}
 use Rattle.yaml_diff.proofs.Lists.{add-some, lists-done, lists-none, lists-cut, some-none}
 use Rattle.yaml_diff.proofs.MoveLists.{done-moves, none-moved}
@@ -266,10 +266,10 @@ module _ (g : Forests) (are : IsRanked g) where
   -- ---- two mappings of one tag
 
   module _ (i j : ℕ) (li : i < count g) (lj : j < count g) (h : head (tree g i) ≡ head (tree g j)) (map_right : IsMapping (tree g j)) where
-    t : Option Tree
+    abbrev t : Option Tree
     t = Some (tree g i)
 
-    u : Option Tree
+    abbrev u : Option Tree
     u = Some (tree g j)
 
     map_left : IsMapping (tree g i)

@@ -1,6 +1,5 @@
 -- How the items of two sequences are taken for each other.
-use Rattle.std.specs.Prelude.{◌≡◌, ℕ, suc, ◌+◌, ◌-◌, ◌<◌, ◌≤◌, List, ◌++◌, length, Some}
-use Rattle.std.specs.List.{slice_get}
+use Rattle.std.specs.Prelude.{◌≡◌, ℕ, suc, ◌+◌, ◌-◌, ◌<◌, ◌≤◌, List, ◌++◌, length}
 use Rattle.yaml_tree.specs.declared.node.NodeId.{NodeId}
 use Rattle.yaml_store_rank.specs.Forests.{Forests}
 use Rattle.yaml_path.specs.Ways.{left_place, right_place, places_by, numbers}
@@ -27,4 +26,3 @@ pub record AlignsFrom (old : List Places) (j k n m : ℕ) (new : List Places) : 
   pub is : new ≡ old ++ more
   pub left : places_by left_place more ≡ numbers j (n - j)
   pub right : places_by right_place more ≡ numbers k (m - k)
-

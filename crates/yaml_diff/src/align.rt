@@ -37,7 +37,12 @@ fn equal_front(forests: &RankedForests<'_>, lefts: &[NodeId], rights: &[NodeId])
 }
 
 /// How many items behind that front are the same from the back on.
-fn equal_back(forests: &RankedForests<'_>, lefts: &[NodeId], rights: &[NodeId], front: usize) -> usize
+fn equal_back(
+    forests: &RankedForests<'_>,
+    lefts: &[NodeId],
+    rights: &[NodeId],
+    front: usize,
+) -> usize
     requires left { AllWithin forests.now lefts.now }
     requires right { AllWithin forests.now rights.now }
     requires front { IsFront forests.now lefts.now rights.now front }
