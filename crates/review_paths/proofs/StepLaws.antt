@@ -1,62 +1,47 @@
 -- Steps and paths as JSON.
-use Rattle.std.proofs.Common.{◌≡◌, ◌&&◌, ◌≤◌, ℕ, Bor, true, false, cond, nat_le, length, List, [], ◌∷◌, ◌++◌, map, reverse, refl, sym, ◌∙◌, ap, subst}
-use Rattle.std.specs.Prelude.{Some, bytes_eq}
-use Rattle.std.specs.List.{slice_get, flat_map}
+use Rattle.std.proofs.Common.{◌≡◌, ◌&&◌, ℕ, Bool, true, false, cond, List, [], ◌∷◌, ◌++◌, map, reverse, refl, sym, ◌∙◌, ap, ap₂, subst}
+use Rattle.std.specs.Prelude.{Some, None, bytes_eq}
+use Rattle.std.specs.List.{flat_map}
 use Rattle.std.proofs.lemmas.List.{append_assoc, append-nil, map-append, reverse-append}
 use Rattle.std.proofs.lemmas.List.Concat.{flat_map-append}
-use Rattle.yaml_definitions.specs.model.Tree.{Trees, Pairs, scalar, sequence, mapping}
-use Rattle.yaml_definitions.specs.model.Tag.{str_tag, core_tag}
-use Rattle.yaml_tree.specs.declared.node.NodeId.{NodeId}
-use Rattle.yaml_tree.specs.declared.shown.Shown.{Shown}
-use Rattle.yaml_tree.specs.declared.shown.Inside.{Inside}
-use Rattle.yaml_tree.specs.declared.shown.Inside.TheVariants as shown
-use Rattle.yaml_store_rank.specs.Forests.{Forests, count, tree, held_shown, IsRanked}
-use Rattle.yaml_store_rank.proofs.ForestTrees.{tree-shown, scalar-shown}
+use Rattle.yaml_definitions.specs.model.Tree.{Tree, scalar, sequence, mapping}
+use Rattle.yaml_definitions.specs.model.Tag.{str_tag}
+use Rattle.yaml_store_rank.specs.Forests.{Forests}
 use Rattle.yaml_diff.specs.Lines.{step_of, way_of}
 use Rattle.yaml_diff.specs.declared.difference.Step as code
-use Rattle.review_text.specs.PathText.{whole_limit}
 use Rattle.review_text.proofs.Pieces.{then_more}
 use Rattle.review_paths.specs.Json.{string_json, unnamed_json, key_json, step_json, next_json, inner_json}
-use Rattle.review_text.proofs.ForestShapes.{none-there}
+use Rattle.review_paths.specs.Pasted.{str_content, is_short}
 
-told : (g x : List ℕ) → (bytes_eq g str_tag && nat_le (length x) whole_limit) ≡ true → key_json (scalar g x) ≡ string_json x
+pub told : (t : Tree) (x : List ℕ) → Some x ≡ str_content t → is_short x ≡ true → key_json t ≡ string_json x
 unfolding key_json
-told g x h = ap (λ b. cond b (string_json x) (unnamed_json (scalar g x))) h
+told (scalar g y) x e h = by (bytes_eq g str_tag) refl e
+  where
+    by : (b : Bool) → bytes_eq g str_tag ≡ b → Some x ≡ cond b (Some y) None → key_json (scalar g y) ≡ string_json x
+    by true q k = let p : x ≡ y = cc in ap (λ z. cond (z && is_short y) (string_json y) (unnamed_json (scalar g y))) q ∙ subst (λ z. cond (is_short z) (string_json z) (unnamed_json (scalar g z)) ≡ string_json x) p (ap (λ z. cond z (string_json x) (unnamed_json (scalar g x))) h)
+    by false q k = absurd cc
+told (sequence g ts) x e h = absurd cc
+told (mapping g ps) x e h = absurd cc
 
-untold : (g x : List ℕ) → (bytes_eq g str_tag && nat_le (length x) whole_limit) ≡ false → key_json (scalar g x) ≡ unnamed_json (scalar g x)
+pub told_by_text : (t : Tree) (x : List ℕ) → Some x ≡ str_content t → is_short x ≡ false → key_json t ≡ unnamed_json t
 unfolding key_json
-untold g x h = ap (λ b. cond b (string_json x) (unnamed_json (scalar g x))) h
+told_by_text (scalar g y) x e h = by (bytes_eq g str_tag) refl e
+  where
+    by : (b : Bool) → bytes_eq g str_tag ≡ b → Some x ≡ cond b (Some y) None → key_json (scalar g y) ≡ unnamed_json (scalar g y)
+    by true q k = let p : x ≡ y = cc in ap (λ z. cond z (string_json y) (unnamed_json (scalar g y))) (ap₂ ◌&&◌ q (ap is_short (sym p) ∙ h))
+    by false q k = absurd cc
+told_by_text (sequence g ts) x e h = refl
+told_by_text (mapping g ps) x e h = refl
 
-empty_untold : (bytes_eq [] str_tag && nat_le 0 whole_limit) ≡ false
-unfolding core_tag
-empty_untold = refl
-
-module _ (f : Forests) (i : ℕ) where
-  -- a number that no node has
-  pub none_untold : count f ≤ i → key_json (tree f i) ≡ unnamed_json (tree f i)
-  none_untold l = subst (λ t. key_json t ≡ unnamed_json t) (sym (none-there f i l)) (untold [] [] empty_untold)
-
-  module _ (are : IsRanked f) (s : Shown NodeId) (there : slice_get f.nodes i ≡ Some (held_shown s)) where
-    pub scalar_told : (x : Bor (List ℕ)) → s.inside ≡ shown.Scalar x → (bytes_eq s.tag.now str_tag && nat_le (length x.now) whole_limit) ≡ true → key_json (tree f i) ≡ string_json x.now
-    scalar_told x e h = ap key_json (scalar-shown f are i s there x e) ∙ told s.tag.now x.now h
-
-    pub scalar_untold : (x : Bor (List ℕ)) → s.inside ≡ shown.Scalar x → (bytes_eq s.tag.now str_tag && nat_le (length x.now) whole_limit) ≡ false → key_json (tree f i) ≡ unnamed_json (tree f i)
-    scalar_untold x e h = subst (λ t. key_json t ≡ unnamed_json t) (sym (scalar-shown f are i s there x e)) (untold s.tag.now x.now h)
-
-    pub other_untold : ((x : Bor (List ℕ)) → s.inside ≡ shown.Scalar x → ⊥) → key_json (tree f i) ≡ unnamed_json (tree f i)
-    unfolding key_json
-    other_untold other = by s.inside refl
-      where
-        of-sequence : (g : List ℕ) (ts : Trees) → key_json (sequence g ts) ≡ unnamed_json (sequence g ts)
-        of-sequence g ts = refl
-
-        of-mapping : (g : List ℕ) (ps : Pairs) → key_json (mapping g ps) ≡ unnamed_json (mapping g ps)
-        of-mapping g ps = refl
-
-        by : (x : Inside NodeId) → s.inside ≡ x → key_json (tree f i) ≡ unnamed_json (tree f i)
-        by (shown.Scalar x) e = absurd (other x e)
-        by (shown.Sequence xs) e = subst (λ t. key_json t ≡ unnamed_json t) (sym (tree-shown f are i s there (shown.Sequence xs) e)) (of-sequence s.tag.now _)
-        by (shown.Mapping xs) e = subst (λ t. key_json t ≡ unnamed_json t) (sym (tree-shown f are i s there (shown.Mapping xs) e)) (of-mapping s.tag.now _)
+pub other_told : (t : Tree) → None ≡ str_content t → key_json t ≡ unnamed_json t
+unfolding key_json
+other_told (scalar g y) e = by (bytes_eq g str_tag) refl e
+  where
+    by : (b : Bool) → bytes_eq g str_tag ≡ b → None ≡ cond b (Some y) None → key_json (scalar g y) ≡ unnamed_json (scalar g y)
+    by true q k = absurd cc
+    by false q k = ap (λ z. cond (z && is_short y) (string_json y) (unnamed_json (scalar g y))) q
+other_told (sequence g ts) e = refl
+other_told (mapping g ps) e = refl
 
 -- ---- one step behind another
 

@@ -1,20 +1,14 @@
 -- What an error says of JSON that was to be written piece by piece.
-use Rattle.std.proofs.Common.{◌≡◌, inl, inr, ℕ, Bor, zero, suc, ◌+◌, ◌≤◌, ◌<◌, Bool, true, false, ◌&&◌, List, [], ◌∷◌, ◌++◌, length, map, get_or, refl, sym, ◌∙◌, ap, subst, arith}
+use Rattle.std.proofs.Common.{◌≡◌, inl, inr, ℕ, zero, suc, ◌+◌, ◌≤◌, ◌<◌, Bool, true, false, ◌&&◌, List, [], ◌∷◌, ◌++◌, length, map, get_or, refl, sym, ◌∙◌, ap, subst, arith}
 use Rattle.std.specs.Prelude.{Some, bytes_eq, codes}
 use Rattle.std.specs.List.{slice_get}
 use Rattle.std.proofs.lemmas.List.{append_assoc, append-nil}
 use Rattle.std.proofs.Math.ListN.{drop_of_length-le}
 use Rattle.yaml_definitions.specs.model.Tree.{Tree, Trees, Pairs, scalar, sequence, mapping, height, heights, heights_of_pairs}
-use Rattle.yaml_definitions.specs.model.Tag.{core_tag, str_tag, seq_tag, map_tag}
+use Rattle.yaml_definitions.specs.model.Tag.{core_tag, seq_tag, map_tag}
 use Rattle.yaml_definitions.specs.model.Order.{arranged}
 use Rattle.yaml_tree.specs.TreeLists.{trees, pairs}
 use Rattle.yaml_tree.proofs.Lists.{get-some}
-use Rattle.yaml_tree.specs.declared.node.NodeId.{NodeId}
-use Rattle.yaml_tree.specs.declared.shown.Shown.{Shown}
-use Rattle.yaml_tree.specs.declared.shown.Inside.{Inside}
-use Rattle.yaml_tree.specs.declared.shown.Inside.TheVariants as shown
-use Rattle.yaml_store_rank.specs.Forests.{Forests, tree, held_shown, IsRanked}
-use Rattle.yaml_store_rank.proofs.ForestTrees.{tree-shown}
 use Rattle.yaml_show_scalar.specs.Stops.{Stops}
 use Rattle.yaml_show_scalar.specs.Escapes.{quoted}
 use Rattle.yaml_show_scalar.specs.Tags.{is_resolved}
@@ -208,25 +202,7 @@ pub none_lacks : (t : Tree) → t ≡ scalar [] [] → has_json (arranged t) ≡
 unfolding arranged scalar_has_json is_resolved core_tag
 none_lacks t e = ap (λ z. has_json (arranged z)) e
 
-pub none_is_no_string : (t : Tree) → t ≡ scalar [] [] → is_string (arranged t) ≡ false
-unfolding arranged core_tag
-none_is_no_string t e = ap (λ z. is_string (arranged z)) e
-
 -- ---- keys
-
-pub other_string : (t : Tree) (g y : List ℕ) → t ≡ scalar g y → bytes_eq g str_tag ≡ false → is_string t ≡ false
-other_string t g y e b = ap is_string e ∙ b
-
--- a node that is no scalar
-module _ (f : Forests) (are : IsRanked f) (i : ℕ) (s : Shown NodeId) (there : slice_get f.nodes i ≡ Some (held_shown s)) where
-  pub other_kind : ((x : Bor (List ℕ)) → s.inside ≡ shown.Scalar x → ⊥) → is_string (arranged (tree f i)) ≡ false
-  unfolding arranged
-  other_kind other = by s.inside refl
-    where
-      by : (x : Inside NodeId) → s.inside ≡ x → is_string (arranged (tree f i)) ≡ false
-      by (shown.Scalar x) e = absurd (other x e)
-      by (shown.Sequence xs) e = ap (λ t. is_string (arranged t)) (tree-shown f are i s there (shown.Sequence xs) e)
-      by (shown.Mapping xs) e = ap (λ t. is_string (arranged t)) (tree-shown f are i s there (shown.Mapping xs) e)
 
 module _ (t : Tree) (x old : List ℕ) (limit limit' : ℕ) (why : Unsaid) (stop : Stop) (n : IsName t x) (is : why ≡ Stopped stop) (same : limit' ≡ limit) where
   -- what an error says of a key

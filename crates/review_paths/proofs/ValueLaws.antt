@@ -1,16 +1,18 @@
 -- Values of JSON that are written piece by piece.
-use Rattle.std.proofs.Common.{◌≡◌, ◌&&◌, ℕ, ◌+◌, ◌<◌, ◌≤◌, true, List, ◌++◌, length, map, drop, get_or, refl, sym, ◌∙◌, ap, ap₂, subst, add-one}
-use Rattle.std.specs.Prelude.{Some, bytes_eq, codes}
+use Rattle.std.proofs.Common.{◌≡◌, ◌&&◌, ℕ, Bool, ◌+◌, ◌<◌, ◌≤◌, true, false, cond, List, ◌++◌, length, map, drop, get_or, refl, sym, ◌∙◌, ap, ap₂, subst, add-one}
+use Rattle.std.specs.Prelude.{Some, None, bytes_eq, codes}
 use Rattle.std.specs.List.{slice_get}
 use Rattle.std.proofs.Math.ListN.{drop_of_length-le}
 use Rattle.std.proofs.lemmas.List.{append_assoc}
 use Rattle.yaml_definitions.specs.model.Tree.{Tree, Trees, Pairs, scalar, sequence, mapping}
 use Rattle.yaml_definitions.specs.model.Tag.{str_tag, seq_tag, map_tag}
+use Rattle.yaml_definitions.specs.model.Order.{arranged}
 use Rattle.yaml_tree.specs.TreeLists.{trees, pairs}
 use Rattle.yaml_show_scalar.specs.Escapes.{quoted}
 use Rattle.yaml_show_scalar.specs.declared.escapes.Language.TheVariants.{Json}
 use Rattle.review_text.proofs.Pieces.{drop_next, drop_at}
-use Rattle.review_paths.specs.Values.{comma, name_json, value_json, items_json, entries_json, items_have_json, entries_have_json, IsName, Says, SaysKey, SaysItems, SaysEntries}
+use Rattle.review_paths.specs.Pasted.{str_content}
+use Rattle.review_paths.specs.Values.{comma, is_string, name_json, value_json, items_json, entries_json, items_have_json, entries_have_json, IsName, Says, SaysKey, SaysItems, SaysEntries}
 
 -- ---- items, from a place on
 
@@ -100,8 +102,27 @@ sequence_says g old new ts t e b k = subst (λ z. Says z old new) (sym e) (k.0, 
 pub mapping_says : (g old new : List ℕ) (ps : Pairs) (t : Tree) → t ≡ mapping g ps → bytes_eq g map_tag ≡ true → SaysEntries ps old new → Says t old new
 mapping_says g old new ps t e b k = subst (λ z. Says z old new) (sym e) (k.0, ap₂ ◌&&◌ b k.1)
 
-pub name_is : (g x : List ℕ) (t : Tree) → t ≡ scalar g x → bytes_eq g str_tag ≡ true → IsName t x
-name_is g x t e b = subst (λ z. IsName z x) (sym e) (refl, b)
+-- ---- keys
+
+pub name_is : (t : Tree) (x : List ℕ) → Some x ≡ str_content t → IsName (arranged t) x
+unfolding arranged
+name_is (scalar g y) x e = by (bytes_eq g str_tag) refl e
+  where
+    by : (b : Bool) → bytes_eq g str_tag ≡ b → Some x ≡ cond b (Some y) None → IsName (scalar g y) x
+    by true q h = let p : y ≡ x = cc in (ap (quoted Json) p, q)
+    by false q h = absurd cc
+name_is (sequence g ts) x e = absurd cc
+name_is (mapping g ps) x e = absurd cc
+
+pub other_string : (t : Tree) → None ≡ str_content t → is_string (arranged t) ≡ false
+unfolding arranged
+other_string (scalar g y) e = by (bytes_eq g str_tag) e
+  where
+    by : (b : Bool) → None ≡ cond b (Some y) None → b ≡ false
+    by true h = absurd cc
+    by false h = refl
+other_string (sequence g ts) e = refl
+other_string (mapping g ps) e = refl
 
 pub key_says : (t : Tree) (x old a new : List ℕ) → IsName t x → a ≡ old ++ quoted Json x → new ≡ a ++ codes ":" → SaysKey t old new
 key_says t x old a new n e h = (h ∙ ap (λ z. z ++ codes ":") (e ∙ ap (λ z. old ++ z) (sym n.0)) ∙ append_assoc old (name_json t) (codes ":"), n.1)

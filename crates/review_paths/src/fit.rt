@@ -1,10 +1,9 @@
 //! Which keys filters and pointers can have.
-ghost use Rattle.std.specs.Prelude.{◌≡◌, ◌&&◌, ◌==◌, not, length, map, reverse, option_map, bytes_eq, nat_le, IfOk};
+ghost use Rattle.std.specs.Prelude.{◌≡◌, ◌&&◌, ◌==◌, reverse, option_map, bytes_eq, IfOk};
 ghost use Rattle.std.specs.List.{list_all};
 ghost use Rattle.yaml_definitions.specs.model.Tag.{str_tag};
 ghost use Rattle.yaml_store_rank.specs.Forests.{tree};
 ghost use Rattle.yaml_diff.specs.Lines.{step_of};
-ghost use Rattle.review_text.specs.Hidden.{visible};
 ghost use Rattle.review_text.specs.Terminal.{terminal};
 ghost use Rattle.review_paths.specs.Pasted.{str_content, is_no_tab, is_seen, is_short, is_fit, fits_step};
 
@@ -71,7 +70,7 @@ fn is_seen(alloc: Global, text: &str) -> Result<bool, AllocError>
 }
 
 /// Whether a text has at most as many bytes as a key in a path.
-fn is_short(text: &str) -> bool
+pub(crate) fn is_short(text: &str) -> bool
     ensures { result ≡ is_short text.now }
 {
     text.len() <= WHOLE

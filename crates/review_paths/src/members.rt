@@ -1,5 +1,5 @@
 //! What a program reads of a difference beside its texts.
-ghost use Rattle.std.specs.Prelude.{◌≡◌, string_bytes, IfOk};
+ghost use Rattle.std.specs.Prelude.{IfOk};
 ghost use Rattle.review_paths.specs.Members.{SaysNode, SaysMembers};
 
 use crate::room::Room;

@@ -1,9 +1,8 @@
 //! Paths as filters of jq and as JSON pointers.
-ghost use Rattle.std.specs.Prelude.{◌≡◌, ◌++◌, map, reverse, string_bytes, IfOk};
-ghost use Rattle.std.specs.List.{list_all, flat_map};
+ghost use Rattle.std.specs.Prelude.{◌≡◌, map, reverse, string_bytes, IfOk};
 ghost use Rattle.yaml_store_rank.specs.Forests.{Forests};
 ghost use Rattle.yaml_diff.specs.Lines.{step_of, way_of};
-ghost use Rattle.review_paths.specs.Pasted.{pasted_step, has_dot, dotted, begun, kept_steps, unfit, side_text, column_text, pasted};
+ghost use Rattle.review_paths.specs.Pasted.{has_dot, dotted, begun, kept_steps, unfit, side_text, column_text, pasted};
 
 use crate::fit::fits;
 use crate::step::put_steps;

@@ -1,8 +1,7 @@
 //! Steps of filters and of pointers.
-ghost use Rattle.std.specs.Prelude.{◌≡◌, ◌++◌, ◌&&◌, cond, unwrap_or, reverse, string_bytes, OnOk};
+ghost use Rattle.std.specs.Prelude.{◌≡◌, ◌++◌, ◌&&◌, reverse, string_bytes, OnOk};
 ghost use Rattle.std.specs.List.{list_all, flat_map};
 ghost use Rattle.std.specs.Str.{encode_utf8_all};
-ghost use Rattle.yaml_store_rank.specs.Forests.{tree};
 ghost use Rattle.yaml_diff.specs.Lines.{step_of};
 ghost use Rattle.review_paths.specs.Pasted.{side_place, filter_char, pointer_char, escaped_char, escaped, is_letter, is_filter_byte, is_filter_name, filter_key, pointer_key, key_step, item_step, pasted_step};
 

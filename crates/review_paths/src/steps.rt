@@ -1,20 +1,17 @@
 //! Paths as arrays of JSON.
-ghost use Rattle.std.specs.Prelude.{◌≡◌, ◌++◌, bytes_eq, nat_le, ◌&&◌, length, string_bytes, OnOk, IfOk, MatchOption};
-ghost use Rattle.yaml_definitions.specs.model.Tag.{str_tag};
+ghost use Rattle.std.specs.Prelude.{◌≡◌, ◌++◌, string_bytes, OnOk, IfOk, MatchOption};
 ghost use Rattle.yaml_store_rank.specs.Forests.{tree};
 ghost use Rattle.yaml_diff.specs.Lines.{step_of, way_of};
-ghost use Rattle.review_text.specs.PathText.{whole_limit};
 ghost use Rattle.review_paths.specs.Json.{string_json, places_json, key_object, key_json, unnamed_json, step_json, next_json, inner_json, steps_json};
 
+use crate::fit::{content_of, is_short};
 use crate::writing::put_string;
 use review_text::text::{WHOLE, node_text};
 use std::alloc::{AllocError, Global};
 use yaml_diff::Step;
 use yaml_path::places::Places;
 use yaml_store_rank::RankedForests;
-use yaml_text::core_tag;
 use yaml_tree::node::NodeId;
-use yaml_tree::shown::Inside;
 
 /// Writes the places of an item on the sides that have it.
 fn put_places(out: &mut String, places: Places) -> Result<(), AllocError>
@@ -28,14 +25,6 @@ fn put_places(out: &mut String, places: Places) -> Result<(), AllocError>
     Ok(())
 }
 
-/// Whether a key of this tag and content is written as a string.
-#[tactic(auto, unfolding(yaml_definitions::specs::model::Tag::core_tag))]
-fn is_told(tag: &str, content: &str) -> bool
-    ensures { result ≡ (bytes_eq tag.now str_tag && nat_le (length content.now) whole_limit) }
-{
-    tag == core_tag::STR && content.len() <= WHOLE
-}
-
 /// Writes a key by its text, as a path has it between brackets.
 fn put_key_object(alloc: Global, out: &mut String, text: &str) -> Result<(), AllocError>
     ensures ok { OnOk result (string_bytes out.new ≡ string_bytes out.old ++ key_object text.now) }
@@ -47,22 +36,16 @@ fn put_key_object(alloc: Global, out: &mut String, text: &str) -> Result<(), All
 }
 
 /// The content of a key that is written as a string: a str that is not too long.
-fn content_of<'b>(forests: &'b RankedForests<'_>, key: NodeId) -> Option<&'b str>
+fn short_content<'b>(forests: &'b RankedForests<'_>, key: NodeId) -> Option<&'b str>
     ensures { MatchOption result (key_json (tree forests.now key.0) ≡ unnamed_json (tree forests.now key.0)) (λ content. key_json (tree forests.now key.0) ≡ string_json content.now) }
 {
-    let Some(shown) = forests.get(key) else {
+    let Some(content) = content_of(forests, key) else {
         return None;
     };
-    forests.laws();
-    match shown.inside {
-        Inside::Scalar(content) => {
-            if is_told(shown.tag, content) {
-                Some(content)
-            } else {
-                None
-            }
-        }
-        _ => None,
+    if is_short(content) {
+        Some(content)
+    } else {
+        None
     }
 }
 
@@ -75,7 +58,7 @@ fn put_key(
 ) -> Result<(), AllocError>
     ensures ok { OnOk result (string_bytes out.new ≡ string_bytes out.old ++ key_json (tree forests.now key.0)) }
 {
-    match content_of(forests, key) {
+    match short_content(forests, key) {
         Some(content) => put_string(alloc, out, content),
         None => put_key_object(alloc, out, &node_text(alloc, forests, key, WHOLE)?),
     }

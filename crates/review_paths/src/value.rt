@@ -1,7 +1,7 @@
 //! Nodes as values of JSON (RFC 8259).
-ghost use Rattle.std.specs.Prelude.{◌≡◌, ℕ, ◌<◌, List, ◌++◌, ◌∷◌, ◌+◌, ◌-◌, ◌&&◌, [], false, length, map, min, not, bytes_eq, codes, string_bytes, OnOk, IfOk, IfSome, IfNone, IfErr};
+ghost use Rattle.std.specs.Prelude.{◌≡◌, ℕ, ◌<◌, List, ◌++◌, ◌+◌, ◌-◌, ◌&&◌, length, map, min, not, bytes_eq, codes, string_bytes, OnOk, IfOk, IfSome, IfNone, IfErr};
 ghost use Rattle.yaml_definitions.specs.model.Tree.{scalar, height, heights, heights_of_pairs};
-ghost use Rattle.yaml_definitions.specs.model.Tag.{str_tag, seq_tag, map_tag};
+ghost use Rattle.yaml_definitions.specs.model.Tag.{seq_tag, map_tag};
 ghost use Rattle.yaml_definitions.specs.model.Order.{arranged};
 ghost use Rattle.yaml_tree.specs.TreeLists.{trees, pairs};
 ghost use Rattle.yaml_store_rank.specs.Forests.{count, tree, rank, entries_at, InKeyOrder};
@@ -9,8 +9,9 @@ ghost use Rattle.yaml_store_rank.specs.ArrangedForests.{two_arranged};
 ghost use Rattle.yaml_show_scalar.specs.Stops.{limit_of, Stops};
 ghost use Rattle.yaml_show_scalar.specs.Texts.{written};
 ghost use Rattle.review_paths.specs.Budget.{room_left, one_value};
-ghost use Rattle.review_paths.specs.Values.{comma, scalar_json, scalar_has_json, is_string, name_json, value_json, items_json, entries_json, has_json, items_have_json, entries_have_json, IsName, Says, SaysKey, SaysItems, SaysEntries, Unsays, HasNoValue, IsValueOf};
+ghost use Rattle.review_paths.specs.Values.{comma, scalar_json, scalar_has_json, is_string, name_json, value_json, items_json, entries_json, has_json, items_have_json, entries_have_json, Says, SaysKey, SaysItems, SaysEntries, Unsays, HasNoValue, IsValueOf};
 
+use crate::fit::content_of;
 use crate::room::Room;
 use crate::unsaid::Unsaid;
 use std::alloc::{AllocError, Global};
@@ -76,14 +77,6 @@ fn put_comma(out: &mut Out, place: usize) -> Result<(), Stop>
     out.put(",")
 }
 
-/// Whether a tag is that of strings.
-#[tactic(auto, unfolding(yaml_definitions::specs::model::Tag::core_tag))]
-fn is_string(tag: &str) -> bool
-    ensures { result ≡ bytes_eq tag.now str_tag }
-{
-    tag == core_tag::STR
-}
-
 /// Whether a tag is that of sequences.
 #[tactic(auto, unfolding(yaml_definitions::specs::model::Tag::core_tag))]
 fn is_sequence(tag: &str) -> bool
@@ -100,35 +93,13 @@ fn is_mapping(tag: &str) -> bool
     tag == core_tag::MAP
 }
 
-/// The content of a key that is a string.
-fn name_of<'b>(forests: &'b RankedForests<'_>, key: NodeId) -> Option<&'b str>
-    ensures some { IfSome result (λ name. IsName (arranged (tree forests.now key.0)) name.now) }
-    ensures none { IfNone result (is_string (arranged (tree forests.now key.0)) ≡ false) }
-{
-    let Some(shown) = forests.get(key) else {
-        return None;
-    };
-    forests.laws();
-    match shown.inside {
-        Inside::Scalar(content) => {
-            if is_string(shown.tag) {
-                Some(content)
-            } else {
-                None
-            }
-        }
-        _ => None,
-    }
-}
-
 /// Writes a key that is a string, and its colon.
-#[tactic(auto, using(crate::proofs::ValueLaws::key_says))]
 fn put_key(forests: &RankedForests<'_>, key: NodeId, out: &mut Out) -> Result<(), Unsaid>
     ensures ok { OnOk result (SaysKey (arranged (tree forests.now key.0)) (written out.old) (written out.new)) }
     ensures limit { limit_of out.new ≡ limit_of out.old }
     ensures err { IfErr result (Unsays (is_string (arranged (tree forests.now key.0))) 0 1 (limit_of out.old) (written out.old ++ (name_json (arranged (tree forests.now key.0)) ++ codes ":"))) }
 {
-    let Some(name) = name_of(forests, key) else {
+    let Some(name) = content_of(forests, key) else {
         return Err(Unsaid::NoValue);
     };
     put_json_string(out, name)?;

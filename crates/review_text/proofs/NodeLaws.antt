@@ -367,6 +367,6 @@ scalar_filled room g own x y old a b d f q e =
     (tagged room a_scalar g own old a b (quoted_bytes x) d q (subst (λ z. Fills room a z (quoted_bytes x)) (sym e) (piece_filled room x y a f)))
 
 -- the same of a tree that is one
-pub scalar_text_of : (g x h y : List ℕ) (t : Tree) → arranged t ≡ scalar h y → g ≡ h → x ≡ y → text_of (scalar g x) ≡ text_of t
+pub scalar_text_of : (g x : List ℕ) (t : Tree) → arranged t ≡ scalar g x → text_of (scalar g x) ≡ text_of t
 unfolding arranged
-scalar_text_of g x h y t e p q = ap₂ (λ a b. arranged_text (scalar a b)) p q ∙ ap arranged_text (sym e)
+scalar_text_of g x t e = ap arranged_text (sym e)

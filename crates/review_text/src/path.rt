@@ -1,5 +1,5 @@
 //! Paths of differences as text.
-ghost use Rattle.std.specs.Prelude.{◌≡◌, ◌++◌, ◌==◌, length, string_bytes, OnOk, IfOk};
+ghost use Rattle.std.specs.Prelude.{◌≡◌, ◌++◌, ◌==◌, string_bytes, OnOk, IfOk};
 ghost use Rattle.yaml_diff.specs.Lines.{step_of, way_of};
 ghost use Rattle.review_text.specs.PathText.{place_text, first_text, step_text, start_text, path_text};
 

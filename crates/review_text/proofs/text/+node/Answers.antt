@@ -59,7 +59,7 @@ pub put_node-returns-in-Scalar : goal.put_node-returns-in-Scalar
 put_node-returns-in-Scalar t c = record {
   ok = (
       let e = scalar-there c.args.forests.now c.laws.ensures c.args.id.0 c.in-Some.shown c.in-Some.ensures c.in-Scalar.content c.in-Scalar.is in
-      on_ok c.put_scalar-in-Scalar.result c.put_scalar-in-Scalar.ensures.ok (λ h. fills_as c.args.room _ _ _ _ (scalar_text_of _ _ _ _ (tree c.args.forests.now c.args.id.0) e refl refl) h));
+      on_ok c.put_scalar-in-Scalar.result c.put_scalar-in-Scalar.ensures.ok (λ h. fills_as c.args.room _ _ _ _ (scalar_text_of _ _ (tree c.args.forests.now c.args.id.0) e) h));
 }
 
 pub put_node-returns-in_ok-put_tag-in-Sequence : goal.put_node-returns-in_ok-put_tag-in-Sequence
