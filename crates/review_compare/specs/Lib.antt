@@ -1,3 +1,2 @@
 pub mod Compared
 pub mod Json
-pub mod Sides

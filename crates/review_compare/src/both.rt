@@ -1,6 +1,5 @@
-//! Two streams in one graph, ranked.
-ghost use Rattle.std.specs.Prelude.{◌≡◌, ℕ, List, [], IfOk, IfErr, IfSome, IfNone, string_bytes};
-ghost use Rattle.yaml_canon.specs.Both.{HasBoth};
+//! Two streams in one store, ranked.
+ghost use Rattle.std.specs.Prelude.{◌≡◌, ◌∷◌, ℕ, List, [], IfOk, IfErr, IfSome, IfNone, string_bytes};
 ghost use Rattle.yaml_definitions.specs.model.Tree.{Tree};
 ghost use Rattle.yaml_definitions.specs.model.Proper.{Admitted};
 ghost use Rattle.yaml_definitions.specs.model.Means.{Means};
@@ -8,18 +7,16 @@ ghost use Rattle.yaml_canon.specs.Accepting.{IsMemory};
 ghost use Rattle.yaml_canon.specs.Claims.{IsCanonicalText, CanonicalRefuses};
 ghost use Rattle.yaml_canon.specs.FaultPlaces.{TellsPlace};
 ghost use Rattle.yaml_canon.specs.Comparing.{Compares};
+ghost use Rattle.yaml_canon.specs.Written.{ShowsStreams};
 ghost use Rattle.review_compare.specs.Compared.{DiffLines};
-ghost use Rattle.review_compare.specs.Sides.{BothAre};
 
 use review_lines::{Compared, compare};
 use review_patterns::Pattern;
 use review_places::trace::{Trace, Traced};
-use review_text::Both;
 use review_text::options::Diff;
 use std::alloc::Global;
-use yaml_canon::both::{BothForests, forest_of_both, forest_of_both_with};
-use yaml_canon::{Side, canonical_into};
-use yaml_rank::rank;
+use yaml_canon::{Side, canonical_into, ranked_streams, ranked_streams_with};
+use yaml_store_rank::RankedForests;
 use yaml_text::fault::Fault;
 
 /// The fault of a file that is rejected: that which `canonical` answers. The length of the canonical text is found, and no text made.
@@ -36,47 +33,30 @@ pub fn fault_of(alloc: Global, bytes: &[u8]) -> Option<Fault>
     }
 }
 
-/// The nodes of both streams in one graph, equal ones mostly merged, ranked.
-///
-/// The left side stands for want of memory, and for two equal keys of either side.
-pub(crate) fn merged<'f>(alloc: Global, forests: &'f BothForests<'_>) -> Result<Both<'f>, Side>
-    requires { (left right : List ℕ) × HasBoth left right forests.now }
-    ensures { (left right : List ℕ) → HasBoth left right forests.now → IfOk result (BothAre left right) }
-{
-    let graph = match forests.graph(alloc) {
-        Ok(graph) => graph,
-        Err(_) => return Err(Side::Left),
-    };
-    let ranks = match rank(alloc, &graph) {
-        Ok(ranks) => ranks,
-        Err(_) => return Err(Side::Left),
-    };
-    Ok(Both {
-        graph,
-        ranks,
-        documents: forests.left.documents,
-    })
+/// The side of the first of two streams, or of the other.
+fn side_of(place: usize) -> Side {
+    if place == 0 { Side::Left } else { Side::Right }
 }
 
-/// The nodes of both streams, and where it is asked for, a trace of the events that the left one is read to and then of the right
-/// one's, with how many are the left one's.
-pub(crate) fn forests_of<'l>(
+/// The nodes of both streams, ranked, and where it is asked for, a trace of the events that the left one is read to and then of the
+/// right one's, with how many there are up to the end of each.
+pub(crate) fn ranked_sides<'l>(
     alloc: Global,
     left: &'l [u8],
     right: &[u8],
     traced: bool,
-) -> Result<(BothForests<'l>, Option<(Trace, usize)>), Side>
-    ensures both { IfOk result (λ made. HasBoth left.now right.now made.0) }
+) -> Result<(RankedForests<'l>, Option<(Trace, Vec<usize>)>), Side>
+    ensures { IfOk result (λ made. ShowsStreams (left.now ∷ right.now ∷ []) made.0) }
 {
     if traced {
-        match forest_of_both_with(alloc, left, right, Trace::new(alloc)) {
-            Ok((forests, trace, middle)) => Ok((forests, Some((trace, middle)))),
-            Err((side, _)) => Err(side),
+        match ranked_streams_with(alloc, left, &[right], Trace::new(alloc)) {
+            Ok((forests, trace, ends)) => Ok((forests, Some((trace, ends)))),
+            Err(place) => Err(side_of(place)),
         }
     } else {
-        match forest_of_both(alloc, left, right) {
+        match ranked_streams(alloc, left, &[right]) {
             Ok(forests) => Ok((forests, None)),
-            Err((side, _)) => Err(side),
+            Err(place) => Err(side_of(place)),
         }
     }
 }
@@ -86,24 +66,25 @@ pub(crate) fn is_traced(asked: &Diff<'_>) -> bool {
     asked.places || asked.folds
 }
 
-/// Two streams with their traces, of which one has the events of both, so many of the left one.
-pub(crate) fn traced_both<'t>(
+/// Two streams with their traces, of which one has the events of both.
+pub(crate) fn traced_sides<'t>(
     left: &'t [u8],
     right: &'t [u8],
-    both: &'t Option<(Trace, usize)>,
+    traced: &'t Option<(Trace, Vec<usize>)>,
 ) -> Option<(Traced<'t>, Traced<'t>)> {
-    let (trace, middle) = both.as_ref()?;
+    let (trace, ends) = traced.as_ref()?;
+    let middle = *ends.first()?;
     Some((
         Traced {
             bytes: left,
             trace,
             first: 0,
-            end: *middle,
+            end: middle,
         },
         Traced {
             bytes: right,
             trace,
-            first: *middle,
+            first: middle,
             end: trace.events.len(),
         },
     ))
@@ -124,15 +105,10 @@ pub fn compare_sides(
     ensures same { IfOk result (λ told. ignored.now ≡ [] → Compares left.now right.now told.same) }
     ensures lines { IfOk result (λ told. DiffLines left.now right.now asked.now ignored.now told.same (string_bytes told.text)) }
 {
-    let (forests, trace) = forests_of(alloc, left, right, is_traced(asked))?;
-    let both = merged(alloc, &forests)?;
-    match compare(
-        alloc,
-        &both,
-        asked,
-        ignored,
-        traced_both(left, right, &trace),
-    ) {
+    let (forests, traced) = ranked_sides(alloc, left, right, is_traced(asked))?;
+    let sides = traced_sides(left, right, &traced);
+    forests.laws();
+    match compare(alloc, &forests, asked, ignored, sides) {
         Ok(told) => Ok(told),
         Err(_) => Err(Side::Left),
     }

@@ -3,7 +3,7 @@ ghost use Rattle.std.specs.Prelude.{◌≡◌, [], IfOk};
 ghost use Rattle.yaml_canon.specs.Comparing.{Compares};
 ghost use Rattle.review_compare.specs.Compared.{DiffLists};
 
-use crate::both::{forests_of, is_traced, merged, traced_both};
+use crate::both::{is_traced, ranked_sides, traced_sides};
 use review_lines::{Listed, list_differences};
 use review_patterns::Pattern;
 use review_text::options::Diff;
@@ -25,10 +25,10 @@ pub fn list_sides(
     ensures same { IfOk result (λ told. ignored.now ≡ [] → Compares left.now right.now told.same) }
     ensures lists { IfOk result (DiffLists left.now right.now asked.now ignored.now) }
 {
-    let (forests, trace) = forests_of(alloc, left, right, is_traced(asked))?;
-    let both = merged(alloc, &forests)?;
-    let sides = traced_both(left, right, &trace);
-    match list_differences(alloc, &both, asked, ignored, sides) {
+    let (forests, traced) = ranked_sides(alloc, left, right, is_traced(asked))?;
+    let sides = traced_sides(left, right, &traced);
+    forests.laws();
+    match list_differences(alloc, &forests, asked, ignored, sides) {
         Ok(told) => Ok(told),
         Err(_) => Err(Side::Left),
     }

@@ -19,7 +19,7 @@ use Rattle.yaml_canon.specs.Read.{HasRoots}
 use Rattle.yaml_canon.specs.Both.{HasBoth}
 use Rattle.yaml_canon.proofs.ForestLaws.{roots-are}
 
-means-trees : (bytes : List ℕ) (ds : List Document) (ts : List Tree) → Reads bytes (stream_events ds) → trees_unfolded ds ≡ Ok ts → Means bytes ts
+pub means-trees : (bytes : List ℕ) (ds : List Document) (ts : List Tree) → Reads bytes (stream_events ds) → trees_unfolded ds ≡ Ok ts → Means bytes ts
 means-trees bytes ds ts r u = record { events = stream_events ds; reads = r; stands = record { documents = ds; cut = refl; unfolded = u } }
 
 -- both sides were read, and the left side's documents are so many

@@ -28,9 +28,7 @@ use Rattle.law_length.specs.Sizes.{texts_bytes}
 use Rattle.law_length.proofs.Contents.{tag_light}
 use Rattle.law_length.proofs.Numbers.{text_light}
 use Rattle.law_length.proofs.Forests.{meaning_bounded}
-use Rattle.yaml_tree.specs.TreeLists.{tree_at}
 use Rattle.yaml_tree.specs.Refused.{RefusesStream}
-use Rattle.yaml_tree.specs.declared.node.NodeId.{NodeId}
 use Rattle.yaml_spell.specs.Pieces.{Began, Puts, Fails}
 use Rattle.yaml_spell.specs.Documents.{spell_more, arranged_more, arranged_bytes, RefusesArranged}
 use Rattle.yaml_store_rank.specs.Walked.{walked_tree}
@@ -59,9 +57,9 @@ pub all_of : (P : Tree → Type 0) (f : List Tree) → All P f → AllOf P f
 all_of P [] h = tt
 all_of P (t ∷ f) h = (h 0 t (omega arith), all_of P f (λ k d l. h (suc k) d (omega arith)))
 
-pub all_roots : (P : Tree → Type 0) (ts : List Tree) (roots : List NodeId) (n : ℕ) → ((i : ℕ) → i < n → P (tree_at ts i)) → All (λ i. i.0 < n) roots → AllOf P (map (λ i. tree_at ts i.0) roots)
-all_roots P ts [] n h w = tt
-all_roots P ts (r ∷ roots) n h w = (h r.0 (w 0 r (omega arith)), all_roots P ts roots n h (λ k d l. w (suc k) d (omega arith)))
+pub all_roots : (P : Tree → Type 0) (f : ℕ → Tree) (roots : List ℕ) (n : ℕ) → ((i : ℕ) → i < n → P (f i)) → All (λ i. i < n) roots → AllOf P (map f roots)
+all_roots P f [] n h w = tt
+all_roots P f (r ∷ roots) n h w = (h r (w 0 r (omega arith)), all_roots P f roots n h (λ k d l. w (suc k) d (omega arith)))
 
 -- it is all that they mean
 pub means_alone : (bytes : List ℕ) (f : List Tree) → Means bytes f → AllOf (λ t. height t ≤ height_limit) f → AllOf Keyed f → MeansAlone bytes f

@@ -15,4 +15,5 @@ mod KeyLaws
 mod SideLaws
 mod TargetLaws
 mod RunLaws
-mod StreamLaws
+pub mod StreamLaws
+mod StreamEnds

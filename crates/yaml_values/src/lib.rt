@@ -4,7 +4,6 @@
 
 pub mod making;
 mod parts;
-mod ranked;
 pub mod stream;
 mod tags;
 mod texts;

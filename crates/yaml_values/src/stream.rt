@@ -4,34 +4,22 @@ ghost use Rattle.yaml_definitions.specs.model.Tree.{Tree};
 ghost use Rattle.yaml_definitions.specs.model.Proper.{Admitted};
 ghost use Rattle.yaml_definitions.specs.model.Means.{Means};
 ghost use Rattle.yaml_canon.specs.Accepting.{IsMemory};
-ghost use Rattle.yaml_canon.specs.Both.{HasBoth};
 ghost use Rattle.yaml_canon.specs.Claims.{CanonicalRefuses};
 ghost use Rattle.yaml_values.specs.ValuesOf.{AreValuesOf, AreValues};
 
 use crate::Values;
 use crate::making::values_of;
-use crate::ranked::ranked_of;
 use std::alloc::Global;
-use yaml_canon::both::{BothForests, forest_of_both};
-use yaml_canon::canonical;
 use yaml_canon::laws::nothing_else_is_refused;
+use yaml_canon::{canonical, ranked_forest};
 use yaml_text::fault::Fault;
-
-/// The values of the left one of two streams.
-fn values_made(alloc: Global, both: BothForests<'_>) -> Result<Values, Fault>
-    requires { (left right : List ℕ) × HasBoth left right both }
-    ensures { (left right : List ℕ) → HasBoth left right both.entry → IfOk result (AreValuesOf left) }
-{
-    let stream = ranked_of(alloc, both)?;
-    values_of(alloc, &stream.ranked, &stream.roots[..stream.documents])
-}
 
 /// The values of the stream in these bytes; none if it is rejected, or if memory does not suffice.
 fn values_if_any(alloc: Global, bytes: &[u8]) -> Option<Values>
     ensures { IfSome result (AreValuesOf bytes.now) }
 {
-    let both = forest_of_both(alloc, bytes, b"").ok()?;
-    values_made(alloc, both).ok()
+    let forest = ranked_forest(alloc, bytes).ok()?;
+    values_of(alloc, &forest.ranked, &forest.roots).ok()
 }
 
 /// Why `canonical` rejects these bytes, of which no values were made; want of memory if it does not reject them.
