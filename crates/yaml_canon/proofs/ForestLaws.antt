@@ -8,7 +8,8 @@ use Rattle.yaml_definitions.specs.model.Limits.{open_limit}
 use Rattle.yaml_definitions.specs.model.Event.{Event}
 use Rattle.yaml_definitions.specs.model.Text.{Text}
 use Rattle.yaml_text.specs.declared.fault.Fault.{Fault}
-use Rattle.yaml_definitions.specs.model.Serial.{stream_events}
+use Rattle.yaml_definitions.specs.model.Serial.{Document, stream_events}
+use Rattle.yaml_definitions.specs.model.Unfold.{trees_of as trees_unfolded}
 use Rattle.yaml_definitions.specs.grammar.Reading.{Reads}
 use Rattle.yaml_definitions.specs.grammar.Streams.{ReadsText}
 use Rattle.yaml_definitions.proofs.grammar.Documents.{readings_are_documents}
@@ -37,13 +38,13 @@ roots-are ts (i ∷ roots) (u ∷ us) h = λ z. get_or_from_slice_get ts i u (sc
 roots-are ts [] (u ∷ us) h = absurd h
 roots-are ts (i ∷ roots) [] h = absurd h
 
+-- the bytes mean what their documents unfold to
+pub means-trees : (bytes : List ℕ) (ds : List Document) (ts : List Tree) → Reads bytes (stream_events ds) → trees_unfolded ds ≡ Ok ts → Means bytes ts
+means-trees bytes ds ts r u = record { events = stream_events ds; reads = r; stands = record { documents = ds; cut = refl; unfolded = u } }
+
 -- what the bytes mean
 pub meant : (bytes : List ℕ) (f : Forest) → HasForest bytes f → Means bytes (root_trees f)
-meant bytes f h = record {
-  events = stream_events h.documents;
-  reads = h.read;
-  stands = record { documents = h.documents; cut = refl; unfolded = h.forest.unfolded ∙ ap Ok (sym (roots-are (trees_of f.store) f.roots.items h.forest.trees_are h.forest.roots)) };
-}
+meant bytes f h = means-trees bytes h.documents (root_trees f) h.read (h.forest.unfolded ∙ ap Ok (sym (roots-are (trees_of f.store) f.roots.items h.forest.trees_are h.forest.roots)))
 
 -- the events of a reading are those of documents
 pub takes : {K : Type 0} (holds : K → List Event → Type 0) (bytes cs : List ℕ) (before after : K) (es : List Event) → Text bytes cs → ReadsText cs (Unit {0}) open_limit es → Puts holds before es after → Takes holds bytes before after

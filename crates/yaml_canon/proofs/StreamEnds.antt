@@ -1,8 +1,8 @@
 -- Streams that are read one behind the other, and where each ends.
-use Rattle.std.proofs.Common.{◌≡◌, ℕ, ◌+◌, ◌-◌, ◌≤◌, List, [], ◌∷◌, ◌++◌, length, length-append, map, take, drop, refl, sym, ◌∙◌, ap, subst, arith, Ok}
+use Rattle.std.proofs.Common.{◌≡◌, ℕ, ◌+◌, ◌-◌, ◌<◌, ◌≤◌, List, [], ◌∷◌, ◌++◌, length, length-append, map, take, drop, get_or, refl, sym, ◌∙◌, ap, subst, arith, Ok}
 use Rattle.std.specs.List.{flat_map, slice_range}
 use Rattle.std.proofs.Math.Seq.{take-append_seam, drop-append_seam}
-use Rattle.std.proofs.lemmas.List.{append-nil, append_assoc, map-append, take-map, drop-map, length-map}
+use Rattle.std.proofs.lemmas.List.{append-nil, append_assoc, take_more, map-append, take-map, drop-map, length-map}
 use Rattle.yaml_definitions.specs.model.Tree.{Tree}
 use Rattle.yaml_definitions.specs.model.Event.{Event}
 use Rattle.yaml_definitions.specs.model.Means.{Means}
@@ -24,8 +24,7 @@ use Rattle.yaml_canon.specs.Tee.{AllRead, ends_from}
 use Rattle.yaml_canon.specs.Streams.{EndThere, HoldsStreams, Reached}
 use Rattle.yaml_canon.specs.Written.{AllMean, ShowsStreams}
 use Rattle.yaml_canon.specs.declared.streams.Ends.{Ends}
-use Rattle.yaml_canon.proofs.BothLaws.{means-trees}
-use Rattle.yaml_canon.proofs.ForestLaws.{roots-are}
+use Rattle.yaml_canon.proofs.ForestLaws.{roots-are, means-trees}
 
 -- ---- lists one behind the other
 
@@ -41,6 +40,10 @@ ends-behind start (ys ∷ xss) xs all h = ap (λ ns. (start + length ys) ∷ ns)
 are-ends : {X : Type 0} (xss : List (List X)) (start most : ℕ) → start + size xss ≤ most → AreEnds most start (ends_from start xss)
 are-ends [] start most h = tt
 are-ends (xs ∷ xss) start most h = (omega arith, omega (arith, h), are-ends xss (start + length xs) most (omega (arith, h)))
+
+-- lists that are taken one by one behind others
+pub one-behind : {X : Type 0} (v : X → List ℕ) (front : List (List ℕ)) (xs : List X) (i : ℕ) (d : X) → i < length xs → (front ++ map v (take i xs)) ++ (v (get_or xs i d) ∷ []) ≡ front ++ map v (take (i + 1) xs)
+one-behind v front xs i d l = append_assoc front (map v (take i xs)) (v (get_or xs i d) ∷ []) ∙ ap (λ z. front ++ z) (sym (ap (map v) (take_more i xs d l) ∙ map-append v (take i xs) (get_or xs i d ∷ [])))
 
 -- ---- documents
 

@@ -107,7 +107,7 @@ fn ranked_of<'l>(
     ends: Vec<usize>,
 ) -> Result<RankedForests<'l>, Fault>
     requires { (sources : List (List ℕ)) × HoldsStreams Composes sources composing ends.items }
-    ensures { (sources : List (List ℕ)) → HoldsStreams Composes sources composing.entry ends.entry.items → IfOk result (ShowsStreams sources) }
+    ensures { (sources : List (List ℕ)) → HoldsStreams Composes sources composing.entry ends.items → IfOk result (ShowsStreams sources) }
 {
     let Forest {
         store,

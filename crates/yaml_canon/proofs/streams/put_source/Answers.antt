@@ -1,0 +1,14 @@
+use Rattle.std.proofs.Common.{rules, ◌≡◌, ◌++◌, ◌∷◌, ℕ, List, [], map, IfOk, ◌+◌, ◌-◌, ◌*◌, ◌<◌, ◌≤◌, length, ◌/◌, ◌%◌, Bool, true, false, nat_eq, nat_lt, slice_index_or, slice_set, bit_and, bit_or, Fits, w8, w32, w64, Bor, MutBor}
+use Rattle.yaml_definitions.specs.model.Serial.{Document}
+use Rattle.yaml_sink.specs.Held.{Keeps}
+use Rattle.yaml_tree_builder.specs.Reached.{HaveDocuments, all_events}
+use Rattle.yaml_store_composer.specs.KeeperModel.{Composes}
+use Rattle.yaml_canon.specs.Read.{IsSource}
+use Rattle.yaml_canon.specs.Streams.{HoldsStreams, Reached}
+use Rattle.yaml_canon.specs.Tee.{KeepsStreams}
+use Rattle.yaml_canon.specs.Written.{ShowsStreams}
+use Rattle.yaml_canon.proofs.streams.put_source.Goals as goal
+
+-- src/streams.rt:52:1
+pub returns : goal.returns
+returns g c = ?

@@ -1,0 +1,22 @@
+use Rattle.std.proofs.Common.{rules, ◌≡◌, ◌++◌, ◌∷◌, ℕ, List, [], map, IfOk, ◌+◌, ◌-◌, ◌*◌, ◌<◌, ◌≤◌, length, ◌/◌, ◌%◌, Bool, true, false, nat_eq, nat_lt, slice_index_or, slice_set, bit_and, bit_or, Fits, w8, w32, w64, Bor, MutBor}
+use Rattle.yaml_definitions.specs.model.Serial.{Document}
+use Rattle.yaml_sink.specs.Held.{Keeps}
+use Rattle.yaml_tree_builder.specs.Reached.{HaveDocuments, all_events}
+use Rattle.yaml_store_composer.specs.KeeperModel.{Composes}
+use Rattle.yaml_canon.specs.Read.{IsSource}
+use Rattle.yaml_canon.specs.Streams.{HoldsStreams, Reached}
+use Rattle.yaml_canon.specs.Tee.{KeepsStreams}
+use Rattle.yaml_canon.specs.Written.{ShowsStreams}
+use Rattle.yaml_canon.proofs.streams.ranked_streams_with.Goals as goal
+
+-- src/streams.rt:180:11
+pub ranked_of-requires : goal.ranked_of-requires
+ranked_of-requires g c = ?
+
+-- src/streams.rt:151:1
+pub returns-in-Ok-ranked_of-clause-shows : goal.returns-in-Ok-ranked_of-clause-shows
+returns-in-Ok-ranked_of-clause-shows g c = ?
+
+-- src/streams.rt:151:1
+pub returns-in-Ok-ranked_of-clause-kept : goal.returns-in-Ok-ranked_of-clause-kept
+returns-in-Ok-ranked_of-clause-kept g c = ?
