@@ -19,17 +19,20 @@ use Rattle.yaml_store_rank.specs.Written.{ShowsStore}
 use Rattle.yaml_tree_builder.specs.Reached.{AllUnfold, all_trees, all_events, HaveDocuments}
 use Rattle.yaml_tree_builder.specs.BuilderModel.{AreStreams}
 use Rattle.yaml_tree_builder.specs.declared.builder.Forest.{Forest}
+use Rattle.yaml_store_composer.specs.KeeperModel.{Composes}
+use Rattle.yaml_store_composer.specs.declared.keeper.Composing.{Composing}
 use Rattle.yaml_canon.specs.Read.{Takes, HasRoots}
-use Rattle.yaml_canon.specs.Tee.{AllRead, ends_from}
+use Rattle.yaml_canon.specs.Tee.{TeeHolds, AllRead, ends_from, KeepsStreams}
 use Rattle.yaml_canon.specs.Streams.{EndThere, HoldsStreams, Reached}
 use Rattle.yaml_canon.specs.Written.{AllMean, ShowsStreams}
 use Rattle.yaml_canon.specs.declared.streams.Ends.{Ends}
+use Rattle.yaml_canon.specs.declared.tee.Tee.{Tee}
 use Rattle.yaml_canon.proofs.ForestLaws.{roots-are, means-trees}
 
 -- ---- lists one behind the other
 
 -- how much is in all lists
-unfoldable size : {X : Type 0} → List (List X) → ℕ
+abbrev size : {X : Type 0} → List (List X) → ℕ
 size [] = 0
 size (xs ∷ xss) = length xs + size xss
 
@@ -43,7 +46,7 @@ are-ends (xs ∷ xss) start most h = (omega arith, omega (arith, h), are-ends xs
 
 -- lists that are taken one by one behind others
 pub one-behind : {X : Type 0} (v : X → List ℕ) (front : List (List ℕ)) (xs : List X) (i : ℕ) (d : X) → i < length xs → (front ++ map v (take i xs)) ++ (v (get_or xs i d) ∷ []) ≡ front ++ map v (take (i + 1) xs)
-one-behind v front xs i d l = append_assoc front (map v (take i xs)) (v (get_or xs i d) ∷ []) ∙ ap (λ z. front ++ z) (sym (ap (map v) (take_more i xs d l) ∙ map-append v (take i xs) (get_or xs i d ∷ [])))
+one-behind v front xs i d l = append_assoc front (map v (take i xs)) (v (get_or xs i d) ∷ []) ∙ ap (λ z. front ++ z) (sym (ap (map v) (take_more xs i d l) ∙ map-append v (take i xs) (get_or xs i d ∷ [])))
 
 -- ---- documents
 
@@ -59,7 +62,7 @@ events-behind : (dss : List (List Document)) (ds : List Document) → all_events
 events-behind [] ds = append-nil (stream_events ds)
 events-behind (d ∷ dss) ds = ap (λ es. stream_events d ++ es) (events-behind dss ds) ∙ sym (append_assoc (stream_events d) (all_events dss) (stream_events ds))
 
-pub events-joined : (dss : List (List Document)) → all_events dss ≡ flat_map (λ es. es) (map stream_events dss)
+events-joined : (dss : List (List Document)) → all_events dss ≡ flat_map (λ es. es) (map stream_events dss)
 events-joined [] = refl
 events-joined (ds ∷ dss) = ap (λ es. stream_events ds ++ es) (events-joined dss)
 
@@ -105,7 +108,7 @@ end-behind dss ds ends count e h =
     record {
       forests = h.forests;
       unfolded = h.unfolded;
-      ends_are = ap (λ ns. ns ++ (count ∷ [])) (e.ends_are ∙ ap (ends_from 0) same) ∙ (sym (ends-behind 0 a.before a.last count all) ∙ ap (ends_from 0) (sym a.is));
+      ends_are = ap (λ ns. ns ++ (count ∷ [])) (e.ends_are ∙ ap (ends_from 0) same) ∙ (sym (ends-behind 0 a.before a.last count (omega (arith, all))) ∙ ap (ends_from 0) (sym a.is));
     }
 
 module _ {K : Type 0} (holds : K → List Event → Type 0) where
@@ -133,8 +136,25 @@ module _ {K : Type 0} (holds : K → List Event → Type 0) where
           held = kept;
           ends_are = subst (EndThere dss) (sym d) (end-behind h.documents t.documents old.documents.items count h.ends_are (have dss held));
         };
-        events = e ∙ (ap (λ ns. ns ++ (mark ∷ [])) r.events ∙ (sym (ends-behind 0 (map stream_events h.documents) (stream_events t.documents) mark all) ∙ ap (ends_from 0) (sym maps)));
+        events = e ∙ (ap (λ ns. ns ++ (mark ∷ [])) r.events ∙ (sym (ends-behind 0 (map stream_events h.documents) (stream_events t.documents) mark (omega (arith, all))) ∙ ap (ends_from 0) (sym maps)));
       }
+
+-- ---- beside another keeper
+
+module _ {K : Type 0} (holds : K → List Event → Type 0) where
+  -- nothing is read yet
+  pub none-beside : (composing : Composing) (keeper : K) (ends : Ends) → ends.documents.items ≡ [] → ends.events.items ≡ [] → Composes composing [] → holds keeper [] → Reached (TeeHolds Composes holds) [] (record { first = composing; second = keeper }) ends
+  none-beside composing keeper ends d e h k = none-reached (TeeHolds Composes holds) (record { first = composing; second = keeper }) ends d e (record { first_holds = h; second_holds = k })
+
+  -- what the composer holds
+  pub composer-holds : (sources : List (List ℕ)) (tee : Tee Composing K) (ends : List ℕ) → HoldsStreams (TeeHolds Composes holds) sources tee ends → HoldsStreams Composes sources tee.first ends
+  composer-holds sources tee ends h = record { documents = h.documents; read = h.read; held = h.held.first_holds; ends_are = h.ends_are }
+
+  -- what the other holds
+  pub keeps-streams : (sources : List (List ℕ)) (tee : Tee Composing K) (ends : Ends) → Reached (TeeHolds Composes holds) sources tee ends → KeepsStreams holds sources tee.second ends.events.items
+  keeps-streams sources tee ends r =
+      let h = r.holds_are in
+      record { events = map stream_events h.documents; read = h.read; held = subst (holds tee.second) (events-joined h.documents) h.held.second_holds; ends_are = r.events }
 
 -- ---- what is shown of them
 
@@ -146,12 +166,11 @@ all-mean f (bytes ∷ sources) (ds ∷ dss) (ts ∷ tss) roots front start s r u
     let rest = all_trees tss in
     let n : (start + length ts) - start ≡ length ts = omega arith in
     let cut : map T (slice_range roots start (start + length ts)) ≡ ts =
-          sym (take-map T (start + length ts - start) (drop start roots))
-          ∙ (ap (take (start + length ts - start)) (sym (drop-map T start roots) ∙ ap (drop start) e)
-          ∙ (ap (λ k. take (start + length ts - start) (drop k (front ++ (ts ++ rest)))) s
-          ∙ (ap (take (start + length ts - start)) (drop-append_seam front (ts ++ rest))
-          ∙ (ap (λ k. take k (ts ++ rest)) n ∙ take-append_seam ts rest)))) in
-    (
+    sym (take-map T (start + length ts - start) (drop start roots))
+    ∙ (ap (take (start + length ts - start)) (sym (drop-map T start roots) ∙ ap (drop start) e)
+    ∙ (ap (λ k. take (start + length ts - start) (drop k (front ++ (ts ++ rest)))) s
+    ∙ (ap (take (start + length ts - start)) (drop-append_seam front (ts ++ rest))
+    ∙ (ap (λ k. take k (ts ++ rest)) n ∙ take-append_seam ts rest)))) in (
       subst (Means bytes) (sym cut) (means-trees bytes ds ts r.0 u.0),
       all-mean f sources dss tss roots (front ++ ts) (start + length ts) (ap (λ k. k + length ts) s ∙ sym (length-append front ts)) r.1 u.1 (e ∙ sym (append_assoc front ts rest)),
     )

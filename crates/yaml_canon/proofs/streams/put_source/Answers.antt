@@ -1,14 +1,9 @@
-use Rattle.std.proofs.Common.{rules, ◌≡◌, ◌++◌, ◌∷◌, ℕ, List, [], map, IfOk, ◌+◌, ◌-◌, ◌*◌, ◌<◌, ◌≤◌, length, ◌/◌, ◌%◌, Bool, true, false, nat_eq, nat_lt, slice_index_or, slice_set, bit_and, bit_or, Fits, w8, w32, w64, Bor, MutBor}
-use Rattle.yaml_definitions.specs.model.Serial.{Document}
-use Rattle.yaml_sink.specs.Held.{Keeps}
-use Rattle.yaml_tree_builder.specs.Reached.{HaveDocuments, all_events}
-use Rattle.yaml_store_composer.specs.KeeperModel.{Composes}
-use Rattle.yaml_canon.specs.Read.{IsSource}
-use Rattle.yaml_canon.specs.Streams.{HoldsStreams, Reached}
-use Rattle.yaml_canon.specs.Tee.{KeepsStreams}
-use Rattle.yaml_canon.specs.Written.{ShowsStreams}
+use Rattle.yaml_canon.specs.declared.streams.Ends.{Ends}
+use Rattle.yaml_canon.proofs.StreamEnds.{reached-behind}
 use Rattle.yaml_canon.proofs.streams.put_source.Goals as goal
 
--- src/streams.rt:52:1
 pub returns : goal.returns
-returns g c = ?
+returns g c = λ bytes s before r.
+    let ends : Ends = record { documents = c.push.new.self; events = c.push-2.new.self } in
+    reached-behind g.K.Keeper.holds before bytes c.args.keeper c.in_ok-kept.kept c.count_documents.new.self c.args.ends.now ends c.in_ok-documents.documents c.mark.result r (c.in_ok-kept.ensures.takes bytes s) c.in_ok-documents.ensures.count c.in_ok-documents.ensures.keeps c.mark.ensures
+    c.in_ok-push.ensures.items c.in_ok-push-2.ensures.items
