@@ -70,9 +70,9 @@ four-mean f b o t m h = by f.streams h
     by : (streams : List (List ℕ)) → AllMean f (b ∷ o ∷ t ∷ m ∷ []) streams → Means b (at streams 0) × Means o (at streams 1) × Means t (at streams 2) × Means m (at streams 3)
     by [] h = absurd h
     by (x ∷ []) h = absurd h.1
-    by (x ∷ y ∷ []) h = absurd h.2
-    by (x ∷ y ∷ z ∷ []) h = absurd h.3
-    by (x ∷ y ∷ z ∷ w ∷ streams) h = (h.0, h.1, h.2, h.3)
+    by (x ∷ y ∷ []) h = absurd h.1.1
+    by (x ∷ y ∷ z ∷ []) h = absurd h.1.1.1
+    by (x ∷ y ∷ z ∷ w ∷ streams) h = (h.0, h.1.0, h.1.1.0, h.1.1.1.0)
 
 module _ (f : Forests) (are : IsRanked f) where
   within : (roots : List NodeId) (k : ℕ) → numbers roots ≡ documents_of f k → AllWithin f roots

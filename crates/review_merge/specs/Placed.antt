@@ -54,7 +54,7 @@ View = Finder × List ℕ
 -- It finds the nodes of the documents with these roots, of which these are the bytes.
 pub record Views (g : Forests) (side : Side) (view : View) : Type 0 where
   pub forests : forests_of view.0 ≡ g
-  pub side : view.0.stream.side ≡ Left
+  pub left : view.0.stream.side ≡ Left
   pub roots : view.0.stream.roots.now ≡ side.0
   pub bytes : view.1 ≡ side.1
   pub laid : IsLaid side.1 (layout_of view.0)

@@ -10,12 +10,12 @@ use Rattle.review_merge.proofs.lines.put_lines.Goals as goal
 pub list-init : goal.list-init
 list-init c = lines_start (IsStyled c.args.forests.now c.args.style.now) (enumerate_from 0 c.args.list.now) budget c.new-budget.result.bytes (string_bytes c.args.out.now) c.new-budget.ensures
 
-pub put_conflict-requires-clause-steps : goal.put_conflict-requires-clause-steps
-put_conflict-requires-clause-steps c =
+pub put_conflict-requires : goal.put_conflict-requires
+put_conflict-requires c =
     let list = c.args.list.now in
     let at = c.list.number in
     let one = c.index-list-number.result in
-    c.path_at-steps.ensures ∙ ap (λ z. unwrap_or (slice_get z at) []) c.requires.paths ∙ steps_at list at one (omega (arith, c.list-test.true)) ∙ ap steps_of (sym c.index-list-number.is)
+    record { steps = c.path_at-steps.ensures ∙ ap (λ z. unwrap_or (slice_get z at) []) c.requires.paths ∙ steps_at list at one (omega (arith, c.list-test.true)) ∙ ap steps_of (sym c.index-list-number.is) }
 
 pub list-preserved : goal.list-preserved
 list-preserved c =

@@ -12,5 +12,5 @@ returns c =
     let offsets = c.in_ok-offsets.offsets.items in
     let list = c.in_ok-places.field-0.items in
     seats_are c.args.forests.now (map (λ path. path.items) c.args.paths.now) c.args.roots.now bytes c.new-finder.result offsets list
-    (record { forests = new.forests; side = ap (λ s. s.side) new.stream; roots = ap (λ s. s.roots.now) new.stream; bytes = refl; laid = subst (IsLaid bytes) (sym new.layout) c.in_ok-layout.ensures }) c.in_ok-offsets.ensures
+    (record { forests = new.forests; left = ap (λ s. s.side) new.stream; roots = ap (λ s. s.roots.now) new.stream; bytes = refl; laid = subst (IsLaid bytes) (sym new.layout) c.in_ok-layout.ensures }) c.in_ok-offsets.ensures
     (subst (λ z. All (IsTold z offsets) list) c.unmarked.ensures c.in_ok-places.ensures.ok) c.in_ok-places.ensures.numbers
