@@ -37,6 +37,7 @@ fn document_at(forests: &RankedForests<'_>, step: Step) -> Option<NodeId>
 fn part_at(forests: &RankedForests<'_>, node: NodeId, step: Step) -> Option<NodeId>
     ensures { trees_of forests.now result ≡ left_below forests.now (Some (tree forests.now node.0)) step }
 {
+    forests.laws();
     match step {
         Step::Item(places) => match places.left() {
             Some(place) => item_in(forests, node, place),
