@@ -1,6 +1,6 @@
 -- Names of items.
-use Rattle.std.proofs.Common.{◌≡◌, ℕ, Bool, true, false, cond, List, [], ◌∷◌, length, refl, sym, ◌∙◌, ap, subst, arith}
-use Rattle.std.specs.Prelude.{Option, Some, None, option_map, codes}
+use Rattle.std.proofs.Common.{◌≡◌, ℕ, true, false, cond, List, [], ◌∷◌, length, refl, sym, ◌∙◌, ap, subst, arith}
+use Rattle.std.specs.Prelude.{Option, Some, None, option_map}
 use Rattle.yaml_definitions.specs.model.Tree.{Tree}
 use Rattle.yaml_store_rank.specs.Forests.{Forests, tree}
 use Rattle.yaml_tree.specs.declared.node.NodeId.{NodeId}

@@ -1,25 +1,24 @@
 -- Where a path leads, step by step.
-use Rattle.std.proofs.Common.{◌≡◌, ℕ, ◌+◌, ◌*◌, ◌<◌, ◌≤◌, ◌&&◌, Bool, not, List, [], ◌∷◌, length, map, refl, sym, ◌∙◌, ap, subst, arith}
-use Rattle.std.specs.Prelude.{Option, Some, None, IfSome, IfNone, option_map}
+use Rattle.std.proofs.Common.{◌≡◌, ℕ, ◌+◌, ◌*◌, ◌&&◌, Bool, not, List, [], ◌∷◌, length, map, refl, sym, ◌∙◌, ap, subst, arith}
+use Rattle.std.specs.Prelude.{Option, Some, None, IfNone}
 use Rattle.std.specs.List.{slice_get}
-use Rattle.std.proofs.lemmas.Option.{slice_get-get_or, slice_get_past}
 use Rattle.std.specs.Borrow.{Bor}
 use Rattle.yaml_tree.specs.Shown.{inside_shown}
 use Rattle.yaml_tree.specs.declared.node.NodeId.{NodeId}
 use Rattle.yaml_tree.specs.declared.shown.Inside.TheVariants.{Sequence}
 use Rattle.yaml_tree.specs.declared.shown.Shown.{Shown}
-use Rattle.yaml_tree.proofs.Lists.{get-map, get-unmap}
-use Rattle.yaml_store_rank.specs.Forests.{Forests, count, rank, entries_at, held_shown, IsPlaceOf, IsRanked}
+use Rattle.yaml_tree.proofs.Lists.{get-unmap}
+use Rattle.yaml_store_rank.specs.Forests.{Forests, entries_at, held_shown, IsRanked}
 use Rattle.yaml_path.specs.declared.places.Places.{Places}
 use Rattle.yaml_diff.specs.declared.difference.Step.{Step}
 use Rattle.yaml_diff.specs.declared.difference.Step.TheVariants.{Item, Value}
 use Rattle.review_places.specs.Layout.{event_below, is_alias_event, IsLayout, root_events}
-use Rattle.review_places.specs.Seats.{items_held, items_at, place_on, IsValue, LeadsDown, IsRoot, IsPart, Leads, document, further, IsEnd, EndsNowhere}
+use Rattle.review_places.specs.Seats.{items_held, items_at, place_on, LeadsDown, IsRoot, IsPart, Leads, document, further, IsEnd, EndsNowhere}
 use Rattle.review_places.specs.declared.finder.Side.{Side}
 use Rattle.review_places.specs.declared.finder.Stream.{Stream}
 use Rattle.review_places.specs.declared.layout.Layout.{Layout}
 use Rattle.review_places.specs.declared.trace.Shape.{Shape}
-use Rattle.review_places.proofs.RankLaws.{some-is, key-rank, one-place}
+use Rattle.review_places.proofs.RankLaws.{some-is, one-place}
 
 -- nodes of one number are one
 same-id : (a b : NodeId) → a.0 ≡ b.0 → a ≡ b
@@ -38,31 +37,6 @@ numbered p = (p.0.0, p.1.0)
 abbrev told : ℕ → NodeId × NodeId → NodeId × ℕ
 told place p = (p.1, place * 2 + 1)
 
-module _ (f : Forests) (are : IsRanked f) (node key : NodeId) (entries : List (NodeId × NodeId)) (is : map numbered entries ≡ entries_at f node.0) where
-  -- where an entry is found, its value is told
-  pub value-told : (r place : ℕ) (result : Option (NodeId × ℕ)) → key.0 < count f → r ≡ rank f key.0 → IsPlaceOf (rank f) (entries_at f node.0) r (Some place) → result ≡ option_map (told place) (slice_get entries place)
-      → IfSome result (λ value. IsValue f node key value.0 value.1) × IfNone result ((part : NodeId) (number : ℕ) → IsValue f node key part number → ⊥)
-  value-told r place result l h found e =
-      let own = get-unmap numbered entries place found.0 (ap (λ z. slice_get z place) is ∙ found.1) in
-      let part : NodeId = own.0.1 in
-      let n = ap (λ z. z.0) own.2 in
-      let m = ap (λ z. z.1) own.2 in
-      let there : slice_get (entries_at f node.0) place ≡ Some (own.0.0.0, part.0) = ap (λ z. slice_get z place) (sym is) ∙ get-map numbered entries place own.0 own.1 in
-      let v : IsValue f node key part (place * 2 + 1) = record {
-        place = place;
-        own = own.0.0.0;
-        entry = there;
-        equal = key-rank f are node.0 place (own.0.0.0, part.0) there ∙ ap Some (ap (rank f) n ∙ found.2 ∙ h) ∙ sym (slice_get-get_or f.ranks key.0 0 (omega (arith, l, are.long)));
-        is = refl;
-      } in
-      let s : result ≡ Some (part, place * 2 + 1) = e ∙ ap (option_map (told place)) own.1 in
-      (subst (λ z. IfSome z (λ value. IsValue f node key value.0 value.1)) (sym s) v, subst (λ z. IfNone z ((part : NodeId) (number : ℕ) → IsValue f node key part number → ⊥)) (sym s) tt)
-
-  -- where none is found, there is no value
-  pub value-none : (r : ℕ) → key.0 < count f → r ≡ rank f key.0 → IsPlaceOf (rank f) (entries_at f node.0) r None → (part : NodeId) (number : ℕ) → IsValue f node key part number → ⊥
-  value-none r l h none part number v =
-      none v.place (v.own, part.0) v.entry (some-is (sym (key-rank f are node.0 v.place (v.own, part.0) v.entry) ∙ v.equal ∙ slice_get-get_or f.ranks key.0 0 (omega (arith, l, are.long))) ∙ sym h)
-
 -- no item stands at a place at which a sequence shows none
 pub item-none : (f : Forests) (side : Side) (places : Places) (node : NodeId) (s : Shown NodeId) (items : Bor (List NodeId)) (place : Option ℕ) (result : Option (NodeId × ℕ)) → slice_get f.nodes node.0 ≡ Some (held_shown s) → s.inside ≡ Sequence items → place ≡ place_on side places
     → IfNone result ((number : ℕ) → place ≡ Some number → slice_get items.now number ≡ None) → IfNone result ((part : NodeId) (number : ℕ) → LeadsDown f side (Item places) node part number → ⊥)
@@ -72,13 +46,6 @@ item-none f side places node s items place result there kind at h =
     let is : items_at f node.0 ≡ map (λ i. i.0) items.now = ap items_held (there ∙ ap (λ z. Some (s.tag.now, inside_shown (λ i. i.0) z)) kind) in
     let own = get-unmap (λ i. i.0) items.now number part.0 (ap (λ z. slice_get z number) (sym is) ∙ d.1) in
     (let q : Some own.0 ≡ None = sym own.1 ∙ none number (at ∙ d.0) in absurd (cc)))
-
--- the key of a value is a node
-pub value-key : (f : Forests) → IsRanked f → (node key part : NodeId) (number : ℕ) → IsValue f node key part number → count f ≤ key.0 → ⊥
-value-key f are node key part number v l =
-    let r = key-rank f are node.0 v.place (v.own, part.0) v.entry in
-    let n = slice_get_past f.ranks key.0 (omega (arith, l, are.long)) in
-    (let q : Some (rank f v.own) ≡ None = sym r ∙ v.equal ∙ n in absurd (cc))
 
 -- a step leads to one part at most
 pub down-one : (f : Forests) → IsRanked f → (side : Side) (step : Step) (node a b : NodeId) (m n : ℕ) → LeadsDown f side step node a m → LeadsDown f side step node b n → (a ≡ b) × (m ≡ n)
@@ -140,9 +107,6 @@ module _ (f : Forests) (stream : Stream) (layout : Layout) where
       let g : above ≡ path = cc in
       (node, event, own, subst (λ z. Leads f stream layout z node event own) g l, subst (λ z. IsPart f stream layout z node event part below) v p)
 
-  pub ends-empty : EndsNowhere f stream layout []
-  ends-empty = λ node event own l. nowhere [] node event own refl l
-
   pub ends-first : (path : List Step) (step : Step) → length path ≡ 0 → ((node : NodeId) (event : ℕ) → IsRoot f stream layout step node event → ⊥) → EndsNowhere f stream layout (step ∷ path)
   ends-first path step e none = λ node event own l. by (step ∷ path) node event own refl l
     where
@@ -153,9 +117,6 @@ module _ (f : Forests) (stream : Stream) (layout : Layout) where
       by : (p : List Step) (node : NodeId) (event : ℕ) (own : Bool) → p ≡ step ∷ path → Leads f stream layout p node event own → ⊥
       by _ _ _ _ q (document {step = other} {node} {event} r) = none node event (let g : other ≡ step = cc in subst (λ z. IsRoot f stream layout z node event) g r)
       by _ _ _ _ q (further {path = above} {node} {event} {own} l p) = let g : above ≡ path = cc in nowhere above node event own (g ∙ empty path e) l
-
-  pub ends-above : (path : List Step) (step : Step) → (path ≡ [] → ⊥) → EndsNowhere f stream layout path → EndsNowhere f stream layout (step ∷ path)
-  ends-above path step d none = λ part below own l. let b = before (step ∷ path) path step part below own refl l d in none b.0 b.1 b.2 b.3
 
   pub ends-here : IsRanked f → (path : List Step) (step : Step) (node : NodeId) (event : ℕ) (told : Bool) → (path ≡ [] → ⊥) → IsEnd f stream layout path node event told
       → ((part : NodeId) (below : ℕ) → IsPart f stream layout step node event part below → ⊥) → EndsNowhere f stream layout (step ∷ path)
