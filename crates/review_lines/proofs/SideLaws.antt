@@ -1,9 +1,12 @@
 -- The documents of a stream, as nodes and as trees.
-use Rattle.std.proofs.Common.{◌≡◌, ℕ, ◌<◌, ◌||◌, List, [], ◌∷◌, map, sym, subst, ◌∙◌, ap, refl}
+use Rattle.std.proofs.Common.{◌≡◌, ℕ, ◌+◌, ◌<◌, ◌≤◌, ◌||◌, Bool, true, false, List, [], ◌∷◌, map, length, take, get_or, sym, subst, ◌∙◌, ap, refl, arith}
 use Rattle.std.specs.Prelude.{Some}
 use Rattle.std.specs.List.{All, list_any, slice_get}
+use Rattle.std.proofs.lemmas.Bool.{lt-ltb, ltb-true, false_from_ne_true}
+use Rattle.std.proofs.lemmas.List.{take_all}
+use Rattle.std.proofs.lemmas.List.Folds.{list_any_at, list_any_more}
 use Rattle.std.proofs.lemmas.Option.{slice_get_within, get_or_from_slice_get}
-use Rattle.yaml_definitions.specs.model.Tree.{Tree, sequence}
+use Rattle.yaml_definitions.specs.model.Tree.{sequence, height}
 use Rattle.yaml_tree.specs.TreeLists.{trees}
 use Rattle.yaml_tree.specs.declared.node.NodeId.{NodeId}
 use Rattle.yaml_store_rank.specs.KeyOrder.{numbers}
@@ -25,12 +28,30 @@ module _ (g : Forests) (stream : ℕ) (roots : List NodeId) (are : numbers roots
   pub roots_within : IsRanked g → AllWithin g roots
   roots_within h = all_sliced (λ i. i.0 < count g) roots (nodes_within h)
 
-  pub any_high : list_any (λ i. is_high g i.0) roots ≡ has_high g stream
+  -- ---- whether one is high
+
+  abbrev high : NodeId → Bool
+  high i = is_high g i.0
+
+  any_high : list_any high roots ≡ has_high g stream
   any_high = by roots ∙ ap (list_any (is_high g)) are
     where
-      by : (is : List NodeId) → list_any (λ i. is_high g i.0) is ≡ list_any (is_high g) (numbers is)
+      by : (is : List NodeId) → list_any high is ≡ list_any (is_high g) (numbers is)
       by [] = refl
-      by (i ∷ is) = ap (λ z. is_high g i.0 || z) (by is)
+      by (i ∷ is) = ap (λ z. high i || z) (by is)
+
+  pub one_high : (k : ℕ) (d : NodeId) → k < length roots → 100 < height (tree g (get_or roots k d).0) → true ≡ has_high g stream
+  one_high k d l h = sym (list_any_at high roots k d l (lt-ltb 100 (height (tree g (get_or roots k d).0)) h)) ∙ any_high
+
+  pub high_next : (k : ℕ) (d : NodeId) → k < length roots → list_any high (take k roots) ≡ false → height (tree g (get_or roots k d).0) ≤ 100 → list_any high (take (k + 1) roots) ≡ false
+  high_next k d l none h =
+      let low : high (get_or roots k d) ≡ false = false_from_ne_true (high (get_or roots k d)) (λ e. let t = ltb-true 100 (height (tree g (get_or roots k d).0)) e in absurd (omega (arith, t, h))) in
+      list_any_more high roots k d l ∙ ap (λ z. z || high (get_or roots k d)) none ∙ low
+
+  pub none_high : (k : ℕ) → length roots ≤ k → list_any high (take k roots) ≡ false → false ≡ has_high g stream
+  none_high k l none = sym none ∙ ap (list_any high) (take_all k roots l) ∙ any_high
+
+  -- ---- their trees
 
   stream_is : (tag : List ℕ) → sequence_of g tag roots ≡ stream_tree g tag stream
   stream_is tag = ap (λ z. Some (sequence tag (trees z))) (by roots ∙ ap (map (tree g)) are)

@@ -60,7 +60,8 @@ fn has_high(forests: &RankedForests<'_>, stream: usize) -> bool
     ensures { result ≡ has_high forests.now stream }
 {
     forests.laws();
-    for root in forests.documents(stream) {
+    let roots = forests.documents(stream);
+    for root in roots {
         if forests.height(*root) > LOW {
             return true;
         }
