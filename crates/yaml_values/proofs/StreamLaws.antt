@@ -4,12 +4,8 @@ use Rattle.std.specs.String.{string_bytes}
 use Rattle.yaml_definitions.specs.model.Limits.{height_limit}
 use Rattle.yaml_definitions.specs.model.Tree.{Tree, height}
 use Rattle.yaml_definitions.specs.model.Same.{Keyed}
-use Rattle.yaml_definitions.specs.model.Proper.{Admitted}
 use Rattle.yaml_definitions.specs.model.Means.{Means}
-use Rattle.yaml_text.specs.declared.fault.Fault.{Fault}
 use Rattle.yaml_store_rank.specs.Walked.{walked_tree}
-use Rattle.yaml_canon.specs.Accepting.{IsMemory, MeaningsAreAccepted}
-use Rattle.yaml_canon.specs.Claims.{CanonicalRefuses}
 use Rattle.yaml_canon.specs.Ranks.{HasRanks}
 use Rattle.yaml_canon.specs.declared.ranks.RankedForest.{RankedForest}
 use Rattle.yaml_canon.proofs.ClaimLaws.{all_of, means_alone}
@@ -28,7 +24,3 @@ values_of_ranks bytes f v h d = record {
 -- values of bytes that mean admitted documents are the values of these
 pub values_accepted : (bytes : List ℕ) (f : List Tree) (v : Values) → AreValuesOf bytes v → Means bytes f → AreValues f v
 values_accepted bytes f v h m = subst (λ g. AreValues g v) (sym (h.accepted.only f m)) h.denotes
-
--- and only memory may be wanting
-pub memory_only : MeaningsAreAccepted → (bytes : List ℕ) (f : List Tree) (fault : Fault) → Admitted f → Means bytes f → CanonicalRefuses bytes fault → IsMemory fault
-memory_only law bytes f fault a m e = law bytes f fault a m e
